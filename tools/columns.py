@@ -17,8 +17,8 @@ from farmkit.repository import TOP
 
 WIDE = 100
 KINDS = {"comments": re.compile(r"\s*(?://|--)"), "clauses": re.compile(r"\s*(?:requires|ensures)\b")}
-# as many as there are until all comments are wrapped; then lower them
-MOST = {"comments": 3_600, "clauses": 280}
+# what is left: tables within comments, and clauses that nobody has broken yet
+MOST = {"comments": 60, "clauses": 272}
 
 
 def main() -> int:

@@ -13,8 +13,8 @@ HasAllBut {A} but votes others = (s : ℕ) (x : A) → (but ≡ Some s → ⊥) 
 unfoldable pub AreSameBut : {A : Type 0} → Option ℕ → FinMap nat_cmp A → FinMap nat_cmp A → Type 0
 AreSameBut but votes others = (s : ℕ) → (but ≡ Some s → ⊥) → get votes s ≡ get others s
 
--- The new part is of the same node, has this promise and this number of published definitions, and the old one's votes, except at
--- the slot.
+-- The new part is of the same node, has this promise and this number of published definitions, and
+-- the old one's votes, except at the slot.
 pub record Agrees (promise : Option Ballot) (published : ℕ) (but : Option ℕ) (old new : Part) : Type 0 where
   pub id : new.id ≡ old.id
   pub promised : new.promise ≡ promise

@@ -1,4 +1,5 @@
--- Used only in this crate's contracts: votes in the order of their slots, and what a search finds among them.
+-- Used only in this crate's contracts: votes in the order of their slots, and what a search finds
+-- among them.
 use Rattle.std.specs.Prelude.{◌≡◌, ℕ, ◌<◌, ◌≤◌, List, length, slice_index_or}
 use Rattle.std.specs.Ordering.{nat_cmp}
 use Rattle.std.specs.FinMap.{FinMap}

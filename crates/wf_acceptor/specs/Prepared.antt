@@ -1,4 +1,5 @@
--- Used only in this crate's contracts: the answers, what a promise reports, and the acceptor after a record is applied.
+-- Used only in this crate's contracts: the answers, what a promise reports, and the acceptor after
+-- a record is applied.
 use Rattle.std.specs.Prelude.{ℕ, zero, suc, List, [], ◌∷◌, Option, Some, None, option_map, nat_le, if◌then◌else◌}
 use Rattle.std.specs.Ordering.{nat_cmp}
 use Rattle.std.specs.FinMap.{FinMap, get, insert, remove}

@@ -22,8 +22,8 @@ pub struct AcceptorAnswer {
     pub reply: Option<Message>,
 }
 
-/// A node's promise and votes. The promise is the ballot below which the node rejects everything, at whatever slot; a vote is the
-/// ballot at which it voted at a slot, with the definition.
+/// A node's promise and votes. The promise is the ballot below which the node rejects everything,
+/// at whatever slot; a vote is the ballot at which it voted at a slot, with the definition.
 pub struct Acceptor {
     id: NodeId,
     // The last published slot.
@@ -135,9 +135,10 @@ impl Acceptor {
         }
     }
 
-    /// Answers `Prepare(slot, ballot)`: with a Promise, which reports the votes of the slot and the three after it, if the ballot
-    /// is the first or above the promise; with a Nack and the promise, if the ballot is below it; with nothing, if the ballot is
-    /// the promise. Allocation can fail only for a Promise.
+    /// Answers `Prepare(slot, ballot)`: with a Promise, which reports the votes of the slot and the
+    /// three after it, if the ballot is the first or above the promise; with a Nack and the
+    /// promise, if the ballot is below it; with nothing, if the ballot is the promise. Allocation
+    /// can fail only for a Promise.
     pub fn on_prepare(&mut self, slot: Slot, ballot: Ballot) -> Result<AcceptorAnswer, AllocError>
         requires { self.old.part.published < slot }
         ensures transition { IfOk result (AnswersAlways self.old.part (prepare_transition self.old.part slot ballot)) }
@@ -157,8 +158,9 @@ impl Acceptor {
         Ok(self.only_reply(None))
     }
 
-    /// Answers `Accept(slot, ballot, canon)`: with a Nack and the promise, if the ballot is below it; with its earlier answer, if
-    /// it voted at this ballot; otherwise it votes, which promises the ballot too. Allocation can fail only for a vote.
+    /// Answers `Accept(slot, ballot, canon)`: with a Nack and the promise, if the ballot is below
+    /// it; with its earlier answer, if it voted at this ballot; otherwise it votes, which promises
+    /// the ballot too. Allocation can fail only for a vote.
     pub fn on_accept(
         &mut self,
         slot: Slot,
@@ -185,8 +187,8 @@ impl Acceptor {
         self.vote(slot, ballot, canon)
     }
 
-    /// Applies a record, as the fold does; afterwards no record is prepared. Allocates only for a vote, and not for that of the last
-    /// answer. An error changes nothing.
+    /// Applies a record, as the fold does; afterwards no record is prepared. Allocates only for a
+    /// vote, and not for that of the last answer. An error changes nothing.
     pub fn apply(&mut self, entry: &Record) -> Result<(), AllocError>
         requires { IsNextSlot self.old.part entry.now }
         ensures ok { OnOk result (Applies self.old.part self.new.part (record_view entry.now)) }
@@ -198,8 +200,8 @@ impl Acceptor {
         self.take_in(entry)
     }
 
-    /// Whether this acceptor has what the other one has: of the same node, with the same promise, votes and number of published
-    /// definitions.
+    /// Whether this acceptor has what the other one has: of the same node, with the same promise,
+    /// votes and number of published definitions.
     #[tactic(auto, using(crate::proofs::Compared::agrees_as_same))]
     pub fn has_same(&self, other: &Acceptor) -> bool
         ensures { IsTrue result → self.now.part ≡ other.now.part }
@@ -207,8 +209,8 @@ impl Acceptor {
         self.agrees(other, other.promise, other.published, None)
     }
 
-    /// Whether this acceptor has what the other one would have after the record, which has to be of the next slot if it is that of a
-    /// published definition.
+    /// Whether this acceptor has what the other one would have after the record, which has to be of
+    /// the next slot if it is that of a published definition.
     pub fn has_applied(&self, other: &Acceptor, entry: &Record) -> bool
         requires { IsNextSlot other.now.part entry.now }
         ensures { IsTrue result → Applies other.now.part self.now.part (record_view entry.now) }
@@ -247,7 +249,8 @@ impl Acceptor {
         )
     }
 
-    // Whether this acceptor's part is the other one's with this vote at the slot, and the promise raised to its ballot.
+    // Whether this acceptor's part is the other one's with this vote at the slot, and the promise
+    // raised to its ballot.
     #[tactic(auto, using(crate::proofs::Compared::agrees_as_voted))]
     fn has_voted(&self, other: &Acceptor, slot: Slot, ballot: Ballot, canon: &Canon) -> bool
         ensures { IsTrue result →
@@ -261,7 +264,8 @@ impl Acceptor {
         ) && has_vote(&self.votes, slot, ballot, canon)
     }
 
-    // Whether this acceptor's part is the other one's without the slot's vote, since the slot is published.
+    // Whether this acceptor's part is the other one's without the slot's vote, since the slot is
+    // published.
     #[tactic(auto, using(crate::proofs::Compared::agrees_as_published))]
     fn has_published(&self, other: &Acceptor, slot: Slot) -> bool
         ensures { IsTrue result → self.now.part ≡ with_published other.now.part slot }
@@ -270,8 +274,8 @@ impl Acceptor {
             && self.votes.value_at(slot).is_none()
     }
 
-    // Whether this acceptor is of the other one's node, has this promise and this last published slot, and the other one's votes,
-    // except at the slot `but`.
+    // Whether this acceptor is of the other one's node, has this promise and this last published
+    // slot, and the other one's votes, except at the slot `but`.
     fn agrees(
         &self,
         other: &Acceptor,
@@ -369,7 +373,8 @@ impl Acceptor {
         ensures err { OnErr result (self.new ≡ self.old) }
     {
         let entry = Record::Accepted(slot, ballot, canon);
-        // Without `?`: the proof of an exit that drops a record treats each kind of record separately.
+        // Without `?`: the proof of an exit that drops a record treats each kind of record
+        // separately.
         match self.prepare(&entry) {
             Ok(()) => Ok(AcceptorAnswer {
                 entry: Some(entry),

@@ -23,7 +23,8 @@ pub fn report_from(votes: &OpenVotes, slot: Slot) -> Result<Report, AllocError>
     Ok(Report::of(slot, copies))
 }
 
-/// Appends copies of so many votes from the slot on, as far as there are slots. There must be room for them.
+/// Appends copies of so many votes from the slot on, as far as there are slots. There must be room
+/// for them.
 fn copy_votes(
     votes: &OpenVotes,
     slot: Slot,

@@ -1,4 +1,5 @@
--- Of a link that changes no more was put into the outbox, and no more waits, but where that is said.
+-- Of a link that changes no more was put into the outbox, and no more waits, but where that is
+-- said.
 use Rattle.std.proofs.Common.{◌≡◌, ℕ, [], ◌∷◌, Option, Some, None, Result, Ok, Err, IfOk, OnErr, refl, sym, ap, subst, inr}
 use Rattle.wf_codec.specs.declared.message.Message as code
 use Rattle.wf_def.specs.Definition.{Definition}

@@ -36,7 +36,8 @@ pub none_given : (came : Log) (given : List (Message × Origin)) → given ≡ [
 unfolding AreGivenCome
 none_given came given none = λ m peer there. absurd (in_along (m, Peer peer) given [] none there)
 
--- of messages that come from there, one that comes from a peer is of those that the peer's receivers returned
+-- of messages that come from there, one that comes from a peer is of those that the peer's
+-- receivers returned
 from_peer : (came : Log) (origin : Origin) (messages : List Message) → AreCome came origin messages → (m : Message) (peer : ℕ) → IsIn (m, Peer peer) (all_from origin messages) → IsIn m (came_from peer came)
 from_peer came Own [] come m peer there = absurd there
 from_peer came Own (x ∷ messages) come m peer there = elim there [ inl e ↦ absurd (own_is_no_peer (ap (λ p. p.1) e)) | inr h ↦ from_peer came Own messages tt m peer h ]

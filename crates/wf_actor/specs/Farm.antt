@@ -10,7 +10,8 @@ use Rattle.wf_actor.specs.Sent.{AreAmong}
 use Rattle.wf_actor.specs.declared.actor.Origin.{Origin}
 use Rattle.wf_actor.specs.declared.actor.Origin.TheVariants.{Own, Peer}
 
--- an item of `wf_career` with where its input came from: the process of that number gave its node this input, which returned these messages
+-- an item of `wf_career` with where its input came from: the process of that number gave its node
+-- this input, which returned these messages
 pub record Step : Type 0 where
   pub process : ℕ
   pub takes : Input
@@ -36,7 +37,8 @@ steps_by i (act ∷ acts) (origin ∷ origins) = record { process = i; takes = a
 
 -- ---- what is heard was sent
 
--- Each message that a step delivers as one of its own node is one of these, or earlier steps returned it.
+-- Each message that a step delivers as one of its own node is one of these, or earlier steps
+-- returned it.
 unfoldable pub AreOwn : List Message → List Step → Type 0
 AreOwn emitted [] = ⊤
 AreOwn emitted (step ∷ steps) = AreOwnAmong emitted step.origin (given_to step.takes) × AreOwn (emitted ++ step.outputs) steps
@@ -46,8 +48,8 @@ abbrev pub ArePeersAmong : List Message → Origin → List Message → Type 0
 ArePeersAmong sent Own messages = ⊤
 ArePeersAmong sent (Peer peer) messages = AreAmong messages sent
 
--- Each message that a step delivers from a peer is one of these, or earlier steps returned it, by whichever process. That is what
--- connections promise that carry only what was written to them.
+-- Each message that a step delivers from a peer is one of these, or earlier steps returned it, by
+-- whichever process. That is what connections promise that carry only what was written to them.
 unfoldable pub AreCarried : List Message → List Step → Type 0
 AreCarried sent [] = ⊤
 AreCarried sent (step ∷ steps) = ArePeersAmong sent step.origin (given_to step.takes) × AreCarried (sent ++ step.outputs) steps
@@ -57,7 +59,8 @@ unfoldable pub AreMembers : ℕ → List Step → Type 0
 AreMembers n [] = ⊤
 AreMembers n (step ∷ steps) = (step.process < n) × AreMembers n steps
 
--- n processes of which each shows its runs, and hears only its own messages and those that connections carry, in one order of time.
+-- n processes of which each shows its runs, and hears only its own messages and those that
+-- connections carry, in one order of time.
 pub record AreProcesses {T : Type 0} (tapes : Tape T) (n : ℕ) (careers : ℕ → Career T) (steps : List Step) : Type 0 where
   pub members : AreMembers n steps
   pub each : (i : ℕ) → i < n → IsCareer tapes n i (careers i)
@@ -71,8 +74,9 @@ pub record AreProcesses {T : Type 0} (tapes : Tape T) (n : ℕ) (careers : ℕ �
 abbrev pub ProcessesAreFarm : {T : Type 0} → Tape T → Type 0
 ProcessesAreFarm {T} tapes = (n : ℕ) (careers : ℕ → Career T) (steps : List Step) → AreProcesses tapes n careers steps → IsFarm tapes n careers (items steps)
 
--- One run's part of that: a run of `wf_career` up to the node as it is, from the bytes that were read of the tape from which it was
--- opened, which are its content if it is durable. Its items are these steps, which hear only their own messages.
+-- One run's part of that: a run of `wf_career` up to the node as it is, from the bytes that were
+-- read of the tape from which it was opened, which are its content if it is durable. Its items are
+-- these steps, which hear only their own messages.
 pub record IsRunPart {T : Type 0} (tapes : Tape T) (read_from : List (T × ℕ)) (began : List (Node T × ℕ)) (node : Node T) : Type 0 where
   pub run : Run T
   pub origins : List Origin

@@ -29,7 +29,8 @@ abbrev pub AreOwnAmong : List Message → Origin → List Message → Type 0
 AreOwnAmong emitted Own messages = (m : Message) → IsIn m messages → IsIn m emitted
 AreOwnAmong emitted (Peer peer) messages = ⊤
 
--- Each act has its origin, and each message of its own that an act delivers is one of these, or was returned by an earlier act.
+-- Each act has its origin, and each message of its own that an act delivers is one of these, or was
+-- returned by an earlier act.
 unfoldable pub AreOwnReceived : {T : Type 0} → List Message → List (Act T) → List Origin → Type 0
 AreOwnReceived emitted [] [] = ⊤
 AreOwnReceived emitted [] (origin ∷ origins) = ⊥
@@ -37,16 +38,17 @@ AreOwnReceived emitted (act ∷ acts) [] = ⊥
 AreOwnReceived emitted (act ∷ acts) (origin ∷ origins) = AreOwnAmong emitted origin (given_to act.input) × AreOwnReceived (emitted ++ act.outputs) acts origins
 
 module _ {T : Type 0} (tapes : Tape T) where
-  -- The node was opened from the tape that the log has, and from no other: from what was read of it, which is its content if it is
-  -- durable.
+  -- The node was opened from the tape that the log has, and from no other: from what was read of
+  -- it, which is its content if it is durable.
   pub record IsOpenedFrom (read_from : List (T × ℕ)) (node : Node T) : Type 0 where
     pub tape : T
     pub only : read_from ≡ (tape, 0) ∷ []
     pub opened : IsOpened tapes node.n node.id tape node
 
-  -- A node that was opened from the tape that `read_from` has, as the node that `began` has, is this one by now, by the acts of a run of
-  -- `wf_career`. By them it was given exactly these messages, and returned exactly these, and of its own messages it was given only
-  -- what it had returned.
+  -- A node that was opened from the tape that `read_from` has, as the node that `began` has, is
+  -- this one by now, by the acts of a run of `wf_career`. By them it was given exactly these
+  -- messages, and returned exactly these, and of its own messages it was given only what it had
+  -- returned.
   pub record IsLife (read_from : List (T × ℕ)) (began : List (Node T × ℕ)) (given : List (Message × Origin)) (emitted : List Message) (node : Node T) : Type 0 where
     pub run : Run T
     pub origins : List Origin

@@ -67,7 +67,8 @@ abbrev pub count_dropped : Bool → ℕ → ℕ
 count_dropped true dropped = dropped
 count_dropped false dropped = min (dropped + 1) (2 ^ 64 - 1)
 
--- the number of messages that were put into an outbox, after one more that was offered: none is where there is no outbox
+-- the number of messages that were put into an outbox, after one more that was offered: none is
+-- where there is no outbox
 abbrev pub posted_after : Bool → Bool → ℕ → ℕ
 posted_after true true posted = min (posted + 1) (2 ^ 64 - 1)
 posted_after true false posted = posted
@@ -104,7 +105,8 @@ pub record IsOpenedReceiver (before after : Link) : Type 0 where
   pub arrived : arrived after ≡ []
   pub outgoing : IsSameOutgoing before after
 
--- The receiver took the piece and returned these messages, which wait now; what waited before is dropped.
+-- The receiver took the piece and returned these messages, which wait now; what waited before is
+-- dropped.
 pub record IsPieceTaken (piece : List ℕ) (messages : Vec code.Message Global) (before after : Link) : Type 0 where
   pub takes : IsReceived before.receiver piece (map view messages.items) after.receiver
   pub arrived : arrived after ≡ messages.items

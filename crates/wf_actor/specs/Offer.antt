@@ -5,7 +5,8 @@ use Rattle.wf_def.specs.Definition.{Definition}
 use Rattle.wf_mail.specs.Outbox.{OutboxState, IsPut, IsUnchanged}
 use Rattle.wf_model.specs.Message.{Message}
 
--- The message was dropped: there was no room for its encoding, or it needed an allocation, which failed. Nothing else changed.
+-- The message was dropped: there was no room for its encoding, or it needed an allocation, which
+-- failed. Nothing else changed.
 pub record IsDropped (before : OutboxState) (m : Message Definition) (after : OutboxState) : Type 0 where
   pub same : IsUnchanged before after
   pub why : (before.limit < length before.waiting + length (spelling m)) ⊎ (before.spare < length (spelling m))

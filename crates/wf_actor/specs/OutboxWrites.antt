@@ -25,7 +25,8 @@ posted_of None = 0
 posted_of (Some link) = link.posted
 
 module _ {K E : Type 0} (sinks : Sink K) (result : Result ℕ E) (old new : K) where
-  -- The first bytes that waited were written, at least one; or the write failed, and nothing changed.
+  -- The first bytes that waited were written, at least one; or the write failed, and nothing
+  -- changed.
   pub record IsWrite (before after : OutboxState) : Type 0 where
     pub within : IfOk result (λ count. count ≤ length before.waiting)
     pub some : IfOk result (λ count. 0 < length before.waiting → 0 < count)

@@ -35,7 +35,8 @@ emitted_by process = logged process.actor.emitted.items
 abbrev pub waiting_in : {T : Type 0} {tapes : Tape T} → Process T tapes → List Message
 waiting_in process = process.backlog.messages.items
 
--- Its node was just opened: nothing was given to it or returned by it, nothing waits, and there are no connections.
+-- Its node was just opened: nothing was given to it or returned by it, nothing waits, and there are
+-- no connections.
 pub record IsJustOpened {T : Type 0} {tapes : Tape T} (process : Process T tapes) : Type 0 where
   pub began : process.actor.began.items ≡ (process.actor.node, 0) ∷ []
   pub given : process.actor.given.items ≡ []
@@ -46,7 +47,8 @@ pub record IsJustOpened {T : Type 0} {tapes : Tape T} (process : Process T tapes
 
 -- ---- an act
 
--- The messages went to each node that they are for: into its outbox, or into the queue of the process itself.
+-- The messages went to each node that they are for: into its outbox, or into the queue of the
+-- process itself.
 pub record AreGone {T : Type 0} {tapes : Tape T} (outputs : List Message) (target : Target) (before after : Process T tapes) : Type 0 where
   pub queue : waiting_in after ≡ queued (includes target before.actor.node.id) (waiting_in before) outputs
   pub posted : ArePosted target (map view outputs) before.links.items after.links.items
@@ -58,7 +60,8 @@ HaveOneEnd (Ok x) (Err why) = ⊥
 HaveOneEnd (Err why) (Ok y) = ⊥
 HaveOneEnd (Err why) (Err other) = other ≡ why
 
--- The logs of how its run began, of what came and of ended runs, and how many nodes there are, stay.
+-- The logs of how its run began, of what came and of ended runs, and how many nodes there are,
+-- stay.
 pub record IsGoingOn {T : Type 0} {tapes : Tape T} (before after : Process T tapes) : Type 0 where
   pub read_from : after.actor.read_from.items ≡ before.actor.read_from.items
   pub began : after.actor.began.items ≡ before.actor.began.items
@@ -67,7 +70,8 @@ pub record IsGoingOn {T : Type 0} {tapes : Tape T} (before after : Process T tap
   pub number : after.actor.node.id ≡ before.actor.node.id
   pub among : after.n ≡ before.n
 
--- The node, its logs and its number stay, and so do the logs of what came and of the runs that ended.
+-- The node, its logs and its number stay, and so do the logs of what came and of the runs that
+-- ended.
 pub record IsSameActor {T : Type 0} {tapes : Tape T} (before after : Process T tapes) : Type 0 where
   pub actor : after.actor ≡ before.actor
   pub came : after.came.items ≡ before.came.items
@@ -114,8 +118,8 @@ pub record IsOwnPopped {T : Type 0} {tapes : Tape T} (m : Message) (before after
   pub links : after.links.items ≡ before.links.items
   pub rest : IsSameActor before after
 
--- The peer's receiver took the piece, and the messages that it returned wait and are logged, what waited of it before is dropped; or it
--- closed with the error, or was closed with it.
+-- The peer's receiver took the piece, and the messages that it returned wait and are logged, what
+-- waited of it before is dropped; or it closed with the error, or was closed with it.
 pub record IsReception {T : Type 0} {tapes : Tape T} (peer : ℕ) (piece : List ℕ) (before : Process T tapes) (result : Result ℕ DecodeFault) (after : Process T tapes) : Type 0 where
   pub link : Link
   pub link_after : Link
@@ -155,8 +159,8 @@ module _ {T : Type 0} (tapes : Tape T) where
   -- ---- a client's request
 
   module _ {S K : Type 0} (sources : Source S) (sinks : Sink K) where
-    -- One request was served as `wf_edge` serves it, with the node's answer, and the messages that the node returned by it, whether or not
-    -- the response was written, went to every node.
+    -- One request was served as `wf_edge` serves it, with the node's answer, and the messages that
+    -- the node returned by it, whether or not the response was written, went to every node.
     pub record IsServedBy (source source_after : S) (sink sink_after : K) (before : Process T tapes) (outcome : Outcome) (after : Process T tapes) : Type 0 where
       pub outputs : Vec Message Global
       pub outcome_is : IsOutcome tapes (sources.left source) (sinks.written sink) (sinks.written sink_after) before.actor.node outputs after.actor.node outcome

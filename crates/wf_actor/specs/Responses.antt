@@ -12,13 +12,15 @@ use Rattle.wf_node.specs.Node.{Node}
 use Rattle.wf_tape.specs.declared.tape.Tape.{Ghosts as Tape}
 use Rattle.wf_wms.specs.Answer.{AsksForMap}
 
--- The lists of published maps are equally long; or the query asks both for the map of one sequence, however long either is.
+-- The lists of published maps are equally long; or the query asks both for the map of one sequence,
+-- however long either is.
 pub data AskedAlike (query : List ℕ) (history other : List Definition) : Type 0 where
   AtOneSequence : length other ≡ length history → AskedAlike query history other
   ForOneMap : (m : ℕ) → AsksForMap m (length history) query → AsksForMap m (length other) query → AskedAlike query history other
 
--- Two processes, or one at two moments, that receive equal requests to the map service respond with equal bytes, whatever comes after the
--- request, if neither responds that an allocation failed (503).
+-- Two processes, or one at two moments, that receive equal requests to the map service respond with
+-- equal bytes, whatever comes after the request, if neither responds that an allocation failed
+-- (503).
 abbrev pub ProcessesRespondAlike : {T : Type 0} → Tape T → Type 0
 ProcessesRespondAlike {T} tapes = (n : ℕ) (careers : ℕ → Career T) (items : List Item) → IsFarm tapes n careers items →
     (node other : Node T) → IsHeld n careers node → IsHeld n careers other → (input query : List ℕ) (after other_after : Node T) (sent other_sent : Vec Message Global) (response another : Response) →

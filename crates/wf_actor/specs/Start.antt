@@ -8,8 +8,8 @@ use Rattle.wf_tape.specs.declared.tape.Tape.{Ghosts as Tape}
 use Rattle.wf_actor.specs.declared.reopening.ReopenFault.{ReopenFault}
 use Rattle.wf_actor.specs.declared.reopening.ReopenFault.TheVariants as fault
 
--- Node `id` of n is opened on the tape: it runs, with no proposal and no leadership, and has stored what the records fold to that were
--- read of the tape: those of its content, if it is durable.
+-- Node `id` of n is opened on the tape: it runs, with no proposal and no leadership, and has stored
+-- what the records fold to that were read of the tape: those of its content, if it is durable.
 pub record IsOpened {T : Type 0} (tapes : Tape T) (tape : T) (id n : ℕ) (node : Node T) : Type 0 where
   pub number : node.id ≡ id
   pub among : node.n ≡ n

@@ -10,7 +10,8 @@ abbrev pub includes : Target → ℕ → Bool
 includes Everyone node = true
 includes (Only only) node = only == node
 
--- An answer to a Prepare, an Accept or an Ask is for the node that it comes from, anything else for every node.
+-- An answer to a Prepare, an Accept or an Ask is for the node that it comes from, anything else for
+-- every node.
 abbrev pub reply_target : Message → ℕ → Target
 reply_target (Prepare s b) from = Only from
 reply_target (Promise i b report) from = Everyone

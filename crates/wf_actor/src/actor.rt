@@ -23,9 +23,9 @@ pub enum Origin {
     Peer(NodeId),
 }
 
-/// A node and its life since it was opened. A clause sees the node, and logs that only proofs read: the tape from which it was opened, as
-/// the tape was then; the node as it was opened; each message that it was given, with where that came from; and all messages that
-/// it returned.
+/// A node and its life since it was opened. A clause sees the node, and logs that only proofs read:
+/// the tape from which it was opened, as the tape was then; the node as it was opened; each message
+/// that it was given, with where that came from; and all messages that it returned.
 #[derive(Drop)]
 pub struct Actor<T: Tape> {
     pub(crate) node: CachedNode<T>,
@@ -56,7 +56,8 @@ impl<T: Tape> Actor<T> {
     ghost use Rattle.wf_tape.specs.Change.{Stays};
     ghost use Rattle.wf_wms.specs.CachedPictures.{AllCached};
 
-    /// Node `id` of `n` as its tape has it, as [`Node::open`] opens it. Nothing was given to it yet.
+    /// Node `id` of `n` as its tape has it, as [`Node::open`] opens it. Nothing was given to it
+    /// yet.
     pub(crate) fn open(
         alloc: Global,
         tape: T,
@@ -89,7 +90,8 @@ impl<T: Tape> Actor<T> {
         }
     }
 
-    /// A node that was opened elsewhere, and has moved to its tape, as [`Node::move_to`] moves it. Nothing was given to it yet.
+    /// A node that was opened elsewhere, and has moved to its tape, as [`Node::move_to`] moves it.
+    /// Nothing was given to it yet.
     pub(crate) fn of(node: Node<T>, cache: Cache) -> Actor<T>
         requires runs { node.halted ≡ false }
         requires idle { volatile_of node ≡ at_start }
@@ -129,7 +131,8 @@ impl<T: Tape> Actor<T> {
         }
     }
 
-    /// A step of the node, whose messages are returned. A message that the input delivers comes from that origin.
+    /// A step of the node, whose messages are returned. A message that the input delivers comes
+    /// from that origin.
     pub(crate) fn step(
         &mut self,
         alloc: Global,
@@ -151,7 +154,8 @@ impl<T: Tape> Actor<T> {
         answer
     }
 
-    /// Serves one request by the node, as [`wf_edge::serve_one_cached`] does. A publish may be a step of the node; its messages are returned.
+    /// Serves one request by the node, as [`wf_edge::serve_one_cached`] does. A publish may be a
+    /// step of the node; its messages are returned.
     pub(crate) fn serve<S: Source, K: Sink>(
         &mut self,
         alloc: Global,

@@ -12,7 +12,8 @@ use wf_codec::Message;
 /// The most messages that wait.
 pub const BACKLOG_MESSAGES: usize = 256;
 
-/// The messages of a process that wait for its own node, the first one first. Its room is allocated once.
+/// The messages of a process that wait for its own node, the first one first. Its room is allocated
+/// once.
 #[derive(Drop)]
 pub struct Backlog {
     pub(crate) messages: VecDeque<Message>,

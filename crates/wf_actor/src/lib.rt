@@ -1,32 +1,41 @@
-//! A node in a process of its own: its acts, the messages between it and its peers, and the life that it shows.
+//! A node in a process of its own: its acts, the messages between it and its peers, and the life
+//! that it shows.
 //!
-//! **Model.** An [`Actor`] is a node, with logs that only proofs read: the tape from which it was opened, the node as it was then,
-//! all messages that it returned, and all that it was given, each with its [`Origin`] (`specs/Life.antt`). A [`Process`] is an actor; its
-//! own messages that wait for it; for each node of the farm a [`Link`], which is an outbox and a receiver; and logs of what the
-//! receivers returned and of the runs that have ended (`specs/Process.antt`).
+//! **Model.** An [`Actor`] is a node, with logs that only proofs read: the tape from which it was
+//! opened, the node as it was then, all messages that it returned, and all that it was given, each
+//! with its [`Origin`] (`specs/Life.antt`). A [`Process`] is an actor; its own messages that wait
+//! for it; for each node of the farm a [`Link`], which is an outbox and a receiver; and logs of
+//! what the receivers returned and of the runs that have ended (`specs/Process.antt`).
 //!
 //! **Promises.**
-//! - Whatever was called, the node's acts since it was opened are a run of `wf_career`, from the bytes that were read of its tape, or
-//!   that it wrote to it when it moved there ([`Process::of`]), and end at the node as it is now ([`Process::always_lived`],
-//!   [`a_life_is_part_of_a_farm`]). So a loop over a process needs no invariant to say what it did. A durable tape's content are
-//!   these bytes; of a file that is a premise.
-//! - What was put into any outbox the node returned, and so what waits for the node itself; what is given to the node was returned by
-//!   it before, or by the receiver of the peer that it is said to come from ([`Process::always_received`]).
-//! - An act is the node's step. Each of its messages goes to each node that it is for: into the node's outbox whole, or it is dropped,
-//!   if there is no room or an allocation fails; and into the queue of the process itself, unless that is full. Replies to a Prepare, an
-//!   Accept or an Ask are for the node that sent it, all other messages are for every node (`specs/Target.antt`).
-//! - [`Process::receive`] takes exactly the messages that the piece completes, and [`Process::handle`] delivers the first of them.
+//! - Whatever was called, the node's acts since it was opened are a run of `wf_career`, from the
+//!   bytes that were read of its tape, or that it wrote to it when it moved there
+//!   ([`Process::of`]), and end at the node as it is now ([`Process::always_lived`],
+//!   [`a_life_is_part_of_a_farm`]). So a loop over a process needs no invariant to say what it did.
+//!   A durable tape's content are these bytes; of a file that is a premise.
+//! - What was put into any outbox the node returned, and so what waits for the node itself; what is
+//!   given to the node was returned by it before, or by the receiver of the peer that it is said to
+//!   come from ([`Process::always_received`]).
+//! - An act is the node's step. Each of its messages goes to each node that it is for: into the
+//!   node's outbox whole, or it is dropped, if there is no room or an allocation fails; and into
+//!   the queue of the process itself, unless that is full. Replies to a Prepare, an Accept or an
+//!   Ask are for the node that sent it, all other messages are for every node
+//!   (`specs/Target.antt`).
+//! - [`Process::receive`] takes exactly the messages that the piece completes, and
+//!   [`Process::handle`] delivers the first of them.
 //! - [`Process::serve`] answers a client as `wf_edge` does; a publish is an act.
-//! - A process whose tape failed returns N5 for each act and sends nothing more. It answers what reads. [`Process::reopen`] is its next
-//!   run, on a tape that has what the node had stored, or that and the record of the step that failed.
-//! - Processes of which each shows its life, and hears only what was sent before, are a farm of `wf_career`
-//!   ([`processes_are_a_farm`]).
-//! - Node values that processes of a farm ever held respond to equal requests to the map service with equal bytes, as whole HTTP responses,
-//!   where they have published equally many maps or are asked for one map; a 503 for a failed allocation aside
-//!   ([`processes_respond_alike`], `specs/Responses.antt`).
+//! - A process whose tape failed returns N5 for each act and sends nothing more. It answers what
+//!   reads. [`Process::reopen`] is its next run, on a tape that has what the node had stored, or
+//!   that and the record of the step that failed.
+//! - Processes of which each shows its life, and hears only what was sent before, are a farm of
+//!   `wf_career` ([`processes_are_a_farm`]).
+//! - Node values that processes of a farm ever held respond to equal requests to the map service
+//!   with equal bytes, as whole HTTP responses, where they have published equally many maps or are
+//!   asked for one map; a 503 for a failed allocation aside ([`processes_respond_alike`],
+//!   `specs/Responses.antt`).
 //!
-//! **Doesn't.** It doesn't promise that a connection carries what is written to it, or only that: see `wf_mail`. It has no clock and no
-//! sockets, and never blocks.
+//! **Doesn't.** It doesn't promise that a connection carries what is written to it, or only that:
+//! see `wf_mail`. It has no clock and no sockets, and never blocks.
 #![tactic(auto)]
 
 mod actor;

@@ -16,10 +16,12 @@ use wf_mail::{MESSAGE_BYTES, Outbox, Receiver};
 use wf_past::Past;
 use wf_stream::Sink;
 
-/// The most bytes that wait for a peer: a whole answer to an Ask fits, eight of the longest messages.
+/// The most bytes that wait for a peer: a whole answer to an Ask fits, eight of the longest
+/// messages.
 pub const OUTBOX_BYTES: usize = 8 * MESSAGE_BYTES;
 
-/// The ends of the two connections with a node of the farm: an outbox, if the one to it is up, and a receiver of the one from it.
+/// The ends of the two connections with a node of the farm: an outbox, if the one to it is up, and
+/// a receiver of the one from it.
 #[derive(Drop)]
 pub struct Link {
     pub(crate) outbox: Option<Outbox>,
@@ -73,8 +75,9 @@ impl Link {
         self.arrived = VecDeque::new(alloc);
     }
 
-    /// Takes bytes that came from the peer. The messages that they complete wait then, and are noted in the log; what still waited is
-    /// dropped. Returns how many they are. Err: nothing came, and the receiver is closed.
+    /// Takes bytes that came from the peer. The messages that they complete wait then, and are
+    /// noted in the log; what still waited is dropped. Returns how many they are. Err: nothing
+    /// came, and the receiver is closed.
     pub(crate) fn take_in(
         &mut self,
         peer: NodeId,
@@ -118,7 +121,8 @@ impl Link {
         write_of(&mut self.outbox, sink)
     }
 
-    /// Puts the message into the outbox whole, or drops it, and counts it. If there is no outbox, nothing happens.
+    /// Puts the message into the outbox whole, or drops it, and counts it. If there is no outbox,
+    /// nothing happens.
     pub(crate) fn offer(&mut self, message: &Message)
         ensures { IsOffered (view message.now) self.old self.new }
     {

@@ -19,8 +19,9 @@ use wf_past::Past;
 use wf_tape::Tape;
 use wf_wms::Cache;
 
-/// One node of a farm in a process of its own. A clause sees its actor, its own messages that wait for it, the ends of its
-/// connections by node, and logs that only proofs read: what the receivers returned, with the peer; and the runs that have ended.
+/// One node of a farm in a process of its own. A clause sees its actor, its own messages that wait
+/// for it, the ends of its connections by node, and logs that only proofs read: what the receivers
+/// returned, with the peer; and the runs that have ended.
 #[derive(Drop)]
 pub struct Process<T: Tape> {
     pub(crate) actor: Actor<T>,
@@ -60,8 +61,9 @@ impl<T: Tape> Process<T> {
     ghost use Rattle.wf_tape.specs.Change.{Stays};
     ghost use Rattle.wf_wms.specs.CachedPictures.{AllCached};
 
-    /// Node `id` of `n` on its tape, with a cache for `pictures` pictures. No message waits, and there are no connections. An error
-    /// returns the tape: those of [`Node::open`], and P3 also if there is no memory for the process, before the tape is read.
+    /// Node `id` of `n` on its tape, with a cache for `pictures` pictures. No message waits, and
+    /// there are no connections. An error returns the tape: those of [`Node::open`], and P3 also if
+    /// there is no memory for the process, before the tape is read.
     pub fn open(
         alloc: Global,
         tape: T,
@@ -134,7 +136,8 @@ impl<T: Tape> Process<T> {
         self.actor.node.get()
     }
 
-    /// The pictures that are cached, those of the node's maps, with their counts in this run. They can only be read.
+    /// The pictures that are cached, those of the node's maps, with their counts in this run. They
+    /// can only be read.
     pub fn cache(&self) -> &Cache
         ensures { AllCached self.now.actor.node.parts.history result.now }
     {
@@ -149,7 +152,8 @@ impl<T: Tape> Process<T> {
         self.n
     }
 
-    /// Whether the tape failed: then each act returns N5 and sends nothing, and what reads is answered by what was published before.
+    /// Whether the tape failed: then each act returns N5 and sends nothing, and what reads is
+    /// answered by what was published before.
     #[tactic(auto, using(crate::proofs::Halts::halt_reported))]
     pub fn is_halted(&self) -> bool
         ensures { result ≡ self.now.actor.node.halted }
@@ -164,9 +168,9 @@ impl<T: Tape> Process<T> {
         self.backlog.len()
     }
 
-    /// Proposes a definition for the next sequence. Its messages go to every node, the process's own too. Err: N2 to N4 if the step table
-    /// rejects the proposal, N5 if the node is halted, and then nothing has changed; N1 if an allocation failed, N6 if the tape
-    /// did.
+    /// Proposes a definition for the next sequence. Its messages go to every node, the process's
+    /// own too. Err: N2 to N4 if the step table rejects the proposal, N5 if the node is halted, and
+    /// then nothing has changed; N1 if an allocation failed, N6 if the tape did.
     pub fn propose(&mut self, alloc: Global, canon: Canon) -> Result<(), NodeFault>
         ensures { IsActed T.Tape (action.Propose canon) origin.Own target.Everyone
             self.old result self.new }
@@ -174,8 +178,8 @@ impl<T: Tape> Process<T> {
         self.act(alloc, Input::Propose(canon), Origin::Own, Target::Everyone)
     }
 
-    /// Begins the running proposal anew, in a new round if it needs one. Its messages go to every node. Err: N7 if no proposal runs,
-    /// otherwise as of [`Process::propose`].
+    /// Begins the running proposal anew, in a new round if it needs one. Its messages go to every
+    /// node. Err: N7 if no proposal runs, otherwise as of [`Process::propose`].
     pub fn retry(&mut self, alloc: Global) -> Result<(), NodeFault>
         ensures { IsActed T.Tape action.Retry origin.Own target.Everyone
             self.old result self.new }
@@ -183,7 +187,8 @@ impl<T: Tape> Process<T> {
         self.act(alloc, Input::Retry, Origin::Own, Target::Everyone)
     }
 
-    /// Asks a peer, and no other node, for what is published from the next sequence on. Err: N1, N5 or N6.
+    /// Asks a peer, and no other node, for what is published from the next sequence on. Err: N1, N5
+    /// or N6.
     pub fn catch_up(&mut self, alloc: Global, peer: NodeId) -> Result<(), NodeFault>
         ensures { IsActed T.Tape action.CatchUp origin.Own (target.Only peer)
             self.old result self.new }
@@ -191,8 +196,9 @@ impl<T: Tape> Process<T> {
         self.act(alloc, Input::CatchUp, Origin::Own, Target::Only(peer))
     }
 
-    /// Delivers the first of its own messages that wait to the node. The answer goes to whom it is for. None: no message waits. Err: N1,
-    /// and the message is lost, as if the network had lost it; N5 or N6.
+    /// Delivers the first of its own messages that wait to the node. The answer goes to whom it is
+    /// for. None: no message waits. Err: N1, and the message is lost, as if the network had lost
+    /// it; N5 or N6.
     pub fn handle_own(&mut self, alloc: Global) -> Option<Result<(), NodeFault>>
         ensures { ReceivesOwn T.Tape self.old result self.new }
     {
@@ -220,7 +226,8 @@ impl<T: Tape> Process<T> {
         }
     }
 
-    /// Delivers a message to the node, which comes from that node. The answer goes to whom it is for.
+    /// Delivers a message to the node, which comes from that node. The answer goes to whom it is
+    /// for.
     pub(crate) fn give(
         &mut self,
         alloc: Global,
@@ -258,8 +265,8 @@ impl<T: Tape> Process<T> {
         }
     }
 
-    /// The life of the node in this run, always: some run of `wf_career`, from what was read of the tape on which it was opened, of which
-    /// its logs tell. The call does nothing.
+    /// The life of the node in this run, always: some run of `wf_career`, from what was read of the
+    /// tape on which it was opened, of which its logs tell. The call does nothing.
     pub fn always_lived(&self)
         ensures { ∥ IsLife T.Tape self.now.actor.read_from.items self.now.actor.began.items
             self.now.actor.given.items (logged self.now.actor.emitted.items) self.now.actor.node ∥₁ }
@@ -267,8 +274,9 @@ impl<T: Tape> Process<T> {
         self.actor.always_lived();
     }
 
-    /// Always: what was put into any outbox, and what waits for the node itself, the node returned in this run; and what was given to it
-    /// from a peer, a receiver of that peer returned. The call does nothing.
+    /// Always: what was put into any outbox, and what waits for the node itself, the node returned
+    /// in this run; and what was given to it from a peer, a receiver of that peer returned. The
+    /// call does nothing.
     pub fn always_received(&self)
         ensures sent { ∥ AreSent (waiting_in self.now) self.now.links.items
             (logged self.now.actor.emitted.items) ∥₁ }
@@ -287,9 +295,10 @@ impl<T: Tape + Drop> Process<T> {
     ghost use Rattle.wf_node.specs.OpenedNode.{IsRead};
     ghost use Rattle.wf_node.specs.Reopening.{HasStoredAs};
 
-    /// The process of a node that was opened elsewhere, and has moved to its tape (`Node::move_to`), with a cache for `pictures`
-    /// pictures. No message waits, and there are no connections. Its life is from the records that the tape has now. Err: there is no
-    /// memory for the process, and the node is dropped.
+    /// The process of a node that was opened elsewhere, and has moved to its tape
+    /// (`Node::move_to`), with a cache for `pictures` pictures. No message waits, and there are no
+    /// connections. Its life is from the records that the tape has now. Err: there is no memory for
+    /// the process, and the node is dropped.
     pub fn of(alloc: Global, node: Node<T>, pictures: usize) -> Result<Process<T>, AllocError>
         requires nodes { node.n ≤ 64 }
         requires member { node.id < node.n }
@@ -315,10 +324,11 @@ impl<T: Tape + Drop> Process<T> {
         Ok(Process::assemble(Actor::of(node, cache), n, pictures, parts))
     }
 
-    /// The process in its next run, on a tape from which its node is opened, once its own has failed: nothing waits, there are no
-    /// connections, and this run is the last of those that have ended. It is the node that it was: it has stored what this node has, or
-    /// that and the record of the step within which the tape failed. That is compared, so it holds of any tape. Err: the tape doesn't
-    /// open, or isn't what this node left; it is dropped.
+    /// The process in its next run, on a tape from which its node is opened, once its own has
+    /// failed: nothing waits, there are no connections, and this run is the last of those that have
+    /// ended. It is the node that it was: it has stored what this node has, or that and the record
+    /// of the step within which the tape failed. That is compared, so it holds of any tape. Err:
+    /// the tape doesn't open, or isn't what this node left; it is dropped.
     pub fn reopen(&self, alloc: Global, tape: T) -> Result<Process<T>, ReopenFault>
         ensures opened { IfOk result (λ next.
             IsOpened T.Tape tape self.now.actor.node.id self.now.n next.actor.node) }
@@ -339,7 +349,8 @@ impl<T: Tape + Drop> Process<T> {
         }
     }
 
-    /// The process that was just opened as this one's next run, if its node has stored what this one's has.
+    /// The process that was just opened as this one's next run, if its node has stored what this
+    /// one's has.
     fn follow(&self, next: Process<T>) -> Result<Process<T>, ReopenFault>
         requires begun { IsJustOpened next }
         ensures stored { IfOk result (λ later. HasStoredAs self.now.actor.node later.actor.node) }

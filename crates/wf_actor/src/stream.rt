@@ -21,7 +21,8 @@ impl<T: Tape> Process<T> {
     ghost use Rattle.wf_codec.specs.declared.message.Message as code;
     ghost use Rattle.wf_model.specs.Chosen.{IsIn};
 
-    /// The connection to a peer is up: its outbox is a new one. Of what waited in an earlier one nothing is sent.
+    /// The connection to a peer is up: its outbox is a new one. Of what waited in an earlier one
+    /// nothing is sent.
     pub fn open_outbox(&mut self, alloc: Global, peer: NodeId)
         ensures linked { peer < length self.old.links.items →
             IsLinkChanged peer IsOpenedOutbox self.old self.new }
@@ -33,7 +34,8 @@ impl<T: Tape> Process<T> {
         }
     }
 
-    /// The connection to a peer has ended. What waits is dropped, and so are messages for the peer until the next one is up.
+    /// The connection to a peer has ended. What waits is dropped, and so are messages for the peer
+    /// until the next one is up.
     pub fn close_outbox(&mut self, peer: NodeId)
         ensures linked { peer < length self.old.links.items →
             IsLinkChanged peer IsClosedOutbox self.old self.new }
@@ -69,7 +71,8 @@ impl<T: Tape> Process<T> {
         }
     }
 
-    /// How many messages were put into outboxes for a peer in this run, to be written to it. It saturates.
+    /// How many messages were put into outboxes for a peer in this run, to be written to it. It
+    /// saturates.
     pub fn post_count(&self, peer: NodeId) -> u64
         ensures { result ≡ posted_at self.now peer }
     {
@@ -81,8 +84,8 @@ impl<T: Tape> Process<T> {
         }
     }
 
-    /// Writes what waits for a peer once, and returns how many bytes were written: none only if none wait. After a failed write nothing
-    /// has changed.
+    /// Writes what waits for a peer once, and returns how many bytes were written: none only if
+    /// none wait. After a failed write nothing has changed.
     pub fn write_to<S: Sink>(&mut self, peer: NodeId, sink: &mut S) -> io::Result<usize>
         ensures linked { peer < length self.old.links.items →
             IsLinkChanged peer (IsWritten S.Sink result sink.old sink.new) self.old self.new }
@@ -97,7 +100,8 @@ impl<T: Tape> Process<T> {
         }
     }
 
-    /// A connection from a peer has come: its receiver is a new one. What arrived by an earlier one and isn't delivered is dropped.
+    /// A connection from a peer has come: its receiver is a new one. What arrived by an earlier one
+    /// and isn't delivered is dropped.
     pub fn open_receiver(&mut self, alloc: Global, peer: NodeId)
         ensures linked { peer < length self.old.links.items →
             IsLinkChanged peer IsOpenedReceiver self.old self.new }
@@ -109,8 +113,9 @@ impl<T: Tape> Process<T> {
         }
     }
 
-    /// Takes bytes that came from a peer, and returns how many messages they complete. These have arrived: each is delivered by a call of
-    /// [`Process::handle`]. Of those that arrived before and aren't delivered nothing is left. Err: the receiver is closed until
+    /// Takes bytes that came from a peer, and returns how many messages they complete. These have
+    /// arrived: each is delivered by a call of [`Process::handle`]. Of those that arrived before
+    /// and aren't delivered nothing is left. Err: the receiver is closed until
     /// [`Process::open_receiver`], as its connection is to be.
     pub fn receive(&mut self, peer: NodeId, piece: &[u8]) -> Result<usize, DecodeFault>
         ensures peer { is_peer self.old peer ≡ true →
@@ -140,8 +145,9 @@ impl<T: Tape> Process<T> {
         }
     }
 
-    /// Delivers the first message that has arrived from a peer to the node. The answer goes to whom it is for. None: none has. Err: N1,
-    /// and the message is lost, as if the network had lost it; N5 or N6.
+    /// Delivers the first message that has arrived from a peer to the node. The answer goes to whom
+    /// it is for. None: none has. Err: N1, and the message is lost, as if the network had lost it;
+    /// N5 or N6.
     pub fn handle(&mut self, alloc: Global, peer: NodeId) -> Option<Result<(), NodeFault>>
         ensures { ReceivesFrom T.Tape peer self.old result self.new }
     {

@@ -6,7 +6,8 @@ ghost use Rattle.wf_actor.specs.Target.{includes, reply_target};
 use wf_ballot::NodeId;
 use wf_codec::Message;
 
-/// Whom messages are for. The model lets any node receive any message; this says who has a use for them.
+/// Whom messages are for. The model lets any node receive any message; this says who has a use for
+/// them.
 #[derive(Clone, Copy, Debug, PartialEq, Eq)]
 pub enum Target {
     /// Every node, the sender too.
@@ -27,8 +28,9 @@ impl Target {
     }
 }
 
-/// Whom the messages are for that a node returns for a message. Its answer to a Prepare, an Accept or an Ask is for the node that it
-/// comes from; what any other message makes it return is for every node.
+/// Whom the messages are for that a node returns for a message. Its answer to a Prepare, an Accept
+/// or an Ask is for the node that it comes from; what any other message makes it return is for
+/// every node.
 pub fn reply_target(message: &Message, from: NodeId) -> Target
     ensures { result ≡ reply_target message.now from }
 {

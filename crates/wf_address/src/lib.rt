@@ -1,8 +1,9 @@
-//! The addresses of a command line: an address with a port, as `127.0.0.1:8080`, and a list of such between commas.
+//! The addresses of a command line: an address with a port, as `127.0.0.1:8080`, and a list of such
+//! between commas.
 //!
-//! [`address`] parses one, [`address_if_any`] that of an option that may be absent, and [`addresses`] a list of at most 64, in
-//! order, or says which word of it is the first that spells none (`specs/Address.antt`). An [`AddressOption`] is an option whose
-//! value is an address.
+//! [`address`] parses one, [`address_if_any`] that of an option that may be absent, and
+//! [`addresses`] a list of at most 64, in order, or says which word of it is the first that spells
+//! none (`specs/Address.antt`). An [`AddressOption`] is an option whose value is an address.
 //!
 //! Not here: what the addresses are for, and the line that an error is printed as.
 #![tactic(auto)]

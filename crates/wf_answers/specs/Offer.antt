@@ -1,4 +1,5 @@
--- What the service metadata of a map offers (OGC 06-042, 7.2.4), and that GetMap takes exactly that (7.3.3).
+-- What the service metadata of a map offers (OGC 06-042, 7.2.4), and that GetMap takes exactly that
+-- (7.3.3).
 use Rattle.std.specs.Prelude.{◌≡◌, ℕ, ◌==◌, ◌&&◌, ◌||◌, Bool, true, false, nat_le, List, [], ◌∷◌, ◌++◌, length, map, flat_map, bytes_eq, codes, is_ok, Option, Some, None}
 use Rattle.std.specs.Char.{is_ascii_digit}
 use Rattle.std.specs.List.{list_all, list_any}
@@ -18,8 +19,9 @@ use Rattle.wf_wms.specs.declared.exception.Parameter.{Parameter}
 pub data AxisOrder : Type 0 where
   EastFirst NorthFirst : AxisOrder
 
--- The reference systems, each with the order of its axes; the format of pictures; the layers, each a name and a title; their one style; the most
--- layers of a request; the greatest width and height, in pixels.
+-- The reference systems, each with the order of its axes; the format of pictures; the layers, each
+-- a name and a title; their one style; the most layers of a request; the greatest width and height,
+-- in pixels.
 pub record Offer : Type 0 where
   pub systems : List (List ℕ × AxisOrder)
   pub format : List ℕ
@@ -162,7 +164,8 @@ abbrev pub may_have : Option (List ℕ) → (List ℕ → Bool) → Bool
 may_have None test = true
 may_have (Some text) test = test text
 
--- FORMAT is the one that is offered, LAYERS lists offered layers, and STYLES has an entry for each, or is absent
+-- FORMAT is the one that is offered, LAYERS lists offered layers, and STYLES has an entry for each,
+-- or is absent
 abbrev pub asks_for_layers : Offer → List (List ℕ × List ℕ) → Bool
 asks_for_layers o pairs =
     has (parameter (codes "FORMAT") pairs) (λ text. bytes_eq text o.format)
@@ -177,7 +180,8 @@ asks_for_picture o projection pairs =
     && ((has (parameter (codes "WIDTH") pairs) (is_pixels o.most_width) && has (parameter (codes "HEIGHT") pairs) (is_pixels o.most_height))
     && is_ok (background_in (parameter (codes "BGCOLOR") pairs))))
 
--- a request whose VERSION and MAPSEQ are accepted gets a picture of that map exactly if it is within the map's offer
+-- a request whose VERSION and MAPSEQ are accepted gets a picture of that map exactly if it is
+-- within the map's offer
 abbrev pub RequestsWithinTheOfferAreTaken : Type 0
 RequestsWithinTheOfferAreTaken = (s : ℕ) (d : Definition) (pairs : List (List ℕ × List ℕ)) → is_ok (map_sequence s pairs) ≡ true →
     is_ok (map_request s d pairs) ≡ (asks_for_layers (offer d) pairs && asks_for_picture (offer d) d.projection pairs)

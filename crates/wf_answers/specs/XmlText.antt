@@ -1,5 +1,5 @@
--- How an XML processor reads a text that it finds in an element or in an attribute's value: Extensible Markup Language 1.0, 4.1
--- (references) and 4.6 (predefined entities).
+-- How an XML processor reads a text that it finds in an element or in an attribute's value:
+-- Extensible Markup Language 1.0, 4.1 (references) and 4.6 (predefined entities).
 use Rattle.std.specs.Prelude.{◌≡◌, ℕ, ◌==◌, ◌&&◌, ◌||◌, Bool, not, nat_lt, List, [], ◌∷◌, ◌++◌, bytes_eq, codes, Option, Some, None, option_and_then, option_map, if◌then◌else◌}
 use Rattle.std.specs.Char.{is_ascii_digit}
 use Rattle.std.specs.List.{list_all}
@@ -25,8 +25,9 @@ unfoldable pub referenced : List ℕ → Option ℕ
 referenced [] = None
 referenced (byte ∷ bytes) = if byte == 35 then numbered bytes else named (byte ∷ bytes)
 
--- A byte that stands for itself, in an element and in an attribute's value in either quotes: `<` and quotes may begin or end
--- markup (2.4), `>` ends a section (2.4), and a processor changes ends of lines and, in an attribute's value, tabs (2.11, 3.3.3).
+-- A byte that stands for itself, in an element and in an attribute's value in either quotes: `<`
+-- and quotes may begin or end markup (2.4), `>` ends a section (2.4), and a processor changes ends
+-- of lines and, in an attribute's value, tabs (2.11, 3.3.3).
 abbrev pub stands_for_itself : ℕ → Bool
 stands_for_itself byte =
     not (byte == 38 || (byte == 60 || (byte == 62 || (byte == 34 || (byte == 39 || (byte == 9 || (byte == 10 || byte == 13)))))))
@@ -35,8 +36,8 @@ stands_for_itself byte =
 abbrev pub followed_by : Option (List ℕ) → ℕ → Option (List ℕ)
 followed_by rest byte = option_map (λ text. byte ∷ text) rest
 
--- The text that is read; None where a byte may be markup or may be changed, or a reference isn't one of these. The first argument
--- is what has come of a reference since its `&`.
+-- The text that is read; None where a byte may be markup or may be changed, or a reference isn't
+-- one of these. The first argument is what has come of a reference since its `&`.
 unfoldable pub read : Option (List ℕ) → List ℕ → Option (List ℕ)
 read None [] = Some []
 read (Some name) [] = None

@@ -82,8 +82,9 @@ compared a b false false is_first is_second = inr (inl (not_below-antisymmetric 
 pub below-total : (a b : Ballot) → (below a b ≡ true) ⊎ ((a ≡ b) ⊎ (below b a ≡ true))
 below-total a b = compared a b (below a b) (below b a) refl refl
 
--- Induction: a property that each ballot has if all those below it do, all ballots have. The proof is by rounds, and in a round
--- by nodes. `in_round` has it for the nodes below m of round r, `in_rounds` for all rounds below n.
+-- Induction: a property that each ballot has if all those below it do, all ballots have. The proof
+-- is by rounds, and in a round by nodes. `in_round` has it for the nodes below m of round r,
+-- `in_rounds` for all rounds below n.
 in_round : (P : Ballot → Type 0) → ((b : Ballot) → ((a : Ballot) → below a b ≡ true → P a) → P b) →
     (n : ℕ) → ((a : Ballot) → a.round < n → P a) → (m : ℕ) (b : Ballot) → b.round ≡ n → b.node < m → P b
 in_round P step n earlier zero b at_n in_m = absurd (omega (arith, in_m))

@@ -28,7 +28,8 @@ widened : (n : ℕ) (a b : ℕ → Bool) → (i : ℕ) × IsShared n a b i → (
 widened n a b (i, shared) =
     (i, record { is_node = omega (arith, shared.is_node); in_first = shared.in_first; in_second = shared.in_second })
 
--- One more node is in both sets, or it adds at most one member, and then the nodes before it share one.
+-- One more node is in both sets, or it adds at most one member, and then the nodes before it share
+-- one.
 meet_with_next : (n : ℕ) (a b : ℕ → Bool) (in_a in_b : Bool) → a n ≡ in_a → b n ≡ in_b →
     (n < count_nodes n a + count_nodes n b → (i : ℕ) × IsShared n a b i) →
     suc n < count_nodes (suc n) a + count_nodes (suc n) b → (i : ℕ) × IsShared (suc n) a b i

@@ -14,7 +14,8 @@ IsSequence s = s ≤ last_sequence
 unfoldable pub seq_bytes : ℕ → List ℕ
 seq_bytes s = to_be_bytes w16 s
 
--- numbers that a slot may have: a slot is the sequence of a definition that is agreed on; 0 isn't one, since nothing is agreed on there
+-- numbers that a slot may have: a slot is the sequence of a definition that is agreed on; 0 isn't
+-- one, since nothing is agreed on there
 pub record IsSlot (s : ℕ) : Type 0 where
   pub from_one : 1 ≤ s
   pub to_last : s ≤ last_sequence

@@ -8,8 +8,8 @@ use std::marker::Model;
 /// The last round.
 pub const ROUNDS: u32 = 4_294_967_295;
 
-/// A ballot: one attempt of one node to have a definition chosen. Its round is 1 to 4,294,967,295. Ballots are ordered by round,
-/// then by node.
+/// A ballot: one attempt of one node to have a definition chosen. Its round is 1 to 4,294,967,295.
+/// Ballots are ordered by round, then by node.
 #[derive(Clone, Copy, Debug, PartialEq, Eq, PartialOrd, Ord, Hash)]
 pub struct Ballot {
     round: u32,
@@ -73,7 +73,8 @@ impl Ballot {
         self.node
     }
 
-    /// Whether this ballot is lower than the other, by round, then by node. Returns what `<` returns.
+    /// Whether this ballot is lower than the other, by round, then by node. Returns what `<`
+    /// returns.
     #[tactic(auto, unfolding(crate::specs::Ballot::below))]
     pub fn is_below(self, other: Ballot) -> bool
         ensures { result ≡ below self other }
@@ -81,7 +82,8 @@ impl Ballot {
         self < other
     }
 
-    /// The ballot's bytes in messages and records: its round, 4 bytes, big-endian, then its node, 1 byte.
+    /// The ballot's bytes in messages and records: its round, 4 bytes, big-endian, then its node, 1
+    /// byte.
     #[tactic(auto, unfolding(crate::specs::Ballot::ballot_bytes, crate::specs::Ballot::round_bytes))]
     pub fn bytes(self) -> [u8; 5]
         ensures { result ≡ ballot_bytes self }
@@ -122,8 +124,8 @@ impl fmt::Display for Ballot {
     }
 }
 
-/// The order of ballots is total: of two ballots one is below the other, or they are equal. A theorem about the definitions: the
-/// call does nothing.
+/// The order of ballots is total: of two ballots one is below the other, or they are equal. A
+/// theorem about the definitions: the call does nothing.
 pub fn order_is_total()
     ensures { OrderIsTotal }
 {}

@@ -11,13 +11,14 @@ use crate::node::NodeId;
 use crate::round::Round;
 use crate::slot::Slot;
 
-/// A node has 1 byte in messages and records, a sequence 2, a round 4 and a ballot 5. A theorem about the definitions: the call
-/// does nothing.
+/// A node has 1 byte in messages and records, a sequence 2, a round 4 and a ballot 5. A theorem
+/// about the definitions: the call does nothing.
 pub fn field_lengths()
     ensures { FieldLengths }
 {}
 
-/// A field's bytes determine its value, whatever follows them. A theorem about the definitions: the call does nothing.
+/// A field's bytes determine its value, whatever follows them. A theorem about the definitions: the
+/// call does nothing.
 pub fn fields_are_distinct()
     ensures { FieldsAreDistinct }
 {}
@@ -80,7 +81,8 @@ pub fn split_ballot(bytes: &[u8]) -> Option<(Ballot, &[u8])>
     }
 }
 
-/// A field is split off the front of bytes iff the bytes begin with it. A theorem about the definitions: the call does nothing.
+/// A field is split off the front of bytes iff the bytes begin with it. A theorem about the
+/// definitions: the call does nothing.
 pub fn fields_are_read()
     ensures { FieldsAreRead }
 {}

@@ -9,7 +9,8 @@ pub fn is_majority(count: usize, n: usize) -> bool
     count > n / 2
 }
 
-/// Two majorities of the same nodes share a node. A theorem about the definitions: the call does nothing.
+/// Two majorities of the same nodes share a node. A theorem about the definitions: the call does
+/// nothing.
 pub fn majorities_meet()
     ensures { MajoritiesMeet }
 {}

@@ -6,7 +6,8 @@ use crate::ballot::Ballot;
 use std::fmt;
 use std::marker::Model;
 
-/// The round of an attempt, 1 to 4,294,967,295. Round 0 means that a node hasn't made an attempt yet; it isn't a `Round`.
+/// The round of an attempt, 1 to 4,294,967,295. Round 0 means that a node hasn't made an attempt
+/// yet; it isn't a `Round`.
 #[derive(Clone, Copy, Debug, PartialEq, Eq, PartialOrd, Ord, Hash)]
 pub struct Round {
     number: u32,

@@ -8,8 +8,8 @@ use std::marker::Model;
 /// The highest update sequence, and so the most map definitions that a farm publishes.
 pub const SEQUENCES: u16 = 4096;
 
-/// An update sequence, 0 to 4,096: the index of a map definition in the farm's history, counted from 1. At 0 nothing is published
-/// yet (OGC 06-042, 7.2.3.5).
+/// An update sequence, 0 to 4,096: the index of a map definition in the farm's history, counted
+/// from 1. At 0 nothing is published yet (OGC 06-042, 7.2.3.5).
 #[derive(Clone, Copy, Debug, PartialEq, Eq, PartialOrd, Ord, Hash)]
 pub struct Seq {
     number: u16,

@@ -6,8 +6,9 @@ use crate::sequence::Seq;
 use std::fmt;
 use std::marker::Model;
 
-/// The update sequence of a map definition that the farm agrees on, 1 to 4,096: a Multi-Paxos slot, with an instance of Paxos of
-/// its own. Sequence 0 isn't a slot, since its map is fixed. Messages and records contain slots only.
+/// The update sequence of a map definition that the farm agrees on, 1 to 4,096: a Multi-Paxos slot,
+/// with an instance of Paxos of its own. Sequence 0 isn't a slot, since its map is fixed. Messages
+/// and records contain slots only.
 #[derive(Clone, Copy, Debug, PartialEq, Eq, PartialOrd, Ord, Hash)]
 pub struct Slot {
     seq: Seq,

@@ -1,5 +1,5 @@
--- Readers of tokens: each returns the value at the front of a list of tokens and the tokens after it, or None if the value isn't
--- there. The blocks of a mapfile are made of them.
+-- Readers of tokens: each returns the value at the front of a list of tokens and the tokens after
+-- it, or None if the value isn't there. The blocks of a mapfile are made of them.
 use Rattle.std.specs.Prelude.{ℕ, Bool, if◌then◌else◌, ℤ, List, [], ◌∷◌, codes, Option, Some, None, true, not, ◌&&◌}
 use Rattle.std.specs.Result.{result_ok}
 use Rattle.std.specs.Str.{str_eq_ignore_ascii_case, bytes_eq}
@@ -32,7 +32,8 @@ word (Quoted bytes ∷ rest) = None
 word (Braced inside ∷ rest) = None
 word (Word bytes ∷ rest) = Some (bytes, rest)
 
--- an argument: the text of a string, or a word other than END; a list is an argument of EXPRESSION alone
+-- an argument: the text of a string, or a word other than END; a list is an argument of EXPRESSION
+-- alone
 unfoldable pub argument : List Token → Option (List ℕ × List Token)
 argument [] = None
 argument (Quoted bytes ∷ rest) = Some (bytes, rest)

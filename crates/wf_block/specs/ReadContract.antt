@@ -17,7 +17,8 @@ IsNotUtf8 _ = ⊥
 abbrev pub Passes : {X : Type 0} → Bool → Result X MapFault → Type 0
 Passes test result = MatchResult result (λ _. test ≡ true) (λ e. (test ≡ false) × (is_memory e ≡ false))
 
--- A returned value, mapped by view, is what the tokens mean; an error other than Memory is returned only if they mean nothing.
+-- A returned value, mapped by view, is what the tokens mean; an error other than Memory is returned
+-- only if they mean nothing.
 abbrev pub Gives : {X Y : Type 0} → (X → Y) → Result X MapFault → Option Y → Type 0
 Gives view (Ok x) meant = meant ≡ Some (view x)
 Gives view (Err e) meant = is_memory e ≡ false → meant ≡ None

@@ -8,11 +8,13 @@ use Rattle.wf_block.specs.Grammar.{◌>>=◌, choice, word, is_end}
 abbrev pub Table : Type 0 → Type 0
 Table S = List (List ℕ × (List Token → Option (S × List Token)))
 
--- a keyword that comes at most once: if its slot is empty, its arguments are read and stored by a function
+-- a keyword that comes at most once: if its slot is empty, its arguments are read and stored by a
+-- function
 abbrev pub once : {A B S : Type 0} → Option A → (List Token → Option (B × List Token)) → (B → S) → List Token → Option (S × List Token)
 once slot read kept tokens = if is_some slot then None else (read tokens >>= λ x. Some (kept x.0, x.1))
 
--- a keyword that may come again: its arguments are read, appended to those before, and stored by a function
+-- a keyword that may come again: its arguments are read, appended to those before, and stored by a
+-- function
 abbrev pub any_times : {A S : Type 0} → List A → (List Token → Option (A × List Token)) → (List A → S) → List Token → Option (S × List Token)
 any_times list read kept tokens = read tokens >>= λ x. Some (kept (list ++ x.0 ∷ []), x.1)
 

@@ -85,8 +85,9 @@ pub fn keep<T: Drop>(slot: &mut Option<T>, settings: T)
     drop(replace(slot, Some(settings)));
 }
 
-/// Reads the arguments of a keyword that comes at most once, and stores them, or what a function makes of them, in its slot. A
-/// macro, since two exits by `?` are six calls to prove wherever they stand.
+/// Reads the arguments of a keyword that comes at most once, and stores them, or what a function
+/// makes of them, in its slot. A macro, since two exits by `?` are six calls to prove wherever they
+/// stand.
 #[macro_export]
 macro_rules! once {
     ($slot:expr, $byte_offset:expr, $read:expr) => {

@@ -7,7 +7,8 @@ use std::error::Error;
 use std::fmt;
 use wf_token::{LexFault, LexFaultKind};
 
-/// The first error of a mapfile, from the left. Byte offsets count from the front of the file, from 0.
+/// The first error of a mapfile, from the left. Byte offsets count from the front of the file,
+/// from 0.
 #[derive(Clone, Copy, PartialEq, Eq)]
 pub enum MapFault {
     /// Allocation failed; the bytes may be a mapfile.

@@ -37,16 +37,16 @@ impl Block {
     }
 }
 
-/// Where the reader of a mapfile is. After an error it is where the error was found. Byte offsets count from the front of the
-/// file, from 0.
+/// Where the reader of a mapfile is. After an error it is where the error was found. Byte offsets
+/// count from the front of the file, from 0.
 #[derive(Clone, Copy)]
 pub struct Place {
     /// The innermost block that is open: none before MAP and after its END.
     pub block: Option<Block>,
     /// The byte offset of the keyword that begins it.
     pub begin: usize,
-    /// The byte offset of the keyword, of the text of PROJECTION, of the key of a pair or of the first number of a point, if the
-    /// reader is at one or behind it.
+    /// The byte offset of the keyword, of the text of PROJECTION, of the key of a pair or of the
+    /// first number of a point, if the reader is at one or behind it.
     pub keyword: Option<usize>,
     /// The block that ended last.
     pub ended: Option<Block>,

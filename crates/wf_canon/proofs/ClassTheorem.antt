@@ -1,4 +1,5 @@
--- What is written for a class, with its styles and its label, is read as that class, whatever follows.
+-- What is written for a class, with its styles and its label, is read as that class, whatever
+-- follows.
 use Rattle.std.proofs.Common.{Bool, true, false, List, [], ◌∷◌, Option, Some, None, refl, arith}
 use Rattle.std.specs.Prelude.{codes}
 use Rattle.wf_def.specs.Definition.{ExpressionDefinition, StyleDefinition, LabelDefinition, ClassDefinition}

@@ -1,4 +1,5 @@
--- The fixed strings of a canonical text, such as metadata keys, are texts, and so are attribute names after their prefix.
+-- The fixed strings of a canonical text, such as metadata keys, are texts, and so are attribute
+-- names after their prefix.
 use Rattle.std.proofs.Common.{◌≡◌, ℕ, ◌≤◌, true, false, leb, List, ◌++◌, length, refl, arith}
 use Rattle.std.specs.Prelude.{codes}
 use Rattle.std.specs.List.{list_all}

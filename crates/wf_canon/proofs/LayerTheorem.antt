@@ -1,4 +1,5 @@
--- What is written for a layer, with its classes and its features, is read as that layer, whatever follows.
+-- What is written for a layer, with its classes and its features, is read as that layer, whatever
+-- follows.
 use Rattle.std.proofs.Common.{◌≡◌, ℕ, zero, suc, ◌+◌, ◌-◌, ◌<◌, ◌≤◌, leb, true, false, List, [], ◌∷◌, ◌++◌, length, get_or, Some, None, refl, ap, ◌∙◌, append_assoc, length-append, arith}
 use Rattle.std.specs.Prelude.{codes, map, sum_by}
 use Rattle.std.specs.List.{list_all, AllByRecursion}
@@ -127,7 +128,8 @@ title_again : (title : List ℕ) → IsText title → Reads metadata (tokens_of 
 unfolding metadata pairs text argument end word is_keyword all_differ value_at kept_pairs
 title_again title h = record { written = rw (title_key, written_text title h) refl; read = λ rest. rw (title_key, h) refl }
 
--- a layer that may follow these: its name differs from theirs, and the map may still have its features and their points
+-- a layer that may follow these: its name differs from theirs, and the map may still have its
+-- features and their points
 pub record MayStandBehind (others : List Entry) (entry : Entry) : Type 0 where
   pub name : IsLayerName entry.0
   pub layer : IsLayer entry.1

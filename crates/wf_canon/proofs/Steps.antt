@@ -1,7 +1,9 @@
--- Lines that are written for a block are read keyword by keyword, whatever follows, and each of their tokens as it was written.
+-- Lines that are written for a block are read keyword by keyword, whatever follows, and each of
+-- their tokens as it was written.
 --
--- A line, or a keyword with the lines of its block, is one step: it takes the slots from one state to the next. So concatenated
--- lines, or lines written for each element of a list, take the slots from the first state to the last.
+-- A line, or a keyword with the lines of its block, is one step: it takes the slots from one state
+-- to the next. So concatenated lines, or lines written for each element of a list, take the slots
+-- from the first state to the last.
 use Rattle.std.proofs.Common.{◌≡◌, ℕ, zero, suc, ◌-◌, ◌≤◌, ltb, Bool, true, false, not, ◌&&◌, List, [], ◌∷◌, ◌++◌, length, All, Option, Some, None, refl, sym, ap, ◌∙◌, append_assoc, length-append, arith}
 use Rattle.std.specs.Prelude.{codes, IfSome, sum_by}
 use Rattle.std.specs.List.{flat_map, list_all, Contains}
@@ -52,12 +54,14 @@ More put settings tokens r = (most : ℕ) → length tokens ≤ most → fill pu
 abbrev pub Ended : {S : Type 0} → S → List Token → S × List Token → Type 0
 Ended settings rest r = r ≡ (settings, rest)
 
--- the lines may be written, and take the slots from this state to the one that follows: more keywords, or nothing
+-- the lines may be written, and take the slots from this state to the one that follows: more
+-- keywords, or nothing
 pub record Fills {S : Type 0} (put : Put S) (before : S) (lines : List (List Token)) (follows : List Token → S × List Token → Type 0) : Type 0 where
   pub written : list_all is_written (tokens_of lines) ≡ true
   pub steps : (rest : List Token) (r : S × List Token) → follows rest r → More put before (tokens_of lines ++ rest) r
 
--- a keyword with these tokens as its arguments, which are read to the value, takes the slots to the next state
+-- a keyword with these tokens as its arguments, which are read to the value, takes the slots to the
+-- next state
 abbrev pub Denotes : {S A : Type 0} → Put S → S → List ℕ → Reader A → List Token → A → S → Type 0
 Denotes put before w reader tokens value next = (rest : List Token) → reader (tokens ++ rest) ≡ Some (value, rest) → put before w (tokens ++ rest) ≡ Some (next, rest)
 

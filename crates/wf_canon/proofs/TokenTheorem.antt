@@ -1,4 +1,5 @@
--- What is written for a text, a list, a number, a colour or a choice is read as that value, whatever follows.
+-- What is written for a text, a list, a number, a colour or a choice is read as that value,
+-- whatever follows.
 use Rattle.std.proofs.Common.{◌≡◌, ℕ, ◌*◌, ◌/◌, ◌%◌, ◌≤◌, Bool, true, false, not, ◌&&◌, ◌||◌, cond, eqb, leb, List, [], ◌∷◌, Some, refl, arith}
 use Rattle.std.specs.Prelude.{ℤ, pos}
 use Rattle.std.specs.Fmt.{decimal}

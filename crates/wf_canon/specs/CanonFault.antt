@@ -11,14 +11,15 @@ use Rattle.wf_spelling.specs.Canon.{canon, most_canon_bytes}
 abbrev pub HasNoCanon : List ℕ → Type 0
 HasNoCanon bytes = (d : Definition) → IsWithinLimits d → canon d ≡ bytes → ⊥
 
--- why bytes are rejected; the length and UTF-8 are checked without allocating, and allocation failure says nothing more about the
--- bytes
+-- why bytes are rejected; the length and UTF-8 are checked without allocating, and allocation
+-- failure says nothing more about the bytes
 abbrev pub IsWhyRejected : CanonFault → List ℕ → Type 0
 IsWhyRejected TooBig bytes = most_canon_bytes < length bytes
 IsWhyRejected NotCanonical bytes = HasNoCanon bytes
 IsWhyRejected Memory bytes = (length bytes ≤ most_canon_bytes) × (is_utf8 bytes ≡ true)
 
--- the error for bytes within the limit, given the error for the map that they mean: a text over the limit isn't these bytes
+-- the error for bytes within the limit, given the error for the map that they mean: a text over the
+-- limit isn't these bytes
 abbrev pub reject_again : CanonFault → CanonFault
 reject_again TooBig = NotCanonical
 reject_again NotCanonical = NotCanonical

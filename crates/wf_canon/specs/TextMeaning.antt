@@ -1,4 +1,5 @@
--- The meaning of a text of any length. A mapfile's meaning is this, for texts within the length limit.
+-- The meaning of a text of any length. A mapfile's meaning is this, for texts within the length
+-- limit.
 use Rattle.std.specs.Prelude.{◌≡◌, ℕ, true, List, Some}
 use Rattle.std.specs.Str.{is_utf8}
 use Rattle.wf_def.specs.Definition.{Definition}

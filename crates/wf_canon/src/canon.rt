@@ -22,7 +22,8 @@ struct Written {
     def: MapDef,
 }
 
-/// A map definition with its canonical text, which has at most [`MOST_CANON_BYTES`] bytes. Copies share both.
+/// A map definition with its canonical text, which has at most [`MOST_CANON_BYTES`] bytes. Copies
+/// share both.
 pub struct Canon {
     shared: Rc<Written>,
 }
@@ -48,7 +49,8 @@ impl Model for Canon {
 }
 
 impl Canon {
-    /// The canonical text of a definition, and a copy of the definition (`TooBig` iff the text is over [`MOST_CANON_BYTES`]).
+    /// The canonical text of a definition, and a copy of the definition (`TooBig` iff the text is
+    /// over [`MOST_CANON_BYTES`]).
     pub fn of(alloc: Global, def: &MapDef) -> Result<Self, CanonFault>
         ensures value { IfOk result (λ canonical. canonical ≡ def.now) }
         ensures short { OnOk result (length (canon def.now) ≤ most_canon_bytes) }
@@ -59,8 +61,8 @@ impl Canon {
         Ok(share(alloc, text, own)?)
     }
 
-    /// The canonical text of a definition, and the definition itself, which isn't copied (`TooBig` iff the text is over
-    /// [`MOST_CANON_BYTES`]).
+    /// The canonical text of a definition, and the definition itself, which isn't copied (`TooBig`
+    /// iff the text is over [`MOST_CANON_BYTES`]).
     pub fn from_map(alloc: Global, def: MapDef) -> Result<Self, CanonFault>
         ensures value { IfOk result (λ canonical. canonical ≡ def) }
         ensures short { OnOk result (length (canon def) ≤ most_canon_bytes) }
@@ -70,8 +72,9 @@ impl Canon {
         Ok(share(alloc, text, def)?)
     }
 
-    /// The definition that a canonical text means. More than [`MOST_CANON_BYTES`] are `TooBig`, which is checked first; other bytes that
-    /// aren't a canonical text are `NotCanonical`, even if they are a mapfile.
+    /// The definition that a canonical text means. More than [`MOST_CANON_BYTES`] are `TooBig`,
+    /// which is checked first; other bytes that aren't a canonical text are `NotCanonical`, even if
+    /// they are a mapfile.
     pub fn from_bytes(alloc: Global, bytes: &[u8]) -> Result<Self, CanonFault>
         ensures too_big { most_canon_bytes < length bytes.now → result ≡ Err CanonFault.TooBig }
         ensures value { IfOk result (λ canonical. canon canonical ≡ bytes.now) }
@@ -81,7 +84,8 @@ impl Canon {
         if bytes.len() > MOST_CANON_BYTES {
             return Err(CanonFault::TooBig);
         }
-        // The quick reader accepts canonical texts alone. What it leaves is decided by reading and writing again.
+        // The quick reader accepts canonical texts alone. What it leaves is decided by reading and
+        // writing again.
         if let Some(canonical) = Self::scan_bytes(alloc, bytes) {
             return Ok(canonical);
         }
@@ -90,8 +94,9 @@ impl Canon {
         Ok(share(alloc, text, def)?)
     }
 
-    /// The definition of a canonical text, if the quick reader accepts the text. `None` says nothing of the bytes: they may still be a
-    /// canonical text or any other mapfile, or an allocation failed.
+    /// The definition of a canonical text, if the quick reader accepts the text. `None` says
+    /// nothing of the bytes: they may still be a canonical text or any other mapfile, or an
+    /// allocation failed.
     #[tactic(auto, using(crate::proofs::MeaningTheorem::scanned_means))]
     pub fn scan_bytes(alloc: Global, bytes: &[u8]) -> Option<Self>
         ensures text { IfSome result (λ canonical. canon canonical ≡ bytes.now) }
@@ -108,8 +113,9 @@ impl Canon {
         }
     }
 
-    /// A copy, for a message or a history that owns its value. It shares the text and the definition, so it allocates nothing. The
-    /// only error is that copies can't be counted any further, at 2^64 - 1 of them.
+    /// A copy, for a message or a history that owns its value. It shares the text and the
+    /// definition, so it allocates nothing. The only error is that copies can't be counted any
+    /// further, at 2^64 - 1 of them.
     pub fn copy(&self) -> Result<Self, AllocError>
         ensures { IfOk result (λ copy. copy ≡ self.now) }
     {
@@ -191,7 +197,8 @@ fn same_text(alloc: Global, def: &MapDef, bytes: &[u8]) -> Result<Vec<u8>, Canon
     }
 }
 
-/// The error for bytes within the limit, given an error of writing: if the text is over the limit, the bytes aren't that text.
+/// The error for bytes within the limit, given an error of writing: if the text is over the limit,
+/// the bytes aren't that text.
 fn reject_again(fault: CanonFault) -> CanonFault
     ensures { result ≡ reject_again fault }
 {
@@ -201,7 +208,8 @@ fn reject_again(fault: CanonFault) -> CanonFault
     }
 }
 
-/// The definition that bytes mean, canonical or not. Bytes that mean nothing aren't a canonical text.
+/// The definition that bytes mean, canonical or not. Bytes that mean nothing aren't a canonical
+/// text.
 fn definition_of(alloc: Global, bytes: &[u8]) -> Result<MapDef, CanonFault>
     requires { length bytes.now ≤ most_canon_bytes }
     ensures meant { IfOk result (λ def. Means bytes.now def) }

@@ -142,7 +142,8 @@ module _ {T : Type 0} (tapes : Tape T) (n i : ℕ) (bytes : List ℕ) (stored : 
 
 -- ---- all runs
 
--- Runs lead from a stopped node that has stored this to a node, by these items; and each list of published maps is one's beginning.
+-- Runs lead from a stopped node that has stored this to a node, by these items; and each list of
+-- published maps is one's beginning.
 pub record Runs {T : Type 0} (n i : ℕ) (stored : DurableState Definition) (from : List Definition) (ended : List (Ended T)) (now : Option (Run T)) : Type 0 where
   pub node : world.Node Definition
   pub reachable : Reachable n i (down stored) (items_in i ended now) node

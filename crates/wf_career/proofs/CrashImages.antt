@@ -96,7 +96,8 @@ leaves_failed tapes = λ durable n i bytes run is halts.
     let so = fails_in tapes run.first run.acts is.done is.opened.runs halts in
     record { input = so.input; failed = so.failed; leaves = λ image left. (so.failed, so.left.each durable image left) }
 
--- The node on what was left has stored what the halted one had, or that with the step's record: so the bytes stand for one of both.
+-- The node on what was left has stored what the halted one had, or that with the step's record: so
+-- the bytes stand for one of both.
 compared : {T : Type 0} (tapes : Tape T) (node next : Node T) (input : Input) (left : List ℕ) → IsFailedBy tapes input node → StandsFor (stored_of next) left → HasStoredAs node next →
     StandForEither node input left
 compared tapes node next input left failed stands (inl same) = inl (subst (λ (stored : DurableState Definition). StandsFor stored left) same stands)

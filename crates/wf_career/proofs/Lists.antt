@@ -13,7 +13,8 @@ begins_by xs ys grown = (grown.more, grown.is)
 pub begins_through : (xs ys zs : List Definition) → IsBeginning xs ys → IsBeginning ys zs → IsBeginning xs zs
 begins_through xs ys zs first second = (first.0 ++ second.0, sym (append_assoc xs first.0 second.0) ∙ ap (λ k. k ++ second.0) first.1 ∙ second.1)
 
--- each node of the list has published what the one before it had, or more; the first one what `from` has, the last one no more than `to`
+-- each node of the list has published what the one before it had, or more; the first one what
+-- `from` has, the last one no more than `to`
 abbrev pub Grow : {T : Type 0} → List Definition → List (Node T) → List Definition → Type 0
 Grow from [] to = IsGrown from to
 Grow from (node ∷ nodes) to = IsGrown from node.parts.history × Grow node.parts.history nodes to

@@ -1,4 +1,5 @@
--- A process: its runs, one after the other on one tape. A farm: several such processes in one order of time.
+-- A process: its runs, one after the other on one tape. A farm: several such processes in one order
+-- of time.
 use Rattle.std.specs.Prelude.{◌≡◌, ℕ, ◌<◌, ◌==◌, ⊤, List, [], ◌∷◌, ◌++◌, Option, Some, None, if◌then◌else◌}
 use Rattle.wf_codec.specs.declared.message.Message.{Message}
 use Rattle.wf_model.specs.Chosen.{IsIn}
@@ -54,7 +55,8 @@ values career = values_of career.ended career.now
 
 -- ---- all of them
 
--- The process of that number gave its node this input, which returned these messages; or it ended within this step.
+-- The process of that number gave its node this input, which returned these messages; or it ended
+-- within this step.
 pub record Item : Type 0 where
   pub process : ℕ
   pub takes : Input
@@ -87,13 +89,14 @@ IsOneOf sent action.Retry = ⊤
 IsOneOf sent action.CatchUp = ⊤
 IsOneOf sent (action.Deliver message) = IsIn message sent
 
--- Each item is of one of the n processes, and a message that it delivers is one of these or of those that earlier items returned.
+-- Each item is of one of the n processes, and a message that it delivers is one of these or of
+-- those that earlier items returned.
 abbrev pub AreInTurn : ℕ → List Message → List Item → Type 0
 AreInTurn n sent [] = ⊤
 AreInTurn n sent (item ∷ items) = (item.process < n) × IsOneOf sent item.takes × AreInTurn n (sent ++ item.outputs) items
 
--- n processes, which nothing but messages connects. There is one order of time of their steps, in which each message that is delivered
--- was returned earlier, by any of them.
+-- n processes, which nothing but messages connects. There is one order of time of their steps, in
+-- which each message that is delivered was returned earlier, by any of them.
 pub record IsFarm {T : Type 0} (tapes : Tape T) (n : ℕ) (careers : ℕ → Career T) (items : List Item) : Type 0 where
   pub each : (i : ℕ) → i < n → IsCareer tapes n i (careers i)
   pub own : (i : ℕ) → i < n → items_of i items ≡ items_in i (careers i).ended (careers i).now

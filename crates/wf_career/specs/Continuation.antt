@@ -1,4 +1,5 @@
--- A farm of processes goes on, one thing after the other: so the calls of a program lead from one farm to the next.
+-- A farm of processes goes on, one thing after the other: so the calls of a program lead from one
+-- farm to the next.
 use Rattle.std.specs.Prelude.{◌≡◌, ℕ, ◌<◌, ◌==◌, ⊤, List, [], ◌∷◌, ◌++◌, Some, None, if◌then◌else◌}
 use Rattle.wf_node.specs.Node.{Node}
 use Rattle.wf_tape.specs.declared.tape.Tape.{Ghosts as Tape}
@@ -25,7 +26,8 @@ unstarted i = record { ended = []; now = None }
 abbrev pub NothingIsAFarm : {T : Type 0} → Tape T → Type 0
 NothingIsAFarm {T} tapes = (n : ℕ) → IsFarm tapes n unstarted []
 
--- A process that doesn't run starts, the first time or again: its node was opened from what its last run left.
+-- A process that doesn't run starts, the first time or again: its node was opened from what its
+-- last run left.
 abbrev pub StartGoesOn : {T : Type 0} → Tape T → Type 0
 StartGoesOn {T} tapes = (n i : ℕ) (careers : ℕ → Career T) (items : List Item) (node : Node T) → IsFarm tapes n careers items → i < n → (careers i).now ≡ None →
     IsOpenedFrom n i (left (careers i)) node →

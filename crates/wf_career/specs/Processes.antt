@@ -1,5 +1,6 @@
--- An example: three processes, of which one proposes a map, all three publish it, and one starts again. Its premises are what the calls
--- promise: `open` and `Node::step`, `deliver_all` of wf_delivery, and `open` again.
+-- An example: three processes, of which one proposes a map, all three publish it, and one starts
+-- again. Its premises are what the calls promise: `open` and `Node::step`, `deliver_all` of
+-- wf_delivery, and `open` again.
 use Rattle.std.specs.Prelude.{◌≡◌, ℕ, false, List, [], length, slice_get, slice_set, Some, Ok, Vec}
 use Rattle.std.specs.declared.alloc.Global.{Global}
 use Rattle.wf_codec.specs.declared.message.Message.{Message}
@@ -41,8 +42,9 @@ pub record HavePublished {T : Type 0} (tapes : Tape T) (nodes : List (Node T)) (
   pub processes : AreRunning tapes 3 nodes sent
   pub published : AllPublish nodes d
 
--- One of three processes proposed a map, the messages were delivered to all until none was left, and no delivery was lost. Then one was
--- opened again, from bytes that stand for what it had stored.
+-- One of three processes proposed a map, the messages were delivered to all until none was left,
+-- and no delivery was lost. Then one was opened again, from bytes that stand for what it had
+-- stored.
 abbrev pub ThreeProcesses : {T : Type 0} → Tape T → Type 0
 ThreeProcesses {T} tapes = (nodes after : List (Node T)) (i k : ℕ) (before proposed stopped again : Node T) (d : Definition) (outputs : Vec Message Global) (done : ℕ) (left : List ℕ) →
     length nodes ≡ 3 → AreOpenedEmpty nodes → slice_get nodes i ≡ Some before → IsStep tapes before (table.Propose d) (Ok outputs) proposed →

@@ -1,4 +1,5 @@
--- Replicas: processes that have no vote and no tape. They learn the published maps from answers, of nodes and of one another.
+-- Replicas: processes that have no vote and no tape. They learn the published maps from answers, of
+-- nodes and of one another.
 use Rattle.std.specs.Prelude.{◌≡◌, ℕ, List, [], length, Some}
 use Rattle.wf_def.specs.Definition.{Definition}
 use Rattle.wf_learner.specs.History.{next_of, with_chosen}
@@ -13,7 +14,8 @@ use Rattle.wf_wms.specs.Answer.{AnswerValue, AsksForMap, IsAnswerOf}
 use Rattle.wf_career.specs.Career.{Career, Item, IsFarm}
 use Rattle.wf_career.specs.Theorems.{IsHeld}
 
--- the list of a replica after it has heard a message: one more if the message says what is chosen under the next sequence
+-- the list of a replica after it has heard a message: one more if the message says what is chosen
+-- under the next sequence
 abbrev pub after_learning : List Definition → Message Definition → List Definition
 after_learning list (Chosen s d) = with_chosen list s d
 after_learning list (Prepare s b) = list
@@ -33,9 +35,11 @@ IsNews list (Accepted i s b) = ⊥
 IsNews list (Nack i s b promise) = ⊥
 IsNews list (Ask s) = ⊥
 
--- The lists that the processes of a farm, and any replicas of it, ever have: what a node has published at some moment; the empty list of a
--- replica that is new, or has lost its list; and what a replica has after it has heard one of the messages by which such a list
--- answers the question for what is chosen from some sequence on. The message may have come late, repeatedly or out of order.
+-- The lists that the processes of a farm, and any replicas of it, ever have: what a node has
+-- published at some moment; the empty list of a replica that is new, or has lost its list; and what
+-- a replica has after it has heard one of the messages by which such a list answers the question
+-- for what is chosen from some sequence on. The message may have come late, repeatedly or out of
+-- order.
 pub data IsListOfFarm {T : Type 0} (n : ℕ) (careers : ℕ → Career T) : List Definition → Type 0 where
   OfNode : (list : List Definition) (node : Node T) → IsHeld n careers node → list ≡ node.parts.history → IsListOfFarm n careers list
   Empty : (list : List Definition) → list ≡ [] → IsListOfFarm n careers list
@@ -56,7 +60,8 @@ ServedAgree {T} tapes = (n : ℕ) (careers : ℕ → Career T) (items : List Ite
     (list other : List Definition) → IsListOfFarm n careers list → IsListOfFarm n careers other → (s : ℕ) (c d : Definition) →
     definition_at list s ≡ Some c → definition_at other s ≡ Some d → c ≡ d
 
--- Two of them, as long as one another, have one answer to a query of the web map service: the same kind, media type and bytes.
+-- Two of them, as long as one another, have one answer to a query of the web map service: the same
+-- kind, media type and bytes.
 abbrev pub ServedAnswer : {T : Type 0} → Tape T → Type 0
 ServedAnswer {T} tapes = (n : ℕ) (careers : ℕ → Career T) (items : List Item) → IsFarm tapes n careers items →
     (list other : List Definition) → IsListOfFarm n careers list → IsListOfFarm n careers other → (s : ℕ) (query : List ℕ) (answer another : AnswerValue) →

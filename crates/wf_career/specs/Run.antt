@@ -1,4 +1,5 @@
--- One run of a process: a node that is opened from the bytes on its tape, its steps, and what the run leaves on the tape.
+-- One run of a process: a node that is opened from the bytes on its tape, its steps, and what the
+-- run leaves on the tape.
 use Rattle.std.specs.Prelude.{◌≡◌, ◌⊎◌, ℕ, Bool, true, false, ⊤, List, [], ◌∷◌, ◌++◌, None}
 use Rattle.wf_codec.specs.declared.message.Message.{Message}
 use Rattle.wf_def.specs.Definition.{Definition}
@@ -35,8 +36,8 @@ last_of node (act ∷ acts) = last_of act.after acts
 abbrev pub last : {T : Type 0} → Run T → Node T
 last run = last_of run.first run.acts
 
--- The node is node i of n, and runs. It has stored what these bytes stand for, and has no proposal and no leadership: it was opened
--- from them, and its tape may have been shortened since.
+-- The node is node i of n, and runs. It has stored what these bytes stand for, and has no proposal
+-- and no leadership: it was opened from them, and its tape may have been shortened since.
 pub record IsOpenedFrom {T : Type 0} (n i : ℕ) (bytes : List ℕ) (node : Node T) : Type 0 where
   pub id : node.id ≡ i
   pub among : node.n ≡ n
@@ -59,13 +60,15 @@ unfoldable pub outputs : {T : Type 0} → List (Act T) → List Message
 outputs [] = []
 outputs (act ∷ acts) = act.outputs ++ outputs acts
 
--- How a run ended: between two steps; within the step of an input; or after its tape had failed within the step of an input.
+-- How a run ended: between two steps; within the step of an input; or after its tape had failed
+-- within the step of an input.
 pub data End : Type 0 where
   Between : End
   Within : (input : Input) → End
   Failed : (input : Input) → End
 
--- The bytes stand for what the node has stored; or for what it has stored after this input's step, if the table doesn't reject that.
+-- The bytes stand for what the node has stored; or for what it has stored after this input's step,
+-- if the table doesn't reject that.
 abbrev pub StandForEither : {T : Type 0} → Node T → Input → List ℕ → Type 0
 StandForEither node input bytes =
     StandsFor (stored_of node) bytes ⊎ ((step_rejection_at node (view input) ≡ None) × StandsFor (stored_next node (view input)) bytes)
@@ -75,20 +78,23 @@ abbrev pub FailedAt : {T : Type 0} → Node T → List (Act T) → Input → Typ
 FailedAt node [] input = ⊥
 FailedAt node (act ∷ acts) input = ((node.halted ≡ false) × (act.after.halted ≡ true) × (act.input ≡ input)) ⊎ FailedAt act.after acts input
 
--- What a run leaves on its tape, by how it ended. A halted node has stored what it had before the step within which its tape failed.
+-- What a run leaves on its tape, by how it ended. A halted node has stored what it had before the
+-- step within which its tape failed.
 abbrev pub HasLeft : {T : Type 0} → Run T → End → List ℕ → Type 0
 HasLeft run Between bytes = ((last run).halted ≡ false) × StandsFor (stored_of (last run)) bytes
 HasLeft run (Within input) bytes = ((last run).halted ≡ false) × StandForEither (last run) input bytes
 HasLeft run (Failed input) bytes = FailedAt run.first run.acts input × StandForEither (last run) input bytes
 
 module _ {T : Type 0} (tapes : Tape T) where
-  -- The node was opened from this tape: from what was read of it, which is its content if it is durable.
+  -- The node was opened from this tape: from what was read of it, which is its content if it is
+  -- durable.
   pub record IsOpened (n i : ℕ) (tape : T) (node : Node T) : Type 0 where
     pub bytes : List ℕ
     pub opened : IsOpenedFrom n i bytes node
     pub same : tapes.durable → bytes ≡ tapes.content tape
 
-  -- The node did what its step promises: its input had its effect or was rejected, its tape failed, or an allocation did.
+  -- The node did what its step promises: its input had its effect or was rejected, its tape failed,
+  -- or an allocation did.
   pub record IsAct (before : Node T) (act : Act T) : Type 0 where
     pub lost : Bool
     pub takes : Takes tapes lost (view act.input) before act.after act.outputs

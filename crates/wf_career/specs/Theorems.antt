@@ -24,7 +24,8 @@ pub record IsHeld {T : Type 0} (n : ℕ) (careers : ℕ → Career T) (node : No
 
 -- ---- the lists of published maps
 
--- What a process published at one moment is a beginning of what it has published at each later one, in whichever run.
+-- What a process published at one moment is a beginning of what it has published at each later one,
+-- in whichever run.
 abbrev pub ListsGrow : {T : Type 0} → Tape T → Type 0
 ListsGrow {T} tapes = (n i : ℕ) (career : Career T) (moment later : ℕ) (node next : Node T) → IsCareer tapes n i career → moment ≤ later →
     slice_get (values career) moment ≡ Some node → slice_get (values career) later ≡ Some next → IsBeginning node.parts.history next.parts.history
@@ -45,15 +46,16 @@ OneDefinition {T} tapes = (n : ℕ) (careers : ℕ → Career T) (items : List I
 
 -- ---- answers
 
--- Two processes that have published equally many maps have one answer to a query of the web map service, at whatever moments: the same
--- kind, media type and bytes.
+-- Two processes that have published equally many maps have one answer to a query of the web map
+-- service, at whatever moments: the same kind, media type and bytes.
 abbrev pub OneAnswer : {T : Type 0} → Tape T → Type 0
 OneAnswer {T} tapes = (n : ℕ) (careers : ℕ → Career T) (items : List Item) → IsFarm tapes n careers items →
     (node other : Node T) → IsHeld n careers node → IsHeld n careers other → (s : ℕ) (query : List ℕ) (answer another : AnswerValue) →
     length node.parts.history ≡ s → length other.parts.history ≡ s →
     IsAnswerOf s node.parts.history query answer → IsAnswerOf s other.parts.history query another → another ≡ answer
 
--- Two processes that a query asks for the same map have one answer to it, however many maps either has published.
+-- Two processes that a query asks for the same map have one answer to it, however many maps either
+-- has published.
 abbrev pub OneMapAnswer : {T : Type 0} → Tape T → Type 0
 OneMapAnswer {T} tapes = (n : ℕ) (careers : ℕ → Career T) (items : List Item) → IsFarm tapes n careers items →
     (node other : Node T) → IsHeld n careers node → IsHeld n careers other → (s t m : ℕ) (query : List ℕ) (answer another : AnswerValue) →
@@ -67,8 +69,9 @@ unfoldable pub outputs_in : List Item → List Message
 outputs_in [] = []
 outputs_in (item ∷ items) = item.outputs ++ outputs_in items
 
--- Some events of the model lead from its start to what the processes are now, and they send exactly the messages that were returned, in
--- order. A process that runs is its node; one that doesn't is stopped.
+-- Some events of the model lead from its start to what the processes are now, and they send exactly
+-- the messages that were returned, in order. A process that runs is its node; one that doesn't is
+-- stopped.
 pub record IsOneRun {T : Type 0} (n : ℕ) (careers : ℕ → Career T) (items : List Item) : Type 0 where
   pub nodes : ℕ → world.Node Definition
   pub reached : IsReachable definition_eq n nodes (map message.view (outputs_in items))

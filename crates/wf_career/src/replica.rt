@@ -5,7 +5,8 @@ use std::marker::Model;
 use wf_codec::Message;
 use wf_learner::History;
 
-/// The published maps, as a process without a vote and without a tape has learned them. Model: its history.
+/// The published maps, as a process without a vote and without a tape has learned them. Model: its
+/// history.
 #[derive(Drop)]
 pub struct Replica {
     history: History,
@@ -35,7 +36,8 @@ impl Replica {
         Ok(Replica { history })
     }
 
-    /// The published maps that it has learned. They answer clients, and the questions of other replicas, as a node's do.
+    /// The published maps that it has learned. They answer clients, and the questions of other
+    /// replicas, as a node's do.
     pub fn history(&self) -> &History
         ensures { result.now ≡ self.now }
     {
@@ -52,8 +54,9 @@ impl Replica {
         Some(Message::Ask(slot))
     }
 
-    /// Learns what the message says: a definition that is chosen for the next sequence is published; any other message changes nothing. An
-    /// allocation failure changes nothing either, and comes only of such a definition.
+    /// Learns what the message says: a definition that is chosen for the next sequence is
+    /// published; any other message changes nothing. An allocation failure changes nothing either,
+    /// and comes only of such a definition.
     pub fn receive(&mut self, message: Message) -> Result<(), AllocError>
         ensures received { OnOk result
             (self.new.definitions ≡ after_learning self.old.definitions (view message)) }

@@ -16,8 +16,8 @@ use wf_journal::OpenFault;
 use wf_node::{Input, Node, NodeFault};
 use wf_tape::Tape;
 
-/// Node `id` of `n`, opened from its tape, as a run begins. What was read of the tape, whatever tape it is, stands for what the node has
-/// stored. Errors are those of [`Node::open`].
+/// Node `id` of `n`, opened from its tape, as a run begins. What was read of the tape, whatever
+/// tape it is, stands for what the node has stored. Errors are those of [`Node::open`].
 pub fn open<T: Tape>(alloc: Global, tape: T, id: NodeId, n: u8) -> Result<Node<T>, (T, OpenFault)>
     requires nodes { n ≤ 64 }
     requires member { id < n }
@@ -26,8 +26,9 @@ pub fn open<T: Tape>(alloc: Global, tape: T, id: NodeId, n: u8) -> Result<Node<T
     Node::open(alloc, tape, id, n)
 }
 
-/// One step of the node, as a run goes on. Returns the messages that it sends; errors are those of [`Node::step`], and then it sends none:
-/// N5 from a halted node, the table's rejection, N1 if allocation failed, N6 if the tape did.
+/// One step of the node, as a run goes on. Returns the messages that it sends; errors are those of
+/// [`Node::step`], and then it sends none: N5 from a halted node, the table's rejection, N1 if
+/// allocation failed, N6 if the tape did.
 pub fn act<T: Tape>(
     alloc: Global,
     node: &mut Node<T>,

@@ -112,7 +112,8 @@ module _ (stored : DurableState Definition) (volatile : VolatileState Definition
   chosen_published next = rw (eq-eqb s (next_sequence stored) next) refl
 
 module _ {T : Type 0} (tapes : Tape T) where
-  -- A definition that is chosen for the sequence after a node's last one is published, unless the tape fails.
+  -- A definition that is chosen for the sequence after a node's last one is published, unless the
+  -- tape fails.
   chosen_counted : (node after : Node T) (outputs : List Message) (s : ℕ) (d : Definition) → s ≡ count_of node + 1 → IsTransition node (transition_of node (table.Deliver (model.Chosen s d))) outputs after → count_of after ≡ count_of node + 1
   unfolding transition on_message next_sequence published
   chosen_counted node after outputs s d next is =
@@ -182,8 +183,9 @@ tail_of : List (model.Message Definition) → List (model.Message Definition)
 tail_of [] = []
 tail_of (m ∷ rest) = rest
 
--- How far a node has come that heard the beginning of an answer: it is halted; or it has published all of the other's definitions, or
--- as many more as were asked for; or one was lost, and it hasn't published them all.
+-- How far a node has come that heard the beginning of an answer: it is halted; or it has published
+-- all of the other's definitions, or as many more as were asked for; or one was lost, and it hasn't
+-- published them all.
 pub record ComesOn (least most count : ℕ) (lost : Bool) (after_halted : Bool) (reached : ℕ) : Type 0 where
   pub runs : after_halted ≡ false
   pub grown : least ≤ reached

@@ -1,4 +1,5 @@
--- The nodes of a farm that are behind catch up: each asks a node that has published the most, and the answer goes to it alone.
+-- The nodes of a farm that are behind catch up: each asks a node that has published the most, and
+-- the answer goes to it alone.
 use Rattle.std.specs.Prelude.{◌≡◌, ◌⊎◌, ◌<◌, ◌≤◌, ◌+◌, ◌-◌, ◌||◌, ℕ, zero, suc, Bool, true, false, List, [], ◌∷◌, length, map, slice_get, slice_set, Option, Some, None}
 use Rattle.wf_codec.specs.Message as message
 use Rattle.wf_codec.specs.declared.message.Message.{Message}
@@ -14,7 +15,8 @@ use Rattle.wf_tape.specs.declared.tape.Tape.{Ghosts as Tape}
 
 -- ---- who is behind
 
--- How far a node has come: 0 if it doesn't run or its tape has failed; otherwise one more than the number of maps that it published.
+-- How far a node has come: 0 if it doesn't run or its tape has failed; otherwise one more than the
+-- number of maps that it published.
 abbrev pub rank_by : Bool → ℕ → ℕ
 rank_by true count = 0
 rank_by false count = count + 1
@@ -42,23 +44,27 @@ StandLevel {T} nodes = (i j : ℕ) (node other : Node T) → slice_get nodes i �
 -- ---- questions
 
 module _ {T : Type 0} (tapes : Tape T) where
-  -- A node took a message that was delivered to it, or an allocation failed and it was lost. What the node sends is delivered to none.
+  -- A node took a message that was delivered to it, or an allocation failed and it was lost. What
+  -- the node sends is delivered to none.
   pub record IsTaken (loses : Bool) (m : Message) (before after : Node T) : Type 0 where
     pub outputs : List Message
     pub takes : Takes tapes loses (table.Deliver (message.view m)) before after outputs
     pub cause : loses ≡ true → MayBeLost m before
 
-  -- The messages were delivered to a node, one after the other, until one was lost or none was left.
+  -- The messages were delivered to a node, one after the other, until one was lost or none was
+  -- left.
   unfoldable pub HasReceived : List Message → Bool → Node T → Node T → Type 0
   HasReceived [] lost before after = (lost ≡ false) × (after ≡ before)
   HasReceived (m ∷ rest) lost before after = ((lost ≡ true) × IsTaken true m before after) ⊎ ((middle : Node T) × IsTaken false m before middle × HasReceived rest lost middle after)
 
-  -- One question: a node that is behind asks for the definition after its last one; its message is delivered to the node that it asks,
-  -- and to no other; and what that one sends is delivered to the asker alone. The delivery of the question or of one message of the
-  -- answer may be lost, and then no more are made.
+  -- One question: a node that is behind asks for the definition after its last one; its message is
+  -- delivered to the node that it asks, and to no other; and what that one sends is delivered to
+  -- the asker alone. The delivery of the question or of one message of the answer may be lost, and
+  -- then no more are made.
   pub record IsQuestion (asked asker : ℕ) (nodes : List (Node T)) (lost : Bool) (nodes_after : List (Node T)) : Type 0 where
     pub behind : IsBehind nodes asked asker
-    -- the asker before it asks, and after it heard the answer; and the one that is asked, which is unchanged
+    -- the asker before it asks, and after it heard the answer; and the one that is asked, which is
+    -- unchanged
     pub before : Node T
     pub after : Node T
     pub other : Node T
@@ -103,7 +109,8 @@ module _ {T : Type 0} (tapes : Tape T) where
 
 -- ---- for the crate's own contracts
 
--- The messages answer the question of the asker: at most eight definitions, from the one after its last one on.
+-- The messages answer the question of the asker: at most eight definitions, from the one after its
+-- last one on.
 pub record AreAnswersTo {T : Type 0} (nodes : List (Node T)) (asked asker : ℕ) (answer : List Message) : Type 0 where
   pub before : Node T
   pub other : Node T
@@ -125,12 +132,14 @@ pub record OneChanges {T : Type 0} (asked asker : ℕ) (nodes nodes_after : List
   pub asked_stays : slice_get nodes_after asked ≡ slice_get nodes asked
   pub within : rank_at nodes_after asker ≤ rank_at nodes asked
 
--- A question brings the asker on, unless its tape fails; or a delivery is lost, and it is behind still.
+-- A question brings the asker on, unless its tape fails; or a delivery is lost, and it is behind
+-- still.
 abbrev pub BringsOn : {T : Type 0} → (asked asker : ℕ) → List (Node T) → Bool → List (Node T) → Type 0
 BringsOn asked asker nodes true nodes_after = IsBehind nodes_after asked asker
 BringsOn asked asker nodes false nodes_after = (rank_at nodes_after asker ≡ 0) ⊎ (rank_at nodes asker < rank_at nodes_after asker)
 
--- The node has caught up, unless its tape has failed; or a delivery was lost, and it is behind still.
+-- The node has caught up, unless its tape has failed; or a delivery was lost, and it is behind
+-- still.
 abbrev pub IsLevelAt : {T : Type 0} → List (Node T) → (asked asker : ℕ) → Type 0
 IsLevelAt nodes asked asker = (rank_at nodes asker ≡ 0) ⊎ (rank_at nodes asker ≡ rank_at nodes asked)
 

@@ -17,19 +17,21 @@ use wf_farm::{Farm, FarmClient, NodeHost};
 use wf_node::Node;
 use wf_tape::Tape;
 
-/// Nodes that catch up are led on, and nodes that stand level stay as they are. A theorem: the call does nothing.
+/// Nodes that catch up are led on, and nodes that stand level stay as they are. A theorem: the call
+/// does nothing.
 pub fn a_catch_up_is_reachable<T: Tape>()
     ensures reachable { CatchUpIsReachable T.Tape }
     ensures rests { LevelRests T.Tape }
 {}
 
-/// Lets each node of a farm that is behind catch up. It asks one that has published the most for the definitions after its last one, and
-/// that one answers with at most eight, to it alone; it asks again until it has them all, or its tape fails and it is halted.
-/// Afterwards all nodes that run have published equally many. If none was behind, no node is asked. All messages are forgotten,
-/// those sent before too.
+/// Lets each node of a farm that is behind catch up. It asks one that has published the most for
+/// the definitions after its last one, and that one answers with at most eight, to it alone; it
+/// asks again until it has them all, or its tape fails and it is halted. Afterwards all nodes that
+/// run have published equally many. If none was behind, no node is asked. All messages are
+/// forgotten, those sent before too.
 ///
-/// Err: an allocation failed, and the node that it failed for is behind still. The other nodes have caught up, if none failed
-/// for them.
+/// Err: an allocation failed, and the node that it failed for is behind still. The other nodes have
+/// caught up, if none failed for them.
 pub fn catch_up<T: Tape>(alloc: Global, farm: &mut Farm<T>) -> Result<(), AllocError>
     ensures caught { HaveCaughtUp T.Tape (nodes_in farm.old) (is_err result) (nodes_in farm.new) }
     ensures level { OnOk result (StandLevel (nodes_in farm.new)) }
@@ -111,7 +113,8 @@ fn further<T: Tape>(hosts: &[NodeHost<T>], first: usize, second: usize) -> usize
     }
 }
 
-/// Lets each node ask the one at an index, as long as it is behind that one; returns whether a delivery was lost.
+/// Lets each node ask the one at an index, as long as it is behind that one; returns whether a
+/// delivery was lost.
 fn ask_each<T: Tape>(alloc: Global, hosts: &mut [NodeHost<T>], asked: usize) -> bool
     requires most { HasMost (nodes_of hosts.old) asked }
     ensures have_asked { HaveAsked T.Tape asked (nodes_of hosts.old) result
@@ -133,8 +136,8 @@ fn either(a: bool, b: bool) -> bool
     a || b
 }
 
-/// Lets a node ask the one at an index, as long as it is behind that one; returns whether a delivery was lost, after which it asks
-/// no more.
+/// Lets a node ask the one at an index, as long as it is behind that one; returns whether a
+/// delivery was lost, after which it asks no more.
 fn ask_while_behind<T: Tape>(
     alloc: Global,
     hosts: &mut [NodeHost<T>],
@@ -166,8 +169,8 @@ fn is_behind<T: Tape>(hosts: &[NodeHost<T>], asked: usize, asker: usize) -> bool
     0 < rank && rank < rank_at(hosts, asked)
 }
 
-/// How far the node of a number has come: 0 if it doesn't run, or its tape has failed; otherwise one more than the number of maps that
-/// it published.
+/// How far the node of a number has come: 0 if it doesn't run, or its tape has failed; otherwise
+/// one more than the number of maps that it published.
 fn rank_at<T: Tape>(hosts: &[NodeHost<T>], number: usize) -> usize
     ensures { result ≡ rank_at (nodes_of hosts.now) number }
 {
@@ -198,7 +201,8 @@ fn rank_of<T: Tape>(node: &Node<T>) -> usize
     }
 }
 
-/// Lets a node that is behind ask another, and delivers the answer to it; returns whether a delivery was lost.
+/// Lets a node that is behind ask another, and delivers the answer to it; returns whether a
+/// delivery was lost.
 fn ask<T: Tape>(alloc: Global, hosts: &mut [NodeHost<T>], asked: usize, asker: usize) -> bool
     requires behind { IsBehind (nodes_of hosts.old) asked asker }
     ensures question { IsQuestion T.Tape asked asker (nodes_of hosts.old) result
@@ -217,8 +221,9 @@ fn ask<T: Tape>(alloc: Global, hosts: &mut [NodeHost<T>], asked: usize, asker: u
     }
 }
 
-/// The answer of one node to the question of another, which is behind it: at most eight definitions, from the one after the asker's last
-/// one on. The model's steps of both nodes for that change neither of them.
+/// The answer of one node to the question of another, which is behind it: at most eight
+/// definitions, from the one after the asker's last one on. The model's steps of both nodes for
+/// that change neither of them.
 fn answer_at<T: Tape>(
     alloc: Global,
     hosts: &[NodeHost<T>],
@@ -250,7 +255,8 @@ fn answer<T: Tape>(
         reports_from other.now.parts.history (length node.now.parts.history + 1) most_reports) }
     ensures most { length other.now.parts.history ≤ last_sequence }
 {
-    // No node has published more than the last sequence, so that there is one after the asker's last one.
+    // No node has published more than the last sequence, so that there is one after the asker's
+    // last one.
     let _ = other.published();
     match node.history().next_slot() {
         Some(next) => other.history().answer_ask(alloc, next),
@@ -258,7 +264,8 @@ fn answer<T: Tape>(
     }
 }
 
-/// Delivers messages to a node that runs, one after the other, until one is lost; returns whether one was.
+/// Delivers messages to a node that runs, one after the other, until one is lost; returns whether
+/// one was.
 fn consume_at<T: Tape>(
     alloc: Global,
     hosts: &mut [NodeHost<T>],
@@ -292,7 +299,8 @@ fn consume<T: Tape>(alloc: Global, node: &mut Node<T>, messages: &[Message]) -> 
     }
 }
 
-/// Delivers a message to a node; returns whether the delivery was lost. What the node sends is dropped.
+/// Delivers a message to a node; returns whether the delivery was lost. What the node sends is
+/// dropped.
 fn deliver<T: Tape>(alloc: Global, node: &mut Node<T>, message: &Message) -> bool
     ensures taken { IsTaken T.Tape result message.now node.old node.new }
     ensures sturdy { IsSturdy T.Tape node.old node.new }

@@ -74,8 +74,8 @@ abbrev pub reported : ℕ → ℕ → List ℕ → List ℕ → List ℕ → Lis
 reported number column fault picture message =
     codes "line " ++ decimal number ++ codes ", column " ++ decimal column ++ codes ": " ++ fault ++ codes "\n" ++ picture ++ message ++ codes "\n"
 
--- The text is a report of the finding: its line and its column, from 1 in characters, its error, a picture of the line and the
--- message.
+-- The text is a report of the finding: its line and its column, from 1 in characters, its error, a
+-- picture of the line and the message.
 abbrev pub IsReport : Finding → List ℕ → Type 0
 IsReport finding text = (picture message : List ℕ) × IsMessage finding message
     × (text ≡ reported finding.line.number (characters finding.line.before.now + 1) (fault_text finding.fault) picture message)

@@ -40,8 +40,8 @@ IsAllowedIn blocks.Label text = IsListed blocks.Label text
 IsAllowedIn blocks.Feature text = IsListed blocks.Feature text
 IsAllowedIn blocks.Points text = text ≡ codes "pairs of numbers, x and y, or END"
 
--- what is allowed in place of a token: MAP before all blocks, and in a block what may stand between its keywords, unless the token is
--- behind one of them
+-- what is allowed in place of a token: MAP before all blocks, and in a block what may stand between
+-- its keywords, unless the token is behind one of them
 abbrev pub IsAllowedBetween : Option Block → Option ℕ → ℕ → List ℕ → Type 0
 IsAllowedBetween None keyword offset text = text ≡ codes "MAP"
 IsAllowedBetween (Some block) None offset text = IsAllowedIn block text
@@ -65,7 +65,8 @@ IsSaid text = (allowed : List ℕ) × Says text allowed
 abbrev pub IsSaidHere : Finding → List ℕ → Type 0
 IsSaidHere finding text = (allowed : List ℕ) × IsAllowedHere finding allowed × Says text allowed
 
--- The text is the message about an error of the reader: what is allowed there is said of M2, M3, M5, M6, M7 and M12.
+-- The text is the message about an error of the reader: what is allowed there is said of M2, M3,
+-- M5, M6, M7 and M12.
 abbrev pub IsReaderMessage : Finding → MapFault → List ℕ → Type 0
 IsReaderMessage finding faults.Memory text = IsSaid text
 IsReaderMessage finding faults.TooLong text = Says text (codes "a mapfile of at most 131072 bytes")
@@ -80,13 +81,15 @@ IsReaderMessage finding (faults.Repeated offset) text = IsSaid text
 IsReaderMessage finding faults.TooMany text = IsSaid text
 IsReaderMessage finding (faults.Trailing offset) text = Says text (codes "nothing after MAP's END")
 
--- the canonical text of a map is too long: by how many bytes, as the writer counts them, and more about each layer
+-- the canonical text of a map is too long: by how many bytes, as the writer counts them, and more
+-- about each layer
 abbrev pub excess_said : ℕ → List ℕ → List ℕ
 excess_said bytes layers =
     codes "Found a map whose canonical text has " ++ decimal bytes ++ codes " bytes, " ++ decimal (bytes - most_canon_bytes)
     ++ codes " too many. Allowed: at most " ++ decimal most_canon_bytes ++ codes "; fewer points, digits or attributes, or two maps." ++ layers
 
--- The text is the message about a file whose map has a canonical text that is too long: a sentence, and more about each layer.
+-- The text is the message about a file whose map has a canonical text that is too long: a sentence,
+-- and more about each layer.
 abbrev pub IsExcessMessage : List ℕ → List ℕ → Type 0
 IsExcessMessage file text = (d : Definition) → Means file d → (layers : List ℕ) × (text ≡ excess_said (counted (length (canon d))) layers)
 

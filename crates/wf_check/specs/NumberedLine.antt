@@ -10,7 +10,8 @@ is_feed byte = byte == 10
 unfoldable pub stays_in_line : ℕ → Bool
 stays_in_line byte = not (is_feed byte)
 
--- the first byte of a character in UTF-8 (RFC 3629, section 3): all but 128 to 191, which continue one
+-- the first byte of a character in UTF-8 (RFC 3629, section 3): all but 128 to 191, which continue
+-- one
 unfoldable pub starts_character : ℕ → Bool
 starts_character byte = not (nat_le 128 byte && nat_lt byte 192)
 

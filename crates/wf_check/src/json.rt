@@ -10,9 +10,9 @@ use crate::message::message;
 use serde_json::{Value, json};
 use std::alloc::{AllocError, Global};
 
-/// A finding as one line of JSON (RFC 8259), for editors: an object of its `line` and `column`, from
-/// 1, columns in characters; its byte `offset`, from 0; its `error`, such as M5; and the `message`,
-/// what was found there and is allowed there. The only error is allocation failure.
+/// A finding as one line of JSON (RFC 8259), for editors: an object of its `line` and `column`,
+/// from 1, columns in characters; its byte `offset`, from 0; its `error`, such as M5; and the
+/// `message`, what was found there and is allowed there. The only error is allocation failure.
 #[tactic(auto, using(crate::proofs::Reports::json_reported))]
 pub fn report_as_json(alloc: Global, finding: &Finding<'_>) -> Result<String, AllocError>
     ensures { IfOk result (λ text. IsJsonReport finding.now (string_bytes text)) }

@@ -161,7 +161,8 @@ impl<'a> Reading<'a> {
         self.say(found, allowed.as_str())
     }
 
-    /// About a value out of its range: a box is empty, a text or a list is too long, or a number is.
+    /// About a value out of its range: a box is empty, a text or a list is too long, or a number
+    /// is.
     fn out_of_range(&self) -> Result<String, AllocError>
         ensures { IfOk result (λ text. IsSaid (string_bytes text)) }
     {
@@ -248,8 +249,8 @@ impl<'a> Reading<'a> {
         }
     }
 
-    /// About what the block that ended last misses: a keyword, or points. If none has, MAP itself is
-    /// missing.
+    /// About what the block that ended last misses: a keyword, or points. If none has, MAP itself
+    /// is missing.
     fn missing(&self) -> Result<String, AllocError>
         ensures { IfOk result (λ text. IsSaid (string_bytes text)) }
     {

@@ -107,7 +107,8 @@ pub fn read_class(parser: &mut Parser<'_>) -> Result<Class, MapFault>
     Ok(slots.fill(parser.alloc())?)
 }
 
-/// Reads a list or a text to compare with (MapServer mapfile reference, EXPRESSION). A regular expression is neither.
+/// Reads a list or a text to compare with (MapServer mapfile reference, EXPRESSION). A regular
+/// expression is neither.
 #[tactic(auto, unfolding(crate::specs::Class::expression))]
 fn read_expression(parser: &mut Parser<'_>) -> Result<Expression, MapFault>
     ensures { Gives (λ e. (e, parser.new)) result (expression parser.old) }

@@ -1,4 +1,5 @@
-//! The slots that the keywords of CLASS, STYLE and LABEL fill. A dropped keyword's slot says only that it came.
+//! The slots that the keywords of CLASS, STYLE and LABEL fill. A dropped keyword's slot says only
+//! that it came.
 
 use wf_def::{
     Color, Expression, Label, LabelPosition, LabelSize, MOST_BUFFER, MOST_PRIORITY, MOST_SIZE,

@@ -1,5 +1,5 @@
--- What a reader of what has come shows: the bytes still to be read, whether the client has closed its side, and the number of
--- failed calls.
+-- What a reader of what has come shows: the bytes still to be read, whether the client has closed
+-- its side, and the number of failed calls.
 use Rattle.std.specs.Prelude.{◌≡◌, ◌<◌, ℕ, Bool, List, [], false, length}
 use Rattle.wf_client.specs.declared.arrived.Arrived.{Arrived}
 

@@ -24,7 +24,8 @@ NoneIsFree slots = (i : ℕ) → ¬ IsFree slots i
 abbrev pub WaitsSince : List (Option Client) → ℕ → ℕ → Type 0
 WaitsSince slots i since = waiting_since (slice_index_or slots i None) ≡ Some since
 
--- of the requests in the first n slots that aren't whole, this one has waited longest; None: there is none
+-- of the requests in the first n slots that aren't whole, this one has waited longest; None: there
+-- is none
 abbrev pub IsBest : List (Option Client) → ℕ → Option PendingRequest → Type 0
 IsBest slots n None = (j since : ℕ) → j < n → ¬ WaitsSince slots j since
 IsBest slots n (Some one) =
@@ -39,7 +40,8 @@ pub record IsLongestWaiting (slots : List (Option Client)) (i : ℕ) : Type 0 wh
 abbrev pub NoneIsWaiting : List (Option Client) → Type 0
 NoneIsWaiting slots = (i since : ℕ) → ¬ WaitsSince slots i since
 
--- A newcomer's slot is the first free one; if there is none, that of the request that has waited longest.
+-- A newcomer's slot is the first free one; if there is none, that of the request that has waited
+-- longest.
 abbrev pub IsSlotIndex : List (Option Client) → Option ℕ → Type 0
 IsSlotIndex slots index =
     MatchOption index (NoneIsFree slots × NoneIsWaiting slots)

@@ -5,8 +5,8 @@ use std::io;
 use std::io::ErrorKind;
 use wf_stream::Source;
 
-/// A reader of the bytes that have come. At their end it fails with `WouldBlock` if more may come; if the client has closed its
-/// side, that is the end of the input.
+/// A reader of the bytes that have come. At their end it fails with `WouldBlock` if more may come;
+/// if the client has closed its side, that is the end of the input.
 #[derive(Drop)]
 pub struct Arrived<'b> {
     rest: &'b [u8],

@@ -7,7 +7,8 @@ use crate::arrived::Arrived;
 use std::alloc::{AllocError, Global};
 use std::marker::Model;
 
-/// What has come of a request: its bytes, whether the client has closed its side, and how many bytes it needs at least.
+/// What has come of a request: its bytes, whether the client has closed its side, and how many
+/// bytes it needs at least.
 #[derive(Drop)]
 pub struct Incoming {
     bytes: Vec<u8>,

@@ -68,7 +68,8 @@ fn longest(slots: &[Option<Client>]) -> Option<PendingRequest>
     found
 }
 
-/// The slot of the request that has waited longest of those that aren't whole; the first of several.
+/// The slot of the request that has waited longest of those that aren't whole; the first of
+/// several.
 #[tactic(auto, using(crate::proofs::Waits::longest_of, crate::proofs::Waits::none_of))]
 pub fn longest_waiting(slots: &[Option<Client>]) -> Option<usize>
     ensures some { IfSome result (IsLongestWaiting slots.now) }
@@ -80,8 +81,8 @@ pub fn longest_waiting(slots: &[Option<Client>]) -> Option<usize>
     }
 }
 
-/// The slot for a newcomer: the first free one, else that of the request that has waited longest of those that aren't whole. None:
-/// each client is taking its answer, and the newcomer waits.
+/// The slot for a newcomer: the first free one, else that of the request that has waited longest of
+/// those that aren't whole. None: each client is taking its answer, and the newcomer waits.
 pub fn slot_index(slots: &[Option<Client>]) -> Option<usize>
     ensures { IsSlotIndex slots.now result }
 {

@@ -1,5 +1,5 @@
--- What the result of decode says about the bytes: they begin with the message, or never will begin with one, or more bytes are
--- needed.
+-- What the result of decode says about the bytes: they begin with the message, or never will begin
+-- with one, or more bytes are needed.
 use Rattle.std.proofs.Common.{◌≡◌, ℕ, ◌+◌, ◌≤◌, List, ◌++◌, length, take, drop, Option, Some, Result, Ok, Err, refl, sym, ap, subst, ◌∙◌, append_assoc, length-append, arith}
 use Rattle.std.proofs.Math.Seq.{take-append_seam, drop-append_seam}
 use Rattle.std.proofs.lemmas.Bool.{eqb-true}
@@ -154,7 +154,8 @@ error fault = Err fault
 err_same : {X : Type 0} (d e : DecodeFault) → error {X = X} d ≡ error e → d ≡ e
 err_same d e same = cc
 
--- A frame that is split off bytes is split off longer bytes too; if it is rejected, longer bytes are rejected too.
+-- A frame that is split off bytes is split off longer bytes too; if it is rejected, longer bytes
+-- are rejected too.
 rejected_by : {X : Type 0} (view : X → Message Definition) (e : DecodeFault) (bytes : List ℕ) (r : Result Found FrameFault) → frame_front format bytes ≡ r → AreBytes bytes →
     IsValidated view (Err e) r → IsLastingFault e → NeverBegins bytes
 rejected_by {X} view e bytes (Err fault) is fits validated rejection more m spelled after spells same =

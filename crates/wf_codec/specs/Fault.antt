@@ -97,7 +97,8 @@ texts_of_kind (Some layout) body = layouts.texts_in layout body
 abbrev pub texts_in : List ℕ → List (List ℕ)
 texts_in bytes = texts_of_kind (layout_in bytes) (body_in bytes)
 
--- the bytes begin with a message except that its texts aren't checked: no other check fails, and it has a text
+-- the bytes begin with a message except that its texts aren't checked: no other check fails, and it
+-- has a text
 pub record CarriesText (bytes : List ℕ) : Type 0 where
   pub no_fault : first_fault bytes ≡ None
   pub text : HasOne (texts_in bytes)

@@ -6,7 +6,8 @@ use Rattle.wf_frame.specs.Layout.{Layout}
 use Rattle.wf_frame.specs.Report.{most_report}
 use Rattle.wf_spelling.specs.Canon.{most_canon_bytes}
 
--- from the request to promise to the request for what is chosen, in the order in which wf_model lists messages
+-- from the request to promise to the request for what is chosen, in the order in which wf_model
+-- lists messages
 abbrev pub kinds : List (ℕ × Layout)
 kinds =
     (1, record { fields = SlotField ∷ BallotField ∷ []; ending = Nothing })

@@ -64,8 +64,8 @@ pub record HasText (d : Definition) : Type 0 where
   pub within : IsWithinLimits d
   pub short : length (canon d) ≤ most_canon_bytes
 
--- A message's numbers are in their ranges, sequences from 1 on; a Promise has a vote or none for each sequence of its window; and P
--- holds of each definition.
+-- A message's numbers are in their ranges, sequences from 1 on; a Promise has a vote or none for
+-- each sequence of its window; and P holds of each definition.
 abbrev pub IsMessageOf : {V : Type 0} → (V → Type 0) → model.Message V → Type 0
 IsMessageOf P m = IsRowOf P (row m)
 

@@ -1,4 +1,5 @@
--- How the decoder reads: the frame, its fields, its text. Fault.antt defines which error it returns.
+-- How the decoder reads: the frame, its fields, its text. Fault.antt defines which error it
+-- returns.
 use Rattle.std.specs.Prelude.{◌≡◌, ℕ, List, Option, Some, None, Result, Ok, Err, ◌++◌, length, IsSomeAnd}
 use Rattle.wf_ballot.specs.Ballot.{Ballot}
 use Rattle.wf_frame.specs.declared.fault.FrameFault.{FrameFault}
@@ -22,7 +23,8 @@ decode_fault frames.BadKind = BadKind
 decode_fault frames.TooLong = TooLong
 decode_fault frames.BadLength = BadField
 
--- the definition, within the limits, of a canonical text; or the text isn't canonical; or allocation failed
+-- the definition, within the limits, of a canonical text; or the text isn't canonical; or
+-- allocation failed
 abbrev pub ReadsText : Result Definition DecodeFault → List ℕ → Type 0
 ReadsText (Ok d) text = (canon d ≡ text) × HasText d
 ReadsText (Err NotCanonical) text = IsNoText text

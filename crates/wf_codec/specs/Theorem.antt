@@ -1,4 +1,5 @@
--- The theorems about message bytes: each message has one encoding, none is a prefix of another, and what the front of bytes is.
+-- The theorems about message bytes: each message has one encoding, none is a prefix of another, and
+-- what the front of bytes is.
 use Rattle.std.specs.Prelude.{◌≡◌, ℕ, ◌+◌, ◌≤◌, List, ◌++◌, length, take, true, Some, Result, Err, IfOk, IsSomeAnd, MatchResult}
 use Rattle.wf_frame.specs.Layout.{Layout, fits}
 use Rattle.wf_frame.specs.Row.{layout_of, read_row}
@@ -18,8 +19,8 @@ use Rattle.wf_codec.specs.Stages.{decode_fault, ReadsAs}
 abbrev pub OneSpelling : Type 0
 OneSpelling = (m : Message Definition) (a b : List ℕ) → Spells m a → Spells m b → a ≡ b
 
--- No encoding is a prefix of another's: if two encodings, each followed by other bytes, are equal, so are the messages, the
--- encodings and what follows.
+-- No encoding is a prefix of another's: if two encodings, each followed by other bytes, are equal,
+-- so are the messages, the encodings and what follows.
 abbrev pub NoneBeginsAnother : Type 0
 NoneBeginsAnother = (m n : Message Definition) (a b after_a after_b : List ℕ) → Spells m a → Spells n b →
     a ++ after_a ≡ b ++ after_b → (m ≡ n) × (a ≡ b) × (after_a ≡ after_b)
@@ -52,12 +53,13 @@ IsLastingFault Short = ⊥
 IsLastingFault Memory = ⊥
 IsLastingFault fault = Unit {0}
 
--- Part of a message, without an error in its version, its kind and its length as far as they are there; the length is checked
--- once its four bytes are there.
+-- Part of a message, without an error in its version, its kind and its length as far as they are
+-- there; the length is checked once its four bytes are there.
 abbrev pub IsUnfinished : List ℕ → Type 0
 IsUnfinished bytes = frames.IsUnfinished format bytes
 
--- the message and its length are returned; for a message with a definition, allocation failure may be returned instead
+-- the message and its length are returned; for a message with a definition, allocation failure may
+-- be returned instead
 abbrev pub IsReadAs : {X : Type 0} → (X → Message Definition) → Result (X × ℕ) DecodeFault → Message Definition → ℕ → Type 0
 IsReadAs view result m k = MatchResult result (λ x. (view x.0 ≡ m) × (x.1 ≡ k)) (λ e. (e ≡ Memory) × HasDefinition m)
 

@@ -12,8 +12,8 @@ use std::mem::replace;
 use wf_ballot::{Ballot, Slot};
 use wf_canon::Canon;
 
-/// The best of the votes that several reports from one slot on have: for each slot the one at the highest ballot, and of votes at
-/// equal ballots the first reported.
+/// The best of the votes that several reports from one slot on have: for each slot the one at the
+/// highest ballot, and of votes at equal ballots the first reported.
 pub struct BestVotes {
     votes: Votes,
 }
@@ -72,7 +72,8 @@ impl BestVotes {
         first_or(self.votes.as_slice(), own)
     }
 
-    /// The definition of the vote at the slot, if the first one is at `base`, or this one if there is no vote.
+    /// The definition of the vote at the slot, if the first one is at `base`, or this one if there
+    /// is no vote.
     pub fn at_or<'a>(&'a self, base: Slot, slot: Slot, own: &'a Canon) -> &'a Canon
         ensures { result.now ≡ carried (vote_of base self.now slot) own.now }
     {

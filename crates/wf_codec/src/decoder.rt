@@ -19,18 +19,20 @@ use wf_ballot::{Ballot, Slot, split_ballot};
 use wf_canon::{Canon, CanonFault, MOST_CANON_BYTES, one_text_one_map};
 use wf_frame::{FrameFault, split_frame};
 
-/// The message at the front of the bytes, and its length in bytes. The checks go from left to right, each as soon as its bytes
-/// are there: the version, the kind, the body's length, whether the body is whole, its fields, then the text of a definition.
-/// What follows the message isn't looked at.
+/// The message at the front of the bytes, and its length in bytes. The checks go from left to
+/// right, each as soon as its bytes are there: the version, the kind, the body's length, whether
+/// the body is whole, its fields, then the text of a definition. What follows the message isn't
+/// looked at.
 ///
 /// The length is at least 1 and at most that of `bytes`.
 ///
-/// `Short` says that there is no error so far and that more bytes are needed. `Memory` is returned only while the text of a
-/// definition is read, after the fields of a Promise with a vote, an Accept or a Chosen; it says nothing about that text. After
-/// any other error no further bytes make a message of them.
+/// `Short` says that there is no error so far and that more bytes are needed. `Memory` is returned
+/// only while the text of a definition is read, after the fields of a Promise with a vote, an
+/// Accept or a Chosen; it says nothing about that text. After any other error no further bytes make
+/// a message of them.
 pub fn decode(alloc: Global, bytes: &[u8]) -> Result<(Message, usize), DecodeFault>
-    // A returned message is at the front, and a message at the front is returned, except that allocation may fail for one with a
-    // definition.
+    // A returned message is at the front, and a message at the front is returned, except that
+    // allocation may fail for one with a definition.
     ensures read { IfOk result (λ x. BeginsWith bytes.now (view x.0) x.1) }
     ensures each { (m : _) (spelled after : _) → Spells m spelled → bytes.now ≡ spelled ++ after →
         IsReadAs view result m (length spelled) }
@@ -123,7 +125,8 @@ fn count_of(slot: Slot) -> usize
     }
 }
 
-/// A text behind its length, and the bytes after it; None if there is none. Whether it is canonical isn't checked.
+/// A text behind its length, and the bytes after it; None if there is none. Whether it is canonical
+/// isn't checked.
 #[tactic(auto, unfolding(wf_frame::specs::Report::front_text))]
 fn cut_text(bytes: &[u8]) -> Option<(&[u8], &[u8])>
     ensures { option_map (λ x. (x.0.now, x.1.now)) result ≡ front_text most_canon_bytes bytes.now }

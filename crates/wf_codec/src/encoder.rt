@@ -20,8 +20,8 @@ pub enum End<'a> {
     Votes(&'a [Option<(Ballot, Canon)>]),
 }
 
-/// Appends the message's encoding. The only error is allocation failure, if the vector's capacity doesn't suffice; the bytes are
-/// then unchanged.
+/// Appends the message's encoding. The only error is allocation failure, if the vector's capacity
+/// doesn't suffice; the bytes are then unchanged.
 pub fn encode(message: &Message, out: &mut Vec<u8>) -> Result<(), AllocError>
     ensures ok { OnOk result (out.new.items ≡ out.old.items ++ spelling (view message.now)) }
     ensures err { OnErr result (out.new.items ≡ out.old.items) }

@@ -10,7 +10,8 @@ use wf_ballot::{Ballot, NodeId, Slot, split_ballot, split_node, split_slot};
 use wf_canon::Canon;
 use wf_frame::{FieldBytes, put_ballot, put_node, put_slot};
 
-/// A message between nodes. It names no receiver, since the network may deliver any message to any node.
+/// A message between nodes. It names no receiver, since the network may deliver any message to any
+/// node.
 #[derive(Drop)]
 pub enum Message {
     /// A request to promise the ballot at the slot.
@@ -56,8 +57,8 @@ impl Message {
         })
     }
 
-    /// The byte of the message's kind, what its body ends with, and the number of bytes of that. The fields before that are
-    /// appended to `fields`, which is empty.
+    /// The byte of the message's kind, what its body ends with, and the number of bytes of that.
+    /// The fields before that are appended to `fields`, which is empty.
     #[tactic(auto, unfolding(wf_frame::specs::Row::row_bytes, wf_frame::specs::Report::report_bytes))]
     pub(crate) fn put_fields<'a>(&'a self, fields: &mut FieldBytes) -> (u8, End<'a>, usize)
         requires { fields.old.items ≡ [] }

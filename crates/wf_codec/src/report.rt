@@ -19,8 +19,8 @@ pub const MOST_VOTES: usize = 4;
 /// The votes of a report, in the order of their slots; None where there is no vote.
 pub type Votes = ArrayVec<Option<(Ballot, Canon)>, MOST_VOTES>;
 
-/// What a promise reports: the slot from which on it is made, and for that slot and the three after it, as far as there are slots,
-/// the vote there, or that there is none.
+/// What a promise reports: the slot from which on it is made, and for that slot and the three after
+/// it, as far as there are slots, the vote there, or that there is none.
 pub struct Report {
     slot: Slot,
     votes: Votes,

@@ -11,7 +11,8 @@ pub fn one_spelling()
     ensures { OneSpelling }
 {}
 
-/// No message's encoding is a prefix of another's. A theorem about the definitions: the call does nothing.
+/// No message's encoding is a prefix of another's. A theorem about the definitions: the call does
+/// nothing.
 pub fn none_begins_another()
     ensures { NoneBeginsAnother }
 {
@@ -19,12 +20,14 @@ pub fn none_begins_another()
     one_text_one_map();
 }
 
-/// A message's encoding has at least one byte. A theorem about the definitions: the call does nothing.
+/// A message's encoding has at least one byte. A theorem about the definitions: the call does
+/// nothing.
 pub fn no_spelling_is_empty()
     ensures { NoneIsEmpty }
 {}
 
-/// The longest body is that of a Promise with four votes for the longest texts. A theorem about the definitions: the call does nothing.
+/// The longest body is that of a Promise with four votes for the longest texts. A theorem about the
+/// definitions: the call does nothing.
 pub fn longest_body()
     ensures { IsLongestBody most_body_bytes }
 {}

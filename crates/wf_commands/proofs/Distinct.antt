@@ -1,4 +1,5 @@
--- No text is the listing of a file and of a folder: the one begins with an offset, the other with a letter.
+-- No text is the listing of a file and of a folder: the one begins with an offset, the other with a
+-- letter.
 use Rattle.std.proofs.Common.{◌≡◌, ◌∙◌, ◌++◌, ℕ, suc, Bool, true, false, List, [], ◌∷◌, inl, inr, ap, arith, subst, sym, refl}
 use Rattle.std.proofs.lemmas.Fmt.{decimal_digit}
 use Rattle.std.specs.Prelude.{◌⊎◌, Option, Some, None, decimal, length, slice_index_or, zero}

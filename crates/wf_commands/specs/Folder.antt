@@ -20,27 +20,30 @@ use Rattle.wf_commands.specs.declared.folder_state.FolderState.{FolderState}
 abbrev pub tape_line : ℕ → List ℕ
 tape_line number = codes "node-" ++ decimal number ++ codes ".tape\n"
 
--- The listing of a tape with these bytes was appended, after a line with its name: they are the content of its file, if that is known.
+-- The listing of a tape with these bytes was appended, after a line with its name: they are the
+-- content of its file, if that is known.
 pub record IsListingAppended (contents : Contents) (path : List ℕ) (number : ℕ) (bytes old new : List ℕ) : Type 0 where
   pub listing : List ℕ
   pub known : IfSome (contents.file (tape_path path number)) (λ known. bytes ≡ known)
   pub listed : IsListing bytes listing
   pub is : new ≡ old ++ (tape_line number ++ listing)
 
--- what a tape appends that is there, and one that isn't, and which tapes are listed before and after, the latest first
+-- what a tape appends that is there, and one that isn't, and which tapes are listed before and
+-- after, the latest first
 abbrev pub IsNextTape : Contents → List ℕ → ℕ → Bool → List NumberedTape → List NumberedTape → List ℕ → List ℕ → Type 0
 IsNextTape contents path number true before after old new = (bytes : List ℕ) × IsListingAppended contents path number bytes old new × (after ≡ (number, bytes) ∷ before)
 IsNextTape contents path number false before after old new = (new ≡ old) × (after ≡ before)
 
--- The text is the listings of exactly those of the first tapes that are there, in order: of these tapes, the latest first.
+-- The text is the listings of exactly those of the first tapes that are there, in order: of these
+-- tapes, the latest first.
 unfoldable pub AreListed : Contents → List ℕ → List Presence → ℕ → List NumberedTape → List ℕ → Type 0
 AreListed contents path tapes zero listed text = (listed ≡ []) × (text ≡ [])
 AreListed contents path tapes (suc number) listed text =
     (before : List NumberedTape) × (front : List ℕ) × AreListed contents path tapes number before front
     × IsNextTape contents path number (is_there (slice_index_or tapes number Absent)) before listed front text
 
--- The text is the listing of a folder with this in it: its tapes', and the one last line of what a start on it would do, by just these
--- tapes.
+-- The text is the listing of a folder with this in it: its tapes', and the one last line of what a
+-- start on it would do, by just these tapes.
 pub record IsFolderListing (contents : Contents) (path : List ℕ) (survey : Survey) (text : List ℕ) : Type 0 where
   pub owner : Option NodeFile
   pub known : IfSome (contents.owner path) (λ known. owner ≡ known)
@@ -57,12 +60,13 @@ pub record IsFolderListing (contents : Contents) (path : List ℕ) (survey : Sur
 abbrev pub HasFolderListing : Contents → List ℕ → Survey → (List ℕ → Type 0) → Type 0
 HasFolderListing contents path survey P = (text : List ℕ) × IsFolderListing contents path survey text × P text
 
--- What is written of a folder with this in it: its listing, or a prefix of it if the writer failed; nothing if a tape can't be read or
--- an allocation failed.
+-- What is written of a folder with this in it: its listing, or a prefix of it if the writer failed;
+-- nothing if a tape can't be read or an allocation failed.
 abbrev pub IsFolderListed : Contents → List ℕ → Survey → Option (List ℕ) → Option (List ℕ) → Result (Unit {0}) RunFault → Type 0
 IsFolderListed contents path survey old new result = IsTapeWriting (HasFolderListing contents path survey) (λ fault. Unit {0}) old new result
 
--- A folder is at the path: no file's content is known there, and what is in it is what is known. What is written of it.
+-- A folder is at the path: no file's content is known there, and what is in it is what is known.
+-- What is written of it.
 pub record IsFolderDone (contents : Contents) (path : List ℕ) (old new : Option (List ℕ)) (result : Result (Unit {0}) RunFault) : Type 0 where
   pub no_file : contents.file path ≡ None
   pub survey : Survey
@@ -70,8 +74,8 @@ pub record IsFolderDone (contents : Contents) (path : List ℕ) (old new : Optio
   pub known : IfSome (contents.folder path) (λ known. survey ≡ known)
   pub listed : IsFolderListed contents path survey old new result
 
--- What is written for `tape`: with a sequence the text of a map on the tape in the file; without one the tape's listing, or the
--- folder's, if the path may be one's.
+-- What is written for `tape`: with a sequence the text of a map on the tape in the file; without
+-- one the tape's listing, or the folder's, if the path may be one's.
 abbrev pub IsTapeDone : Contents → List ℕ → Option ℕ → Option (List ℕ) → Option (List ℕ) → Result (Unit {0}) RunFault → Type 0
 IsTapeDone contents path (Some sequence) old new result = IsMapWritten (contents.file path) sequence old new result
 IsTapeDone contents path None old new result = IsListed (contents.file path) old new result ⊎ IsFolderDone contents path old new result

@@ -52,8 +52,8 @@ unfoldable pub own_tapes : Option NodeFile → List NumberedTape → List Number
 own_tapes owner [] = []
 own_tapes owner (tape ∷ tapes) = if is_own owner tape.0 then tape ∷ own_tapes owner tapes else own_tapes owner tapes
 
--- The nodes of a farm start by what is in the folder, and the tapes are sound; or they don't by what is in it; or they would, and a tape is
--- why they don't.
+-- The nodes of a farm start by what is in the folder, and the tapes are sound; or they don't by
+-- what is in it; or they would, and a tape is why they don't.
 abbrev pub IsFarmState : Survey → List NumberedTape → FolderState → Type 0
 IsFarmState survey tapes (states.Farm nodes start) = IsStart nodes survey.found survey.tapes start × AreSound tapes
 IsFarmState survey tapes (states.Rejected cause) =

@@ -1,5 +1,5 @@
--- What a run of the program does: from the words of its command line and its standard input to what it reads and writes, the error
--- that it reports and its exit status.
+-- What a run of the program does: from the words of its command line and its standard input to what
+-- it reads and writes, the error that it reports and its exit status.
 use Rattle.std.specs.Prelude.{◌≡◌, ◌⊎◌, ℕ, Bool, true, false, List, [], Option, Result}
 use Rattle.std.specs.declared.io.ErrorKind.{ErrorKind as IoErrorKind}
 use Rattle.clap.specs.Simple.{subcommand_of}
@@ -35,8 +35,9 @@ use Rattle.wf_tape.specs.declared.tape.Tape.{Ghosts as Tape}
 abbrev pub Serves : Type 1
 Serves = Service → Option (List ℕ) → Option (List ℕ) → Result (Unit {0}) ServeFault → Type 0
 
--- The command of the line was run, with this result: a command about standard input reads and writes as such, `tape` writes about
--- the tapes at the line's path, and `serve` serves the line's service.
+-- The command of the line was run, with this result: a command about standard input reads and
+-- writes as such, `tape` writes about the tapes at the line's path, and `serve` serves the line's
+-- service.
 abbrev pub IsDone : Serves → Contents → Line → Option (List ℕ) → Option (List ℕ) → Option (List ℕ) → Result (Unit {0}) RunFault → Type 0
 IsDone serves contents (lines.Caps seq query) input old new result = IsOutcomeOf (lines.Caps seq query) input old new result
 IsDone serves contents (lines.Draw query) input old new result = IsOutcomeOf (lines.Draw query) input old new result
@@ -47,8 +48,8 @@ IsDone serves contents lines.Wire input old new result = IsOutcomeOf lines.Wire 
 IsDone serves contents (lines.Tape file map) input old new result = IsTapeDone contents file.now map old new result
 IsDone serves contents (lines.Serve service) input old new result = IsServing (serves service) old new result
 
--- The run of a line: by the input before and after, the output before and after, the counts of failed reads before and after, and
--- those of failed writes.
+-- The run of a line: by the input before and after, the output before and after, the counts of
+-- failed reads before and after, and those of failed writes.
 pub record IsRunOf (serves : Serves) (contents : Contents) (line : Line) (input left old new : Option (List ℕ)) (reads reads_after writes writes_after : ℕ) (ending : Ending) : Type 0 where
   -- the result of its command
   pub result : Result (Unit {0}) RunFault
@@ -71,7 +72,8 @@ IsRun serves contents words input left old new reads reads_after writes writes_a
 pub record HasRun (serves : Serves) (contents : Contents) (status : ℕ) : Type 0 where
   pub words : List Text
   pub other : names_process_command words ≡ false
-  -- the input before and after, the output before and after, if known, and the counts of failed reads and writes
+  -- the input before and after, the output before and after, if known, and the counts of failed
+  -- reads and writes
   pub input : Option (List ℕ)
   pub left : Option (List ℕ)
   pub old : Option (List ℕ)
@@ -84,7 +86,8 @@ pub record HasRun (serves : Serves) (contents : Contents) (status : ℕ) : Type 
   pub run : IsRun serves contents words input left old new reads reads_after writes writes_after ending
   pub is : status ≡ ending.status
 
--- Its words ask for no line, and it ended with the status of their rejection, by whether its text was printed.
+-- Its words ask for no line, and it ended with the status of their rejection, by whether its text
+-- was printed.
 pub record WasRejected (status : ℕ) : Type 0 where
   pub words : List Text
   pub kind : ErrorKind
@@ -99,7 +102,8 @@ pub record WasUnreadable (status : ℕ) : Type 0 where
 
 -- ---- a process of a farm
 
--- It ran the command about a node that its words ask for, by these calls of its folder, and ended with its status.
+-- It ran the command about a node that its words ask for, by these calls of its folder, and ended
+-- with its status.
 pub record HasRunNode {T : Type 0} (tapes : Tape T) (status : ℕ) : Type 0 where
   pub words : List Text
   pub own : names_process_command words ≡ true
@@ -110,7 +114,8 @@ pub record HasRunNode {T : Type 0} (tapes : Tape T) (status : ℕ) : Type 0 wher
   pub done : nodes.IsCommandDone tapes command [] calls result
   pub is : status ≡ nodes.command_status result
 
--- It served the replica that its words ask for, by these calls of its folder, and ended with its status.
+-- It served the replica that its words ask for, by these calls of its folder, and ended with its
+-- status.
 pub record HasRunReplica {T : Type 0} (tapes : Tape T) (status : ℕ) : Type 0 where
   pub words : List Text
   pub own : names_process_command words ≡ true

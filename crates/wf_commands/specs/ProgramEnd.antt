@@ -37,7 +37,8 @@ abbrev pub left_to_report : Line → Option RunFault → Option RunFault
 left_to_report line None = None
 left_to_report line (Some fault) = if is_written line fault then None else Some fault
 
--- The exit status if no command was run, by whether the text was printed: help and the version aren't errors.
+-- The exit status if no command was run, by whether the text was printed: help and the version
+-- aren't errors.
 abbrev pub rejection_status : ErrorKind → Bool → ℕ
 rejection_status OutOfMemory printed = 1
 rejection_status DisplayHelp true = 0
@@ -46,7 +47,8 @@ rejection_status DisplayVersion true = 0
 rejection_status DisplayVersion false = 1
 rejection_status _ printed = 2
 
--- the exit status if the command line can't be read: arguments that aren't UTF-8 are a bad command line
+-- the exit status if the command line can't be read: arguments that aren't UTF-8 are a bad command
+-- line
 abbrev pub unreadable_status : IoErrorKind → ℕ
 unreadable_status io.InvalidData = 2
 unreadable_status _ = 1

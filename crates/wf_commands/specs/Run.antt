@@ -41,8 +41,8 @@ most_input_bytes = longest_mapfile + 1
 abbrev pub most_checked_bytes : ℕ
 most_checked_bytes = 16_777_217
 
--- the most bytes of standard input that each command reads: of a script, the longest script's length plus one; none for `tape` and
--- `serve`
+-- the most bytes of standard input that each command reads: of a script, the longest script's
+-- length plus one; none for `tape` and `serve`
 abbrev pub most_read : Line → ℕ
 most_read (lines.Caps seq query) = most_input_bytes
 most_read (lines.Draw query) = most_input_bytes
@@ -91,7 +91,8 @@ IsMapFault bytes faults.Write = ⊥
 IsMapFault bytes faults.Serve = ⊥
 IsMapFault bytes faults.Wire = ⊥
 
--- why an input gives no definition: a map error is returned only if the input means none, unless an allocation failed
+-- why an input gives no definition: a map error is returned only if the input means none, unless an
+-- allocation failed
 abbrev pub IsReadingFault : Option (List ℕ) → RunFault → Type 0
 IsReadingFault input (faults.Map fault) = is_memory fault ≡ false → OfInput MeansNothing input
 IsReadingFault input faults.Read = Unit {0}
@@ -106,7 +107,8 @@ IsReadingFault input faults.Wire = ⊥
 abbrev pub AppendsPart : Option (List ℕ) → Option (List ℕ) → List ℕ → Type 0
 AppendsPart old new bytes = (count : ℕ) × Appends old new (take count bytes)
 
--- What is written of an output: all of it; a prefix if the writer failed; nothing if the output can't be made.
+-- What is written of an output: all of it; a prefix if the writer failed; nothing if the output
+-- can't be made.
 abbrev pub IsWriting : List ℕ → (CanonFault → Type 0) → Option (List ℕ) → Option (List ℕ) → Result (Unit {0}) RunFault → Type 0
 IsWriting bytes rejects old new (Ok done) = Appends old new bytes
 IsWriting bytes rejects old new (Err faults.Write) = AppendsPart old new bytes
@@ -118,7 +120,8 @@ IsWriting bytes rejects old new (Err (faults.Tape fault)) = ⊥
 IsWriting bytes rejects old new (Err faults.Serve) = ⊥
 IsWriting bytes rejects old new (Err faults.Wire) = ⊥
 
--- What is written of one of these outputs: all of it; a prefix if the writer failed; nothing if an allocation failed before.
+-- What is written of one of these outputs: all of it; a prefix if the writer failed; nothing if an
+-- allocation failed before.
 abbrev pub IsWritingOf : (List ℕ → Type 0) → Option (List ℕ) → Option (List ℕ) → Result (Unit {0}) RunFault → Type 0
 IsWritingOf IsOutput old new (Ok done) = (bytes : List ℕ) × IsOutput bytes × Appends old new bytes
 IsWritingOf IsOutput old new (Err faults.Write) = (bytes : List ℕ) × IsOutput bytes × AppendsPart old new bytes
@@ -130,8 +133,8 @@ IsWritingOf IsOutput old new (Err (faults.Script fault)) = ⊥
 IsWritingOf IsOutput old new (Err faults.Serve) = ⊥
 IsWritingOf IsOutput old new (Err faults.Wire) = ⊥
 
--- What a run writes about the definition that the input means: a whole output of the definition, or a prefix of one if the writer
--- failed. With any other error nothing is written.
+-- What a run writes about the definition that the input means: a whole output of the definition, or
+-- a prefix of one if the writer failed. With any other error nothing is written.
 abbrev pub IsOutcome : (Definition → List ℕ → Type 0) → (CanonFault → Definition → Type 0) → Option (List ℕ) → Option (List ℕ) → Option (List ℕ)
     → Result (Unit {0}) RunFault → Type 0
 IsOutcome HasOutput rejects input old new (Ok done) = MeansOne (λ d. (bytes : List ℕ) × HasOutput d bytes × Appends old new bytes) input
@@ -158,11 +161,12 @@ IsCanonical d bytes = bytes ≡ canon d
 abbrev pub IsPreview : List ℕ → Definition → List ℕ → Type 0
 IsPreview query d bytes = (answer : AnswerValue) × IsAnswerOf 1 (d ∷ []) query answer × (bytes ≡ answer.bytes)
 
--- What is written for a script: nothing if it can't be read or isn't one. An error of the script, unless an allocation failed, is
--- the input's, with its line. If it is played to its end, to a failed write or to a message that is lost on its way, the whole
--- input was read; if the input is known, it is a script. If it is played to its end, each of its orders was performed in turn on a new
--- farm, and what they write was written; before an error a beginning of that, in the words of `WritesBeginning`. `loses` is whether
--- a message may be lost.
+-- What is written for a script: nothing if it can't be read or isn't one. An error of the script,
+-- unless an allocation failed, is the input's, with its line. If it is played to its end, to a
+-- failed write or to a message that is lost on its way, the whole input was read; if the input is
+-- known, it is a script. If it is played to its end, each of its orders was performed in turn on a
+-- new farm, and what they write was written; before an error a beginning of that, in the words of
+-- `WritesBeginning`. `loses` is whether a message may be lost.
 abbrev pub IsPlayed : Type 0 → Option (List ℕ) → Option (List ℕ) → Option (List ℕ) → Result (Unit {0}) RunFault → Type 0
 IsPlayed loses input old new (Ok done) = IfSome input IsScriptText × PlaysInput input old new
 IsPlayed loses input old new (Err faults.Write) = IfSome input IsScriptText × WritesBeginning input old new plays.Write
@@ -197,8 +201,9 @@ HasReport format bytes fault P = (text : List ℕ) × IsReportOf (IsReportIn for
 abbrev pub HasReportIn : Format → Option (List ℕ) → CheckFault → (List ℕ → Type 0) → Type 0
 HasReportIn format input fault P = (text : List ℕ) × IfSome input (λ known. IsReportOf (IsReportIn format) (checked known) fault text) × P text
 
--- What `check` writes: nothing if the input is a map that a farm publishes; else the report, in a format, of a finding whose error is that of
--- the run, or a prefix of it if the writer failed. Nothing if a read or an allocation failed.
+-- What `check` writes: nothing if the input is a map that a farm publishes; else the report, in a
+-- format, of a finding whose error is that of the run, or a prefix of it if the writer failed.
+-- Nothing if a read or an allocation failed.
 abbrev pub IsChecked : Format → Option (List ℕ) → Option (List ℕ) → Option (List ℕ) → Result (Unit {0}) RunFault → Type 0
 IsChecked format input old new (Ok done) = IfSome input IsPublishable × Keeps old new
 IsChecked format input old new (Err (faults.Map fault)) =
@@ -224,14 +229,16 @@ IsCheckOf format bytes old new (Err (faults.Tape fault)) = ⊥
 IsCheckOf format bytes old new (Err faults.Serve) = ⊥
 IsCheckOf format bytes old new (Err faults.Wire) = ⊥
 
--- what is written of a finding: its report, and its error is returned; a prefix of the report; nothing if an allocation failed
+-- what is written of a finding: its report, and its error is returned; a prefix of the report;
+-- nothing if an allocation failed
 abbrev pub IsFindingWritten : Format → Finding → Option (List ℕ) → Option (List ℕ) → Result (Unit {0}) RunFault → Type 0
 IsFindingWritten format finding old new result =
     ((text : List ℕ) × IsReportIn format finding text
     × (((result ≡ Err (fault_of finding.fault)) × Appends old new text) ⊎ ((result ≡ Err faults.Write) × AppendsPart old new text)))
     ⊎ ((fault : MapFault) × (result ≡ Err (faults.Map fault)) × (is_memory fault ≡ true) × Keeps old new)
 
--- What is written about a tape: the whole of an output, or a prefix of it if the writer failed; nothing if there is none, for its cause.
+-- What is written about a tape: the whole of an output, or a prefix of it if the writer failed;
+-- nothing if there is none, for its cause.
 abbrev pub IsTapeWriting : ((List ℕ → Type 0) → Type 0) → (TapeReadFault → Type 0) → Option (List ℕ) → Option (List ℕ) → Result (Unit {0}) RunFault → Type 0
 IsTapeWriting HasOutput why old new (Ok done) = HasOutput (λ text. Appends old new text)
 IsTapeWriting HasOutput why old new (Err faults.Write) = HasOutput (λ text. AppendsPart old new text)
@@ -247,17 +254,20 @@ IsTapeWriting HasOutput why old new (Err faults.Wire) = ⊥
 abbrev pub HasListing : Option (List ℕ) → (List ℕ → Type 0) → Type 0
 HasListing content P = (bytes text : List ℕ) × IfSome content (λ known. bytes ≡ known) × IsListing bytes text × P text
 
--- why a tape isn't listed: its file can't be read, if its content is known only since it is too long; or an allocation failed
+-- why a tape isn't listed: its file can't be read, if its content is known only since it is too
+-- long; or an allocation failed
 abbrev pub IsWhyListless : Option (List ℕ) → TapeReadFault → Type 0
 IsWhyListless content tapes.Failed = IfSome content (λ known. most_tape_bytes < length known)
 IsWhyListless content tapes.Memory = Unit {0}
 IsWhyListless content tapes.NoMap = ⊥
 
--- What is written of a tape in a file: the listing of its bytes, which are the file's content, if that is known.
+-- What is written of a tape in a file: the listing of its bytes, which are the file's content, if
+-- that is known.
 abbrev pub IsListed : Option (List ℕ) → Option (List ℕ) → Option (List ℕ) → Result (Unit {0}) RunFault → Type 0
 IsListed content old new result = IsTapeWriting (HasListing content) (IsWhyListless content) old new result
 
--- P holds of the text of the map that some bytes have as published under a sequence, those of the file if they are known
+-- P holds of the text of the map that some bytes have as published under a sequence, those of the
+-- file if they are known
 abbrev pub HasMap : Option (List ℕ) → ℕ → (List ℕ → Type 0) → Type 0
 HasMap content sequence P = (bytes : List ℕ) × ((text : Vec ℕ Global) × IfSome content (λ known. bytes ≡ known) × IsMapTextAt bytes sequence (Some text) × P text.items)
 

@@ -17,8 +17,8 @@ run_outcome (Ok done) = Ok done
 run_outcome (Err serving.Start) = Err faults.Serve
 run_outcome (Err serving.Write) = Err faults.Write
 
--- The nodes were served, by the program's result. `serves` is what that means for the bytes written before and after, and the
--- server's result.
+-- The nodes were served, by the program's result. `serves` is what that means for the bytes written
+-- before and after, and the server's result.
 abbrev pub IsServing : (Option (List ℕ) → Option (List ℕ) → Result (Unit {0}) ServeFault → Type 0) → Option (List ℕ) → Option (List ℕ)
     → Result (Unit {0}) RunFault → Type 0
 IsServing serves old new (Ok done) = serves old new (Ok done)
@@ -42,7 +42,8 @@ IsOfService (lines.Tape file map) = ⊥
 IsOfService lines.Run = ⊥
 IsOfService lines.Wire = ⊥
 
--- The nodes of a `serve` line were served, by the program's result. `serves` is what that means of a service.
+-- The nodes of a `serve` line were served, by the program's result. `serves` is what that means of
+-- a service.
 abbrev pub IsLineServed : (Service → Option (List ℕ) → Option (List ℕ) → Result (Unit {0}) ServeFault → Type 0) → Line → Option (List ℕ) → Option (List ℕ)
     → Result (Unit {0}) RunFault → Type 0
 IsLineServed serves (lines.Serve service) old new result = IsServing (serves service) old new result
@@ -54,8 +55,9 @@ IsLineServed serves (lines.Tape file map) old new result = ⊥
 IsLineServed serves lines.Run old new result = ⊥
 IsLineServed serves lines.Wire old new result = ⊥
 
--- What the machine's serving of a service is, on tapes in memory and in files: the line with the port is written, or a prefix of it; and
--- if the nodes were served, these are as many as the service has, and they served its number of connections, as `HasServed` says.
+-- What the machine's serving of a service is, on tapes in memory and in files: the line with the
+-- port is written, or a prefix of it; and if the nodes were served, these are as many as the
+-- service has, and they served its number of connections, as `HasServed` says.
 pub record IsMachineServing {M F : Type 0} (inside : Tape M) (outside : Tape F) (service : Service) (old new : Option (List ℕ)) (result : Result (Unit {0}) ServeFault) : Type 0 where
   pub reported_as : IsPrinted service.port old new result
   pub served : OnOk result (HasServed inside outside service)

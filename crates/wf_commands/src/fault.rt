@@ -26,7 +26,8 @@ pub enum RunFault {
     /// The writer failed; a prefix may be written.
     #[error("write fault")]
     Write,
-    /// A message didn't cross the connection, or couldn't be cut off; what the orders before it write is written.
+    /// A message didn't cross the connection, or couldn't be cut off; what the orders before it
+    /// write is written.
     #[error("wire fault")]
     Wire,
     /// No node is served: a tape doesn't open, the port isn't free, or an allocation failed.

@@ -17,8 +17,9 @@ use wf_listing::{TapeReadFault, list};
 use wf_serve::{Cause, StartFault, Survey, TapeCheck};
 use wf_stream::{Sink, write_all};
 
-/// Writes the listing of the tapes in the folder at a path with this in it: each tape's, after a line with its name, and a line that
-/// says whether the nodes of its farm would start on it. Nothing is written if a tape can't be read or an allocation fails.
+/// Writes the listing of the tapes in the folder at a path with this in it: each tape's, after a
+/// line with its name, and a line that says whether the nodes of its farm would start on it.
+/// Nothing is written if a tape can't be read or an allocation fails.
 #[tactic(auto, using(crate::proofs::Folders::folder_whole, crate::proofs::Folders::folder_in_part, crate::proofs::Folders::folder_unread, crate::proofs::Last::none_failed, crate::proofs::Last::one_failed))]
 pub(crate) fn run_folder<K: Sink, V: Tapes>(
     alloc: Global,
@@ -95,7 +96,8 @@ fn push_all<V: Tapes>(
     }
 }
 
-/// Appends the listing of each tape that is there. Returns the check of those that have to be sound, by the file of the folder's owner.
+/// Appends the listing of each tape that is there. Returns the check of those that have to be
+/// sound, by the file of the folder's owner.
 fn push_tapes<V: Tapes>(
     alloc: Global,
     text: &mut String,

@@ -1,4 +1,5 @@
-//! What a start on a folder would do, by what is in it, whose it is, and whether its tapes are sound.
+//! What a start on a folder would do, by what is in it, whose it is, and whether its tapes are
+//! sound.
 ghost use Rattle.std.specs.Prelude.{◌≡◌, List, IfSome, length};
 ghost use Rattle.wf_commands.specs.FolderEnd.{IsFarmState, IsNodeState, IsStateOf};
 ghost use Rattle.wf_folder.specs.NodeFile.{IsNodeFile};
@@ -8,8 +9,8 @@ use crate::folder_state::FolderState;
 use wf_folder::{NodeFile, NodeFound, admit_node};
 use wf_serve::{Cause, Survey, examine};
 
-/// What a start on a folder with this in it would do: one of the node with the owner's file, or one of the nodes of a farm. The cause
-/// is why its tapes aren't sound.
+/// What a start on a folder with this in it would do: one of the node with the owner's file, or one
+/// of the nodes of a farm. The cause is why its tapes aren't sound.
 #[tactic(auto, using(crate::proofs::FolderStart::of_farm, crate::proofs::FolderStart::of_node))]
 pub(crate) fn state_of(
     survey: &Survey,
@@ -43,8 +44,9 @@ fn state_of_farm(survey: &Survey, cause: Option<Cause>) -> FolderState
     }
 }
 
-/// What a start of the node with this file would do on its folder. Zeros that a power cut left behind the tape's records are bad here,
-/// although a start drops them; what was heard of peers isn't read.
+/// What a start of the node with this file would do on its folder. Zeros that a power cut left
+/// behind the tape's records are bad here, although a start drops them; what was heard of peers
+/// isn't read.
 #[tactic(auto, using(crate::proofs::FolderStart::node_starts, crate::proofs::FolderStart::node_with_cause, crate::proofs::FolderStart::node_rejected))]
 fn state_of_node(survey: &Survey, file: &NodeFile, cause: Option<Cause>) -> FolderState
     requires size { length survey.now.tapes ≡ 64 }

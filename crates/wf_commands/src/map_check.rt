@@ -17,8 +17,8 @@ use wf_stream::{Sink, Source};
 /// The most bytes read of an input that is checked: as many as are counted, plus one.
 pub const MOST_CHECKED_BYTES: usize = MOST_COUNTED_BYTES + 1;
 
-/// Reads a mapfile to its end, or [`MOST_CHECKED_BYTES`], and writes a report of its first error in a format; nothing if a farm
-/// publishes its map. Err: also the error that the report is of.
+/// Reads a mapfile to its end, or [`MOST_CHECKED_BYTES`], and writes a report of its first error in
+/// a format; nothing if a farm publishes its map. Err: also the error that the report is of.
 #[tactic(auto, using(crate::proofs::Checked::check_known, crate::proofs::Checked::check_reads, crate::proofs::Checked::unread, crate::proofs::Checked::unread_writes, crate::proofs::Last::none_failed))]
 pub fn run_check<S: Source, K: Sink>(
     alloc: Global,

@@ -42,8 +42,8 @@ use wf_tape::{FileTape, MemoryTape, Tape};
 /// How a run ended, after all of its output.
 #[derive(Clone, Copy)]
 pub struct Ending {
-    /// The error whose text is the one line on standard error. None after a success, after a failed write, and after a report of
-    /// `check`.
+    /// The error whose text is the one line on standard error. None after a success, after a failed
+    /// write, and after a report of `check`.
     pub reported: Option<RunFault>,
     /// The exit status: 0 for success, 1 for an error, also for a failed write.
     pub status: u8,
@@ -66,7 +66,8 @@ fn serve_result(outcome: Result<(), ServeFault>) -> Result<(), RunFault>
     }
 }
 
-/// Runs a `serve` line: the server serves the nodes of its service, and writes the line with their port. [`run_words`] runs any line.
+/// Runs a `serve` line: the server serves the nodes of its service, and writes the line with their
+/// port. [`run_words`] runs any line.
 #[tactic(auto, using(crate::proofs::Ended::line_served, crate::proofs::Ended::outcome_counts))]
 pub fn run_serve<K: Sink, V: NodeServer>(
     server: &V,
@@ -86,7 +87,8 @@ pub fn run_serve<K: Sink, V: NodeServer>(
     }
 }
 
-// How a run with this result ends: the text of a failed write isn't printed, since what failed may be the terminal.
+// How a run with this result ends: the text of a failed write isn't printed, since what failed may
+// be the terminal.
 fn ending_of(outcome: Result<(), RunFault>) -> Ending
     ensures reported_as { result.reported ≡ reported outcome }
     ensures status { result.status ≡ run_status outcome }
@@ -152,13 +154,14 @@ fn end(line: Line<'_>, outcome: Result<(), RunFault>) -> Ending
     report_once(line, ending_of(outcome))
 }
 
-/// Runs the words of a command line, without the program's name: the command of the line that they ask for. A command about standard
-/// input goes between the reader and the writer, with the messages of `wire` by the carrier; `tape` reads the files that the server
-/// has, and `serve` is the server's, whose line goes to the writer. Returns the error whose text is the line on standard error, and the exit
-/// status.
+/// Runs the words of a command line, without the program's name: the command of the line that they
+/// ask for. A command about standard input goes between the reader and the writer, with the
+/// messages of `wire` by the carrier; `tape` reads the files that the server has, and `serve` is
+/// the server's, whose line goes to the writer. Returns the error whose text is the line on
+/// standard error, and the exit status.
 ///
-/// Err: no command was run, and nothing was read or written. The error's text is for the user: it is help or the version, if the
-/// words ask for these.
+/// Err: no command was run, and nothing was read or written. The error's text is for the user: it
+/// is help or the version, if the words ask for these.
 #[tactic(auto, using(crate::proofs::Last::none_failed, crate::proofs::Ended::run_ended, crate::proofs::Ended::listing_ended))]
 pub fn run_words<'a, S: AsStr, I: Source, K: Sink, V: NodeServer + Tapes, C: Carrier>(
     alloc: Global,
@@ -210,7 +213,8 @@ fn report<R: Eprint>(rt: &R, ending: Ending) -> ExitCode
     ExitCode::from(ending.status)
 }
 
-// The exit status if the command line can't be read: arguments that aren't UTF-8 are a bad command line.
+// The exit status if the command line can't be read: arguments that aren't UTF-8 are a bad command
+// line.
 fn unreadable<R: Eprint>(rt: &R, error: &io::Error) -> ExitCode
     ensures { exit_status result ≡ unreadable_status (error_kind error.now) }
 {
@@ -221,8 +225,9 @@ fn unreadable<R: Eprint>(rt: &R, error: &io::Error) -> ExitCode
     ExitCode::from(BAD_COMMAND_LINE)
 }
 
-/// The exit status if no command was run, by the kind of error and whether its text was printed: 0 for help and the version, 1
-/// for an allocation failure, or if the text couldn't be printed, 2 for a bad command line.
+/// The exit status if no command was run, by the kind of error and whether its text was printed: 0
+/// for help and the version, 1 for an allocation failure, or if the text couldn't be printed, 2 for
+/// a bad command line.
 pub fn rejection_status(kind: ErrorKind, printed: bool) -> u8
     ensures { result ≡ rejection_status kind printed }
 {
@@ -233,7 +238,8 @@ pub fn rejection_status(kind: ErrorKind, printed: bool) -> u8
     }
 }
 
-// Prints clap's text for a rejected command line, or help or the version, and returns the exit status.
+// Prints clap's text for a rejected command line, or help or the version, and returns the exit
+// status.
 fn rejection<R: Print + Eprint>(rt: &R, error: &clap::Error) -> ExitCode
     ensures { (printed : Bool) ×
         (exit_status result ≡ rejection_status (kind_of error.now) printed) }
@@ -250,7 +256,8 @@ fn words<R: Env + AllocGlobal>(rt: &R) -> io::Result<Vec<String>> {
     Ok(env::args(rt)?.skip(1).collect(rt.alloc())?)
 }
 
-// Prints the line of an error of a command about a node, if there is one, and returns the exit status.
+// Prints the line of an error of a command about a node, if there is one, and returns the exit
+// status.
 fn report_node<R: Eprint>(rt: &R, outcome: Result<(), CommandFault>) -> ExitCode
     ensures status { exit_status result ≡ command_status outcome }
     ensures low { exit_status result ≤ 2 }
@@ -318,10 +325,12 @@ fn run_farm<'a, S: AsStr, R: Files<File = File> + Clock + Print + Eprint + Net +
     }
 }
 
-/// Runs the command line, as by [`run_words`] with the words of the process, its standard input and output, the machine as server,
-/// and a connection of the machine to itself as carrier; or a command about a process of a farm, as by [`wf_node_command::run`] or
-/// [`wf_replica_command::run`] with as many turns as there can be. Returns the exit status: 0 for success; 1 for an error, with one
-/// line on standard error, except for a failed write; 2 for a bad command line, with a line or the parser's text there.
+/// Runs the command line, as by [`run_words`] with the words of the process, its standard input and
+/// output, the machine as server, and a connection of the machine to itself as carrier; or a
+/// command about a process of a farm, as by [`wf_node_command::run`] or [`wf_replica_command::run`]
+/// with as many turns as there can be. Returns the exit status: 0 for success; 1 for an error, with
+/// one line on standard error, except for a failed write; 2 for a bad command line, with a line or
+/// the parser's text there.
 #[tactic(auto, using(crate::proofs::Ended::process_run, crate::proofs::Ended::process_rejected, crate::proofs::Ended::process_unreadable, crate::proofs::Ended::process_of_farm))]
 pub fn run_process<
     'a,
@@ -335,8 +344,8 @@ pub fn run_process<
         + AllocGlobal,
 >(rt: &'a R) -> ExitCode
     ensures low { exit_status result ≤ 2 }
-    // What the process did: of `serve` what was served, by nodes on tapes in memory or in files; of `node` how its node lived; of `replica`
-    // what it heard, and whom it answered what.
+    // What the process did: of `serve` what was served, by nodes on tapes in memory or in files; of
+    // `node` how its node lived; of `replica` what it heard, and whom it answered what.
     ensures ended { IsProcess (λ service old new outcome. IsMachineServing ⟦<MemoryTape as Tape>⟧
         ⟦<FileTape<&'a R> as Tape>⟧ service old new outcome) nothing_known
         ⟦<FileTape<&'a R> as Tape>⟧ (exit_status result) }

@@ -160,8 +160,8 @@ fn write_canonical<K: Sink>(alloc: Global, map: &MapDef, sink: &mut K) -> Result
     }
 }
 
-/// Reads a mapfile to its end, or to the byte that makes it too long, and writes the answer to a query about its map at update
-/// sequence `seq`.
+/// Reads a mapfile to its end, or to the byte that makes it too long, and writes the answer to a
+/// query about its map at update sequence `seq`.
 #[tactic(auto, using(crate::proofs::Outcome::written_outcome, crate::proofs::Outcome::fault_outcome, crate::proofs::Outcome::no_more_reads, crate::proofs::Outcome::no_writes_yet, crate::proofs::Last::none_failed))]
 pub fn run_caps<S: Source, K: Sink>(
     alloc: Global,
@@ -188,8 +188,8 @@ pub fn run_caps<S: Source, K: Sink>(
     }
 }
 
-/// Reads a mapfile to its end, or to the byte that makes it too long, and writes the answer to a query of a server that has
-/// published only its map, at update sequence 1: a preview.
+/// Reads a mapfile to its end, or to the byte that makes it too long, and writes the answer to a
+/// query of a server that has published only its map, at update sequence 1: a preview.
 #[tactic(auto, using(crate::proofs::Outcome::one_written_outcome, crate::proofs::Outcome::fault_outcome, crate::proofs::Outcome::no_more_reads_of_one, crate::proofs::Outcome::no_writes_yet, crate::proofs::Last::none_failed))]
 pub fn run_draw<S: Source, K: Sink>(
     alloc: Global,
@@ -214,7 +214,8 @@ pub fn run_draw<S: Source, K: Sink>(
     }
 }
 
-/// Reads a mapfile to its end, or to the byte that makes it too long, and writes its canonical text.
+/// Reads a mapfile to its end, or to the byte that makes it too long, and writes its canonical
+/// text.
 #[tactic(auto, using(crate::proofs::Outcome::written_outcome, crate::proofs::Outcome::fault_outcome, crate::proofs::Outcome::no_more_reads, crate::proofs::Outcome::no_writes_yet, crate::proofs::Last::none_failed))]
 pub fn run_canon<S: Source, K: Sink>(
     alloc: Global,
@@ -238,8 +239,9 @@ pub fn run_canon<S: Source, K: Sink>(
     }
 }
 
-/// Reads a script to its end, or to the byte that makes it too long, and plays it on a farm in memory. The contracts of `wf_play`
-/// define what its orders do and write. No message is lost on its way: each is copied to its node.
+/// Reads a script to its end, or to the byte that makes it too long, and plays it on a farm in
+/// memory. The contracts of `wf_play` define what its orders do and write. No message is lost on
+/// its way: each is copied to its node.
 pub fn run_script<S: Source, K: Sink>(
     alloc: Global,
     source: &mut S,
@@ -258,8 +260,9 @@ pub fn run_script<S: Source, K: Sink>(
     play_script(alloc, &mut copies, source, sink)
 }
 
-/// Plays a script whose messages the carrier brings to their nodes: what the script does and writes is what [`run_script`] does
-/// and writes. Err: also `Wire` where the carrier failed, or brought another message; then what the orders before write is written.
+/// Plays a script whose messages the carrier brings to their nodes: what the script does and writes
+/// is what [`run_script`] does and writes. Err: also `Wire` where the carrier failed, or brought
+/// another message; then what the orders before write is written.
 pub fn wire_script<S: Source, K: Sink, C: Carrier>(
     alloc: Global,
     carrier: &mut C,
@@ -304,7 +307,8 @@ fn play_script<S: Source, K: Sink, C: Carrier>(
     }
 }
 
-/// Runs a command about standard input; the messages of `wire` come by the carrier. [`crate::program::run_words`] runs any.
+/// Runs a command about standard input; the messages of `wire` come by the carrier.
+/// [`crate::program::run_words`] runs any.
 pub fn run_line<S: Source, K: Sink, C: Carrier>(
     alloc: Global,
     line: Line<'_>,
@@ -314,7 +318,8 @@ pub fn run_line<S: Source, K: Sink, C: Carrier>(
 ) -> Result<(), RunFault>
     requires range { IsInRange line }
     requires input { IsOfInput line }
-    // For a mapfile: exactly the command's output for the definition that the input means is written.
+    // For a mapfile: exactly the command's output for the definition that the input means is
+    // written.
     ensures outcome { IsOutcomeOf line.entry (S.left source.old) (K.written sink.old)
         (K.written sink.new) result }
     ensures most { TakesUpTo (most_read line.entry) (S.left source.old) (S.left source.new) }

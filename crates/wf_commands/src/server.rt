@@ -17,7 +17,8 @@ use wf_tape::{FileTape, MemoryTape, Tape};
 
 /// What serves nodes: the machine, or in a test what stands for it.
 pub trait NodeServer {
-    /// What it means that this server serves a service: by the bytes written before and after, if known, and the result.
+    /// What it means that this server serves a service: by the bytes written before and after, if
+    /// known, and the result.
     ghost serves: { Self → Service → Option (List ℕ) → Option (List ℕ) → Result (Unit {0}) ServeFault → Type 0 };
 
     /// Serves the nodes of a service, and writes the line with their port.
@@ -33,8 +34,8 @@ pub trait NodeServer {
 #[derive(Drop)]
 pub struct Host<'a, R>(pub &'a R);
 
-/// Serves by [`wf_serve::serve`], which writes the line `listening P`: P is the service's port, or if that is 0 one chosen by the
-/// system.
+/// Serves by [`wf_serve::serve`], which writes the line `listening P`: P is the service's port, or
+/// if that is 0 one chosen by the system.
 impl<
     'a,
     R: Files<File = File>

@@ -28,8 +28,8 @@ pub trait Tapes {
     /// The files and folders, as far as they are known.
     ghost content: { Self → Contents };
 
-    /// Reads the file at a path to its end, and changes nothing. Returns `Failed` if it can't be read or is longer than the longest
-    /// tape, `Memory` if an allocation fails.
+    /// Reads the file at a path to its end, and changes nothing. Returns `Failed` if it can't be
+    /// read or is longer than the longest tape, `Memory` if an allocation fails.
     fn read(&self, alloc: Global, path: &str) -> Result<Vec<u8>, TapeReadFault>
         ensures whole { IfOk result
             (λ bytes. IfSome ((content self.now).file path.now) (λ known. bytes.items ≡ known)) }
@@ -44,13 +44,15 @@ pub trait Tapes {
         ensures known { IfSome result (λ survey.
             IfSome ((content self.now).folder path.now) (λ known. survey ≡ known)) };
 
-    /// The file `farm` of the folder at a path, if that is the file of a node that has the folder for itself.
+    /// The file `farm` of the folder at a path, if that is the file of a node that has the folder
+    /// for itself.
     fn owner(&self, path: &str) -> Option<NodeFile>
         ensures file { IfSome result IsNodeFile }
         ensures known { IfSome ((content self.now).owner path.now) (λ known. result ≡ known) };
 }
 
-/// Reads the machine's files, whose content is in no contract. The files are opened to be read and for nothing else.
+/// Reads the machine's files, whose content is in no contract. The files are opened to be read and
+/// for nothing else.
 impl<'a, R: Files<File = File> + AllocGlobal> Tapes for Host<'a, R> {
     ghost content = { λ _. nothing_known };
 
@@ -106,9 +108,9 @@ fn is_folder<R: Files>(rt: &R, path: &str) -> bool {
     }
 }
 
-/// Writes the listing of the tape in the file at a path, or of the tapes in the folder at it; or the text of the map that the tape in
-/// the file has as published under a sequence. Nothing is written if a file can't be read, an allocation fails or there is no
-/// such map.
+/// Writes the listing of the tape in the file at a path, or of the tapes in the folder at it; or
+/// the text of the map that the tape in the file has as published under a sequence. Nothing is
+/// written if a file can't be read, an allocation fails or there is no such map.
 pub fn run_tape<K: Sink, V: Tapes>(
     alloc: Global,
     path: &str,
@@ -187,7 +189,8 @@ fn write_listing<K: Sink>(alloc: Global, bytes: &[u8], sink: &mut K) -> Result<(
     }
 }
 
-/// Writes the text of the map that the tape in the file at a path has as published under a sequence.
+/// Writes the text of the map that the tape in the file at a path has as published under a
+/// sequence.
 #[tactic(auto, using(crate::proofs::Listed::known_written, crate::proofs::Listed::map_unread, crate::proofs::Last::none_failed))]
 fn run_map<K: Sink, V: Tapes>(
     alloc: Global,

@@ -9,14 +9,16 @@ use Rattle.wf_def.specs.declared.choice.Projection.{Projection}
 use Rattle.wf_def.specs.declared.choice.Projection.TheVariants.{Epsg4326}
 use Rattle.wf_def.specs.declared.choice.LayerKind.{LayerKind}
 
--- how a feature and its label are drawn: plain values, so the declared types are their own definitions
+-- how a feature and its label are drawn: plain values, so the declared types are their own
+-- definitions
 abbrev pub StyleDefinition : Type 0
 StyleDefinition = Style
 
 abbrev pub LabelDefinition : Type 0
 LabelDefinition = Label
 
--- which value of its attribute puts a feature into a class: a text, or the inside of a list whose values are between commas
+-- which value of its attribute puts a feature into a class: a text, or the inside of a list whose
+-- values are between commas
 abbrev pub ExpressionDefinition : Type 0
 ExpressionDefinition = Expression
 

@@ -1,4 +1,5 @@
--- The test of equality of two definitions: all their fields are equal. Lists are compared in order, those of layers too.
+-- The test of equality of two definitions: all their fields are equal. Lists are compared in order,
+-- those of layers too.
 use Rattle.std.specs.Prelude.{ℕ, ◌==◌, ◌&&◌, Bool, false, List, bytes_eq}
 use Rattle.std.specs.Ordering.{int_eq}
 use Rattle.std.specs.Option.{option_eq}

@@ -19,7 +19,8 @@ has_enough_points kind f = list_all (λ part. nat_le (least_points kind) (length
 abbrev pub EnoughPointsAreTested : Type 0
 EnoughPointsAreTested = (kind : LayerKind) (f : FeatureDefinition) → (has_enough_points kind f ≡ true) ↔ HasEnoughPoints kind f
 
--- the layer of these parts, if the list of attributes isn't too long and each shape has the points that the kind needs
+-- the layer of these parts, if the list of attributes isn't too long and each shape has the points
+-- that the kind needs
 unfoldable pub layer_of : LayerKind → List ℕ → List ℕ → List ℕ → List ℕ → List ClassDefinition → List FeatureDefinition → Option LayerDefinition
 layer_of kind title class_item label_item items classes features =
     if nat_le (length items) most_items_bytes && list_all (has_enough_points kind) features

@@ -1,5 +1,5 @@
--- The limits of a map definition, each once, with its unit. The constants of the code are proved equal to them. Those of its
--- texts and numbers are `wf_text`'s.
+-- The limits of a map definition, each once, with its unit. The constants of the code are proved
+-- equal to them. Those of its texts and numbers are `wf_text`'s.
 use Rattle.std.specs.Prelude.{ℕ}
 pub use Rattle.wf_text.specs.Limit.{most_text_bytes, most_millionths, most_whole_digits, most_fraction_digits, most_power_digits}
 

@@ -10,9 +10,9 @@ use crate::layer::Layer;
 use wf_text::Text;
 
 impl Layer {
-    /// The feature's value under a name (MapServer mapfile reference, ITEMS): the n-th of the feature's values between
-    /// semicolons, where the name first occurs as the n-th of the layer's names between commas. `None` under the empty name, and
-    /// if the feature has fewer values.
+    /// The feature's value under a name (MapServer mapfile reference, ITEMS): the n-th of the
+    /// feature's values between semicolons, where the name first occurs as the n-th of the layer's
+    /// names between commas. `None` under the empty name, and if the feature has fewer values.
     pub fn attribute<'a>(&self, feature: &'a Feature, name: &Text) -> Option<&'a [u8]>
         ensures { option_copied result ≡ attribute self.now.items feature.now.items name.now }
     {
@@ -23,9 +23,9 @@ impl Layer {
         )
     }
 
-    /// The index of the feature's class: the first class without an expression, or whose expression the feature's value under the
-    /// layer's CLASSITEM meets: it equals the text, or one of the list's values, byte for byte. A feature without a class isn't
-    /// drawn.
+    /// The index of the feature's class: the first class without an expression, or whose expression
+    /// the feature's value under the layer's CLASSITEM meets: it equals the text, or one of the
+    /// list's values, byte for byte. A feature without a class isn't drawn.
     #[tactic(auto, unfolding(crate::specs::Attribute::class_of))]
     pub fn class_of(&self, feature: &Feature) -> Option<usize>
         ensures class { result ≡ class_of self.now feature.now }

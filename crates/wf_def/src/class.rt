@@ -13,10 +13,12 @@ use std::alloc::AllocError;
 use std::marker::Model;
 use wf_text::Text;
 
-/// The styles of a class, in the order in which they are drawn: at most 8, each drawn over the one before it.
+/// The styles of a class, in the order in which they are drawn: at most 8, each drawn over the one
+/// before it.
 pub type Styles = Capped<Style, MOST_STYLES>;
 
-/// A class: which features it contains, and how they are drawn (MapServer mapfile reference, CLASS).
+/// A class: which features it contains, and how they are drawn (MapServer mapfile reference,
+/// CLASS).
 pub struct Class {
     name: Text,
     expression: Option<Expression>,
@@ -51,7 +53,8 @@ impl Model for Class {
 }
 
 impl Class {
-    /// The class of the features whose attribute meets the expression, or of all features if there is none.
+    /// The class of the features whose attribute meets the expression, or of all features if there
+    /// is none.
     pub fn new(
         name: Text,
         expression: Option<Expression>,

@@ -13,7 +13,8 @@ pub struct Color {
 }
 
 impl Color {
-    /// The colour of six hexadecimal digits of either letter case, two each of red, green and blue; `None` of any other bytes.
+    /// The colour of six hexadecimal digits of either letter case, two each of red, green and blue;
+    /// `None` of any other bytes.
     #[tactic(auto, using(std::proofs::lemmas::List::Folds::list_all_at), unfolding(crate::specs::Color::hexadecimal_color))]
     pub fn from_hexadecimal(digits: &[u8]) -> Option<Color>
         ensures { result ≡ hexadecimal_color digits.now }

@@ -3,7 +3,8 @@
 use std::alloc::AllocError;
 use wf_text::{Text, ValueList};
 
-/// Which value of its attribute puts a feature into a class (MapServer mapfile reference, EXPRESSION).
+/// Which value of its attribute puts a feature into a class (MapServer mapfile reference,
+/// EXPRESSION).
 #[derive(Drop)]
 pub enum Expression {
     /// The value equals this text.

@@ -45,7 +45,8 @@ impl Model for Feature {
 }
 
 impl Feature {
-    /// The feature of these parts, its attributes' values between semicolons, and its label's text. `None` if there are no parts.
+    /// The feature of these parts, its attributes' values between semicolons, and its label's text.
+    /// `None` if there are no parts.
     #[inline]
     #[tactic(auto, unfolding(crate::specs::Layer::feature_of))]
     pub fn new(parts: ShapeParts, items: Text, text: Text) -> Option<Self>

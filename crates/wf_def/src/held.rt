@@ -8,8 +8,8 @@ use std::mem::replace;
 /// The room for members with which a list begins that has more than one.
 const FIRST_ROOM: usize = 4;
 
-/// The members of a list. A single one is held in place: most shapes have one part, and a marker's part has one point, so most of
-/// these lists need no memory of their own.
+/// The members of a list. A single one is held in place: most shapes have one part, and a marker's
+/// part has one point, so most of these lists need no memory of their own.
 #[derive(Drop)]
 pub(crate) enum Held<T> {
     Nothing,
@@ -45,7 +45,8 @@ impl<T: Drop> Held<T> {
         }
     }
 
-    /// Appends a member to members that are taken out and put back: right for all, meant for those that have no memory of their own.
+    /// Appends a member to members that are taken out and put back: right for all, meant for those
+    /// that have no memory of their own.
     #[inline]
     fn push_anew(&mut self, alloc: Global, member: T) -> Result<(), AllocError>
         ensures pushed { OnOk result

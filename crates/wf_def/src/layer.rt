@@ -20,7 +20,8 @@ pub type Classes = Capped<Class, MOST_CLASSES>;
 /// The features of a layer, in the order in which they are drawn: each over the one before it.
 pub type Features = Members<Feature>;
 
-/// Features of one kind and how they are drawn; the layer's name is in the map (MapServer mapfile reference, LAYER).
+/// Features of one kind and how they are drawn; the layer's name is in the map (MapServer mapfile
+/// reference, LAYER).
 pub struct Layer {
     kind: LayerKind,
     title: Text,
@@ -64,8 +65,9 @@ impl Model for Layer {
 }
 
 impl Layer {
-    /// The layer of these parts; `items` are the names of the attributes, between commas. `None` if they are over 994 bytes, or
-    /// if a part of a feature has fewer points than the kind needs: 1 for points, 2 for lines, 3 for polygons.
+    /// The layer of these parts; `items` are the names of the attributes, between commas. `None` if
+    /// they are over 994 bytes, or if a part of a feature has fewer points than the kind needs: 1
+    /// for points, 2 for lines, 3 for polygons.
     #[tactic(auto, unfolding(crate::specs::Layer::layer_of))]
     pub fn new(
         kind: LayerKind,
@@ -115,7 +117,8 @@ impl Layer {
         &self.title
     }
 
-    /// The name of the attribute that the classes' expressions are compared with; empty if there is none (CLASSITEM).
+    /// The name of the attribute that the classes' expressions are compared with; empty if there is
+    /// none (CLASSITEM).
     pub fn class_item(&self) -> &Text
         ensures value { result.now ≡ self.now.class_item }
         ensures within { IsLayer self.now }
@@ -123,7 +126,8 @@ impl Layer {
         &self.class_item
     }
 
-    /// The name of the attribute whose value is the label's text; empty if there is none (LABELITEM).
+    /// The name of the attribute whose value is the label's text; empty if there is none
+    /// (LABELITEM).
     pub fn label_item(&self) -> &Text
         ensures value { result.now ≡ self.now.label_item }
         ensures within { IsLayer self.now }
@@ -156,7 +160,8 @@ impl Layer {
     }
 }
 
-/// Whether the text may be a layer's name: it isn't empty and has no comma, since names are listed between commas.
+/// Whether the text may be a layer's name: it isn't empty and has no comma, since names are listed
+/// between commas.
 pub fn is_layer_name(name: &Text) -> bool
     ensures { IsTrue result ↔ IsLayerName name.now }
 {
@@ -179,8 +184,8 @@ fn has_enough_points(kind: LayerKind, feature: &Feature) -> bool
     feature.parts().iter().all(|part| part.len() >= least)
 }
 
-/// The Boolean test for enough points is true iff each part has the points that the kind needs. A theorem about the definitions:
-/// the call does nothing.
+/// The Boolean test for enough points is true iff each part has the points that the kind needs. A
+/// theorem about the definitions: the call does nothing.
 pub fn enough_points_are_tested()
     ensures { EnoughPointsAreTested }
 {}

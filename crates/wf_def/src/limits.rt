@@ -1,4 +1,5 @@
-//! The limits of a map definition, each with its unit. Those of its texts and numbers are `wf_text`'s.
+//! The limits of a map definition, each with its unit. Those of its texts and numbers are
+//! `wf_text`'s.
 ghost use Rattle.std.specs.Prelude.{◌≡◌};
 ghost use Rattle.wf_def.specs.Limit.{most_buffer, most_classes, most_features, most_items_bytes, most_layers, most_points, most_priority, most_size, most_styles, most_width};
 

@@ -59,7 +59,8 @@ impl Model for MapDef {
 }
 
 impl MapDef {
-    /// A map without layers. The title, the abstract and the address are those of the WEB block's metadata.
+    /// A map without layers. The title, the abstract and the address are those of the WEB block's
+    /// metadata.
     pub fn new(
         alloc: Global,
         name: Text,
@@ -95,7 +96,8 @@ impl MapDef {
         }
     }
 
-    /// The map of sequence 0, before the first published one: named `empty`, from 0 0 to 1 1 degrees, without layers.
+    /// The map of sequence 0, before the first published one: named `empty`, from 0 0 to 1 1
+    /// degrees, without layers.
     pub fn empty(alloc: Global) -> Result<Self, AllocError>
         ensures { IfOk result (λ map. map ≡ empty_map) }
     {
@@ -110,7 +112,8 @@ impl MapDef {
         ))
     }
 
-    /// Appends a layer. A name that the map already has is rejected; after an error the map is unchanged.
+    /// Appends a layer. A name that the map already has is rejected; after an error the map is
+    /// unchanged.
     pub fn add_layer(&mut self, name: Text, layer: Layer) -> Result<(), LayerFault>
         requires is_name { IsLayerName name }
         requires room { length self.old.layers < most_layers }
@@ -125,7 +128,8 @@ impl MapDef {
     {
         let _ = layer.kind();
         if self.layers.contains_key(&name) {
-            // Each value is dropped by one call: if its fields were dropped at each exit, the proof would be long.
+            // Each value is dropped by one call: if its fields were dropped at each exit, the proof
+            // would be long.
             drop((name, layer));
             return Err(LayerFault::Repeated);
         }
@@ -155,7 +159,8 @@ impl MapDef {
         self.layers.len()
     }
 
-    /// The layer at this index, with its name; layers are drawn in order, each over those before it.
+    /// The layer at this index, with its name; layers are drawn in order, each over those before
+    /// it.
     pub fn layer(&self, index: usize) -> (&Text, &Layer)
         requires { index < length self.now.layers }
         ensures value { slice_get self.now.layers index ≡ Some (result.0.now, result.1.now) }

@@ -25,7 +25,8 @@ pub trait Limited: Clone + Eq {
     ghost decides: { (a b : Self) → Decides (Self.PartialEq.eq a b) (a ≡ b) };
 }
 
-/// Members in order, limited only by memory: points, parts and features are counted over a whole map.
+/// Members in order, limited only by memory: points, parts and features are counted over a whole
+/// map.
 pub struct Members<T: Limited> {
     alloc: Global,
     held: Held<T>,

@@ -12,7 +12,8 @@ pub(crate) fn know_text(text: &Text)
     let _ = text.as_bytes();
 }
 
-/// Copies of two texts: a value of many texts is copied pair by pair, so that fewer are dropped at each allocation failure.
+/// Copies of two texts: a value of many texts is copied pair by pair, so that fewer are dropped at
+/// each allocation failure.
 pub(crate) fn clone_both(first: &Text, second: &Text) -> Result<(Text, Text), AllocError>
     ensures { IfOk result (λ copies. copies ≡ (first.now, second.now)) }
 {

@@ -1,4 +1,5 @@
--- A step of one of the nodes that a caller holds is an event of the world that they are; so is a delivery, and so are many.
+-- A step of one of the nodes that a caller holds is an event of the world that they are; so is a
+-- delivery, and so are many.
 use Rattle.std.proofs.Common.{◌≡◌, ◌≢◌, ◌⊎◌, ℕ, ◌+◌, ◌≤◌, nat_lt, Bool, true, false, List, [], ◌∷◌, ◌++◌, map, length, slice_get, slice_set, Option, Some, None, Result, Ok, Err, IfOk, IfErr, OnOk, refl, sym, ap, subst, ◌∙◌, inl, inr, arith, length-append, length-set, Vec}
 use Rattle.wf_delivery.proofs.Common.{both_ways, cases_eq, false≢true, nat_tests, append-nil, length-map, map-append, same_Some, Ballot, Message, Definition, definition_eq, IsBeginning, DurableState, Record, published, with_record, Action, Input, StepRejection, most_reports, store, World, Event, Turn, deliver, Torn, Before, After, input_of, turn_of, turn, stored_after, kept_part, after_turn, after_torn, with_node, happens, steps, IsGrown, grown_itself, transition_grown, same_grown, EachStandsFor, Node, stored_of, volatile_of, transition_of, step_rejection_at, IsTransition, IsSameNode, bytes_of, NodeFault, IsExtended, IsUnchanged, PumpProgress, Answers, MayBeLost, Takes, is_halt, is_memory, reports_halt, AnyPart, StandFor, IsNodeBy, AreNodes, Refines, StandAmong, StandInTurn, MayLeaveOfEach, IsDelivery, AreDeliveries, IsReachableByDeliveries, ReachByDeliveries, TakeOne, KeepHalted, IsOne, IsGiven, IsHanded, First, Next, AreHandedOut, HaveCome, IsDelivered, AreCounted, counted, next, still_runs, halted_itself, halted_twice, keeps_turn, keeps_turn_itself, keeps_turn_twice, get_set_same, get_set_other, set_there, AreChanged, Changed, Unchanged}
 use Rattle.wf_codec.specs.Message as message
@@ -199,8 +200,8 @@ module _ {T : Type 0} where
     unfolding stored_after
     stepped_is node after input outputs is = running_is after _ is.running (node_eq _ _ _ _ (sym is.stored) (ap Some (sym is.volatile)))
 
-    -- A node whose tape failed: the list that it reports as published is a prefix of what it stored before, and so of what it may
-    -- have stored.
+    -- A node whose tape failed: the list that it reports as published is a prefix of what it stored
+    -- before, and so of what it may have stored.
     failed_is : (node after : Node T) (stored : DurableState Definition) → after.halted ≡ true → IsSameNode node after → IsBeginning (stored_of node).history stored.history → stands stored → ShowsNode stands after (node_of stored None)
     failed_is node after stored halts same begins has =
         subst (λ b. IsNodeBy b stands after (node_of stored None)) (sym halts)
@@ -208,7 +209,8 @@ module _ {T : Type 0} where
 
 -- ---- one step
 
--- The nodes and the messages still show the world; or the world after the action of node i, complete or crashed within.
+-- The nodes and the messages still show the world; or the world after the action of node i,
+-- complete or crashed within.
 pub data IsActed {T : Type 0} (stands : ℕ → DurableState Definition → Type 0) (i : ℕ) (action : Action Definition ℕ) (w : World Definition) (nodes : List (Node T)) (sent : List Message) : Type 0 where
   Stays : Refines stands nodes sent w → IsActed stands i action w nodes sent
   Acts : Refines stands nodes sent (after_turn w i (turn definition_eq w i action)) → IsActed stands i action w nodes sent
@@ -283,7 +285,8 @@ module _ {T : Type 0} (stands : ℕ → DurableState Definition → Type 0) (nod
           messages = ap (λ ms. ms ++ t.transition.messages) refines.messages ∙ ap (λ ms. map message.view sent ++ ms) (sym is.messages) ∙ sym (map-append message.view sent outputs);
         })
 
-    -- A step within which the tape failed is a crash within the step: the durable state before or after was kept.
+    -- A step within which the tape failed is a crash within the step: the durable state before or
+    -- after was kept.
     torn_shown : (w : World Definition) (kept : Kept) → node.halted ≡ false → step_rejection_at node input ≡ None → after.halted ≡ true → IsSameNode node after →
         IsBeginning (stored_of node).history (kept_part kept (the_turn node input)).history → stands i (kept_part kept (the_turn node input)) → Refines stands nodes sent w →
         Refines stands (slice_set nodes i after) sent (after_torn w i kept (turn definition_eq w i action))
@@ -433,7 +436,8 @@ module _ {T : Type 0} (stands : ℕ → DurableState Definition → Type 0) (don
       let reachable = reaches w refines in
       reachable_on stands w done middle after outputs more reachable (takes (steps definition_eq w reachable.events) reachable.refines)
 
--- Bytes that may be left of the tapes that failed could have been left before a delivery: such a tape is unchanged.
+-- Bytes that may be left of the tapes that failed could have been left before a delivery: such a
+-- tape is unchanged.
 pub left_before : {T : Type 0} (tapes : Tape T) (nodes after : List (Node T)) (left : ℕ → List ℕ) → KeepHalted nodes after → MayLeaveOfEach tapes after left → MayLeaveOfEach tapes nodes left
 unfolding MayLeaveOfEach KeepHalted
 left_before tapes nodes after left keeps may = λ i node at halted. may i node (keeps i node at halted) halted

@@ -1,4 +1,5 @@
--- What happens to nodes that a caller holds, step by step, is one run of the model; and nodes that the start leads to agree.
+-- What happens to nodes that a caller holds, step by step, is one run of the model; and nodes that
+-- the start leads to agree.
 use Rattle.std.proofs.Common.{◌≡◌, ◌⊎◌, ℕ, zero, suc, Bool, true, false, List, [], ◌∷◌, ◌++◌, map, length, replicate, slice_get, slice_set, Some, Result, Ok, Err, IfOk, IfErr, refl, sym, ap, subst, ◌∙◌, inl, append_assoc, Vec}
 use Rattle.wf_delivery.proofs.Common.{Global, both_ways, append-nil, map-append, none-some, Message, Definition, empty_map, definition_eq, sent_before, raised, IsBeginning, history_of, history, definition, steps_in_turn, DurableState, definition_at, Action, Input, store, World, Event, Act, Torn, input_of, turn, after_turn, happens, steps, start, after, EachStandsFor, Node, stored_of, transition_of, IsStep, NodeFault, AnyPart, StandFor, AreNodes, Refines, StandInTurn, IsReachableByDeliveries, ReachByDeliveries, AreDelivered, Answers, Takes, is_memory, halted_itself, halted_twice, keeps_turn, keeps_turn_itself, keeps_turn_twice, IsReachableWith, IsReachableFrom, ReachSending, Reach, AreReachableSending, AreReachable, AreFresh, HaveOneHistory, IsOwnInput, outputs_by, StepIsReachable, DeliveriesAreReachable, NothingIsReachable, NothingIsOutput, ReachableIsTransitive, BothAreOutput, UnheardIsReachable, ReachableStaysReachable, ReachableOnTape, FreshAreReachable, FreshOnTape, fresh_node}
 use Rattle.std.proofs.Math.ListN.{length-replicate}
@@ -149,8 +150,8 @@ module _ {T : Type 0} (stands : ℕ → DurableState Definition → Type 0) (mid
     messages = ap (λ ms. map message.view sent ++ ms) refines.messages ∙ sym (map-append message.view sent more);
   }
 
-  -- The deliveries of messages sent lead on from any world in which they were the last sent: only each message number is
-  -- increased, by the count of those sent before.
+  -- The deliveries of messages sent lead on from any world in which they were the last sent: only
+  -- each message number is increased, by the count of those sent before.
   received_on : (done : ℕ) → AreDelivered stands done middle outputs after → Refines stands middle (sent ++ outputs) w → IsReachableFrom stands w after
   unfolding ReachByDeliveries
   received_on done delivered refines =

@@ -1,5 +1,5 @@
--- Delivery of messages to nodes that a caller holds, over any kind of tape: which world of the model the nodes are, and the
--- effect of the deliveries on it.
+-- Delivery of messages to nodes that a caller holds, over any kind of tape: which world of the
+-- model the nodes are, and the effect of the deliveries on it.
 use Rattle.std.specs.Prelude.{◌≡◌, ◌⊎◌, ◌≤◌, ◌<◌, ℕ, Bool, true, false, ⊤, List, [], ◌∷◌, ◌++◌, length, map, slice_get, slice_set, Some, None}
 use Rattle.wf_codec.specs.Message as message
 use Rattle.wf_delivery.specs.Common.{Message, Definition, definition_eq, IsBeginning, DurableState, Action, World, Event, happens, steps, IsGrown, StandsFor, Node, stored_of, volatile_of}
@@ -12,16 +12,17 @@ use Rattle.wf_tape.specs.declared.tape.Tape.{Ghosts as Tape}
 
 -- ---- nodes and a world
 
--- What is known of the durable state that the tape of a failed node stands for, by node number: nothing; or that the bytes which a
--- crash leaves of the tape stand for it.
+-- What is known of the durable state that the tape of a failed node stands for, by node number:
+-- nothing; or that the bytes which a crash leaves of the tape stand for it.
 abbrev pub AnyPart : ℕ → DurableState Definition → Type 0
 AnyPart i stored = ⊤
 
 abbrev pub StandFor : (ℕ → List ℕ) → ℕ → DurableState Definition → Type 0
 StandFor left i stored = StandsFor stored (left i)
 
--- The node is this node of the model. A running node has both its parts. A node whose tape failed is stopped; the list that it
--- reports as published is a prefix of the stored one, and the durable state is as its tape is known to be.
+-- The node is this node of the model. A running node has both its parts. A node whose tape failed
+-- is stopped; the list that it reports as published is a prefix of the stored one, and the durable
+-- state is as its tape is known to be.
 abbrev pub IsNodeBy : {T : Type 0} → Bool → (DurableState Definition → Type 0) → Node T → world.Node Definition → Type 0
 IsNodeBy false stands node shown = shown ≡ record { stored = stored_of node; volatile = Some (volatile_of node) }
 IsNodeBy true stands node shown = (shown.volatile ≡ None) × IsBeginning node.parts.history shown.stored.history × stands shown.stored
@@ -77,24 +78,28 @@ pub record IsReachableByDeliveries {T : Type 0} (stands : ℕ → DurableState D
   pub at_most : length events ≤ most
   pub refines : Refines stands nodes sent (steps definition_eq w events)
 
--- From whatever world the nodes and the messages were, at most `most` deliveries lead to what they are afterwards.
+-- From whatever world the nodes and the messages were, at most `most` deliveries lead to what they
+-- are afterwards.
 unfoldable pub ReachByDeliveries : {T : Type 0} → (ℕ → DurableState Definition → Type 0) → ℕ → List (Node T) → List Message → List (Node T) → List Message → Type 0
 ReachByDeliveries stands most nodes sent nodes_after sent_after = (w : World Definition) → Refines stands nodes sent w → IsReachableByDeliveries stands w most nodes_after sent_after
 
--- From whatever world the nodes were, at most `most` deliveries lead to what they are afterwards, with some list of messages sent.
+-- From whatever world the nodes were, at most `most` deliveries lead to what they are afterwards,
+-- with some list of messages sent.
 pub record AreDelivered {T : Type 0} (stands : ℕ → DurableState Definition → Type 0) (most : ℕ) (nodes : List (Node T)) (messages : List Message) (nodes_after : List (Node T)) : Type 0 where
   pub sent : List Message
   pub reach : ReachByDeliveries stands most nodes messages nodes_after sent
 
 -- ---- the progress of the deliveries
 
--- How the deliveries ended: each message sent by then was delivered to each node; or they stopped, and some were left.
+-- How the deliveries ended: each message sent by then was delivered to each node; or they stopped,
+-- and some were left.
 abbrev pub IsDeliveryEnd : Bool → PumpProgress → List Message → Type 0
 IsDeliveryEnd false p sent = (p.some ≡ 0) × (p.whole ≡ length sent)
 IsDeliveryEnd true p sent = p.whole < length sent
 
 module _ {T : Type 0} (tapes : Tape T) where
-  -- Message k was delivered to node i, and the node's messages were sent; or an allocation failed, and the delivery was lost.
+  -- Message k was delivered to node i, and the node's messages were sent; or an allocation failed,
+  -- and the delivery was lost.
   pub record IsHanded (i k : ℕ) (lost : Bool) (nodes : List (Node T)) (sent : List Message) (nodes_after : List (Node T)) (sent_after : List Message) : Type 0 where
     pub node : Node T
     pub after : Node T
@@ -107,14 +112,16 @@ module _ {T : Type 0} (tapes : Tape T) where
     pub nodes_are : nodes_after ≡ slice_set nodes i after
     pub sent_are : sent_after ≡ sent ++ outputs
 
-  -- The messages were delivered to each node in turn, ascending, one message after the other, up to this progress: the first
-  -- `whole` messages to all nodes, and the next one to the first `some` nodes. This many of the deliveries were lost.
+  -- The messages were delivered to each node in turn, ascending, one message after the other, up to
+  -- this progress: the first `whole` messages to all nodes, and the next one to the first `some`
+  -- nodes. This many of the deliveries were lost.
   pub data AreHanded (nodes : List (Node T)) (messages : List Message) : PumpProgress → ℕ → List (Node T) → List Message → Type 0 where
     First : AreHanded nodes messages (record { whole = 0; some = 0; done = 0 }) 0 nodes messages
     Next : (p : PumpProgress) (lost : ℕ) (loses : Bool) (middle after : List (Node T)) (outputs more : List Message) → AreHanded nodes messages p lost middle outputs
         → IsHanded p.some p.whole loses middle outputs after more → AreHanded nodes messages (next (length nodes) p) (counted lost loses) after more
 
-  -- `done` deliveries were made, in that order, `lost` of them were lost, and this is how they ended.
+  -- `done` deliveries were made, in that order, `lost` of them were lost, and this is how they
+  -- ended.
   pub record AreHandedOut (nodes : List (Node T)) (messages : List Message) (done lost : ℕ) (stopped : Bool) (nodes_after : List (Node T)) : Type 0 where
     pub come : PumpProgress
     pub sent : List Message

@@ -1,5 +1,5 @@
--- A node that stays the same keeps its index among the others and its list of published maps; a node whose tape failed is
--- unchanged.
+-- A node that stays the same keeps its index among the others and its list of published maps; a
+-- node whose tape failed is unchanged.
 use Rattle.std.proofs.Common.{◌≡◌, ℕ, Bool, true, false, List, slice_get, slice_set, Some, length-set, refl, sym, ap, subst, ◌∙◌, inl, inr}
 use Rattle.wf_delivery.specs.Common.{cases_eq, same_Some, IsGrown, grown_itself, grown_twice, Node}
 use Rattle.wf_delivery.specs.Delivery.{EachGrows, KeepHalted, KeepTurn, NoneHalted, StandAmong}

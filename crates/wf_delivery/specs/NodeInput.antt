@@ -32,13 +32,14 @@ abbrev pub reports_halt : Option NodeFault → Bool
 reports_halt None = false
 reports_halt (Some f) = is_halt f
 
--- why the delivery of a message to a node may be lost: the message has a definition, or the step stores or sends something
+-- why the delivery of a message to a node may be lost: the message has a definition, or the step
+-- stores or sends something
 abbrev pub MayBeLost : {T : Type 0} → Message → Node T → Type 0
 MayBeLost m node = HasDefinition (message.view m) ⊎ TakesMemory node (table.Deliver (message.view m))
 
 module _ {T : Type 0} (tapes : Tape T) where
-  -- An allocation failed before the node had done anything, so the input is lost: the node, which isn't halted, is unchanged but
-  -- for its tape, whose content is unchanged too, and sends nothing.
+  -- An allocation failed before the node had done anything, so the input is lost: the node, which
+  -- isn't halted, is unchanged but for its tape, whose content is unchanged too, and sends nothing.
   pub record IsLost (before after : Node T) (outputs : List Message) : Type 0 where
     pub runs : before.halted ≡ false
     pub still : after.halted ≡ false
@@ -46,9 +47,11 @@ module _ {T : Type 0} (tapes : Tape T) where
     pub kept : tapes.durable → tapes.content after.tape ≡ tapes.content before.tape
     pub quiet : outputs ≡ []
 
-  -- What a node does with an input that isn't lost. A halted node rejects it, and so does one whose step table rejects it: either
-  -- is unchanged. Otherwise the node steps, and its tape holds the bytes of the step's record too; or its tape fails within the
-  -- step: the node keeps the step's record, nothing is sent, the tape holds a prefix of these bytes too, and each image stands for what was stored before or after.
+  -- What a node does with an input that isn't lost. A halted node rejects it, and so does one whose
+  -- step table rejects it: either is unchanged. Otherwise the node steps, and its tape holds the
+  -- bytes of the step's record too; or its tape fails within the step: the node keeps the step's
+  -- record, nothing is sent, the tape holds a prefix of these bytes too, and each image stands for
+  -- what was stored before or after.
   pub data Answers (input : Input Definition) (before after : Node T) (outputs : List Message) : Type 0 where
     Halts : before.halted ≡ true → after ≡ before → outputs ≡ [] → Answers input before after outputs
     Rejects : (why : StepRejection) → before.halted ≡ false → step_rejection_at before input ≡ Some why → after ≡ before → outputs ≡ [] → Answers input before after outputs

@@ -10,8 +10,8 @@ abbrev pub is_lost : Result (Vec Message Global) NodeFault → Bool
 is_lost (Ok outputs) = false
 is_lost (Err why) = is_memory why
 
--- A halted node rejects and is unchanged, and one that runs makes a step: then the node did one of the things that it does with an input,
--- and sent what it returned.
+-- A halted node rejects and is unchanged, and one that runs makes a step: then the node did one of
+-- the things that it does with an input, and sent what it returned.
 abbrev pub StepIsAnswered : {T : Type 0} → Tape T → Type 0
 StepIsAnswered {T} tapes = (before after : Node T) (input : Input Definition) (answer : Result (Vec Message Global) NodeFault) →
     (before.halted ≡ true → (answer ≡ Err Halted) × (after ≡ before)) → (before.halted ≡ false → IsStep tapes before input answer after) →

@@ -1,4 +1,5 @@
--- How far deliveries have come, which are made message by message to each of some nodes, and their counts.
+-- How far deliveries have come, which are made message by message to each of some nodes, and their
+-- counts.
 use Rattle.std.specs.Prelude.{◌<◌, ◌≤◌, ◌+◌, ℕ, zero, suc, Bool, true, false, if◌then◌else◌, ◌==◌}
 use Rattle.wf_delivery.specs.declared.progress.PumpProgress.{PumpProgress}
 

@@ -1,5 +1,6 @@
--- Nodes that a caller holds, while they are asked to step and messages are delivered, any number of times: some events lead from
--- each of their states to the next, whatever was sent by then. So one run of the model leads from the start to their final state.
+-- Nodes that a caller holds, while they are asked to step and messages are delivered, any number of
+-- times: some events lead from each of their states to the next, whatever was sent by then. So one
+-- run of the model leads from the start to their final state.
 use Rattle.std.specs.Prelude.{◌≡◌, ℕ, true, false, ⊤, List, [], ◌++◌, length, slice_get, slice_set, Some, Result, Ok, Err, Vec}
 use Rattle.wf_delivery.specs.Common.{Global, Message, Definition, definition_eq, DurableState, nothing_stored, definition_at, Input, at_start, World, Event, steps, after, Node, stored_of, volatile_of, IsStep, NodeFault, Halted, AnswerValue, AsksForMap, IsAnswerOf}
 use Rattle.wf_model.specs.Table as table
@@ -14,26 +15,28 @@ pub record IsReachableWith {T : Type 0} (stands : ℕ → DurableState Definitio
   pub events : List (Event Definition)
   pub refines : Refines stands nodes sent (steps definition_eq w events)
 
--- Some events lead from the world to what the nodes are now, with whatever messages were sent by then.
+-- Some events lead from the world to what the nodes are now, with whatever messages were sent by
+-- then.
 pub record IsReachableFrom {T : Type 0} (stands : ℕ → DurableState Definition → Type 0) (w : World Definition) (nodes : List (Node T)) : Type 0 where
   pub sent : List Message
   pub events : List (Event Definition)
   pub refines : Refines stands nodes sent (steps definition_eq w events)
 
--- From whatever world the nodes were, and whatever was sent, some events lead to what the nodes are afterwards, and these events
--- send exactly these messages.
+-- From whatever world the nodes were, and whatever was sent, some events lead to what the nodes are
+-- afterwards, and these events send exactly these messages.
 unfoldable pub ReachSending : {T : Type 0} → (ℕ → DurableState Definition → Type 0) → List (Node T) → List Message → List (Node T) → Type 0
 ReachSending stands nodes outputs nodes_after = (w : World Definition) (sent : List Message) → Refines stands nodes sent w → IsReachableWith stands w nodes_after (sent ++ outputs)
 
--- From whatever world the nodes were, and whatever was sent, some events lead to what the nodes are afterwards.
+-- From whatever world the nodes were, and whatever was sent, some events lead to what the nodes are
+-- afterwards.
 unfoldable pub Reach : {T : Type 0} → (ℕ → DurableState Definition → Type 0) → List (Node T) → List (Node T) → Type 0
 Reach stands nodes nodes_after = (w : World Definition) (sent : List Message) → Refines stands nodes sent w → IsReachableFrom stands w nodes_after
 
 -- ---- the same over any kind of tape, and over a durable one for whatever bytes a crash leaves of the tapes that failed
 
 module _ {T : Type 0} (tapes : Tape T) where
-  -- Some events lead to what the nodes are afterwards, and send these messages. A node whose tape failed before is unchanged;
-  -- each keeps its index and what it published.
+  -- Some events lead to what the nodes are afterwards, and send these messages. A node whose tape
+  -- failed before is unchanged; each keeps its index and what it published.
   pub record AreReachableSending (nodes : List (Node T)) (outputs : List Message) (nodes_after : List (Node T)) : Type 0 where
     pub any : ReachSending AnyPart nodes outputs nodes_after
     pub on_tape : tapes.durable → (left : ℕ → List ℕ) → MayLeaveOfEach tapes nodes_after left → ReachSending (StandFor left) nodes outputs nodes_after
@@ -68,18 +71,20 @@ fresh_node = record { stored = nothing_stored; volatile = Some at_start }
 unfoldable pub AreFresh : {T : Type 0} → List (Node T) → Type 0
 AreFresh {T} nodes = (i : ℕ) (node : Node T) → slice_get nodes i ≡ Some node → IsFresh node
 
--- Any two of the nodes have published one definition under one sequence, even if their tapes have failed since.
+-- Any two of the nodes have published one definition under one sequence, even if their tapes have
+-- failed since.
 unfoldable pub HaveOneHistory : {T : Type 0} → List (Node T) → Type 0
 HaveOneHistory {T} nodes = (i j s : ℕ) (node other : Node T) (c d : Definition) → slice_get nodes i ≡ Some node → slice_get nodes j ≡ Some other →
     definition_at node.parts.history s ≡ Some c → definition_at other.parts.history s ≡ Some d → c ≡ d
 
--- Two of the nodes with the same last published sequence have one answer to a query of the web map service: the same kind, media
--- type and bytes.
+-- Two of the nodes with the same last published sequence have one answer to a query of the web map
+-- service: the same kind, media type and bytes.
 unfoldable pub HaveOneAnswer : {T : Type 0} → List (Node T) → Type 0
 HaveOneAnswer {T} nodes = (i j s : ℕ) (node other : Node T) (query : List ℕ) (answer another : AnswerValue) → slice_get nodes i ≡ Some node → slice_get nodes j ≡ Some other →
     length node.parts.history ≡ s → length other.parts.history ≡ s → IsAnswerOf s node.parts.history query answer → IsAnswerOf s other.parts.history query another → another ≡ answer
 
--- Two of the nodes that a query asks for the same map have one answer to it, whatever their last published sequences.
+-- Two of the nodes that a query asks for the same map have one answer to it, whatever their last
+-- published sequences.
 unfoldable pub HaveOneMapAnswer : {T : Type 0} → List (Node T) → Type 0
 HaveOneMapAnswer {T} nodes = (i j s t m : ℕ) (node other : Node T) (query : List ℕ) (answer another : AnswerValue) → slice_get nodes i ≡ Some node → slice_get nodes j ≡ Some other →
     AsksForMap m s query → AsksForMap m t query → length node.parts.history ≡ s → length other.parts.history ≡ t →
@@ -99,8 +104,8 @@ abbrev pub outputs_by : Result (Vec Message Global) NodeFault → List Message
 outputs_by (Ok outputs) = outputs.items
 outputs_by (Err why) = []
 
--- One of the nodes is asked for a step, and returns: the nodes are led on, and exactly its messages were sent. A halted node
--- rejects, and is unchanged.
+-- One of the nodes is asked for a step, and returns: the nodes are led on, and exactly its messages
+-- were sent. A halted node rejects, and is unchanged.
 abbrev pub StepIsReachable : {T : Type 0} → Tape T → Type 0
 StepIsReachable {T} tapes = (nodes : List (Node T)) (i : ℕ) (before after : Node T) (input : Input Definition) (answer : Result (Vec Message Global) NodeFault) →
     slice_get nodes i ≡ Some before → StandInTurn nodes → IsOwnInput input → (before.halted ≡ true → (answer ≡ Err Halted) × (after ≡ before)) →
@@ -118,7 +123,8 @@ NothingIsReachable {T} tapes = (nodes : List (Node T)) → AreReachableFrom tape
 abbrev pub NothingIsOutput : {T : Type 0} → Tape T → Type 0
 NothingIsOutput {T} tapes = (nodes : List (Node T)) → AreReachableSending tapes nodes [] nodes
 
--- Two runs in turn are one run; the messages sent are those of the first and then those of the second.
+-- Two runs in turn are one run; the messages sent are those of the first and then those of the
+-- second.
 abbrev pub ReachableIsTransitive : {T : Type 0} → Tape T → Type 0
 ReachableIsTransitive {T} tapes = (nodes middle after : List (Node T)) → AreReachableFrom tapes nodes middle → AreReachableFrom tapes middle after → AreReachableFrom tapes nodes after
 
@@ -130,8 +136,8 @@ BothAreOutput {T} tapes = (nodes middle after : List (Node T)) (outputs more : L
 abbrev pub UnheardIsReachable : {T : Type 0} → Tape T → Type 0
 UnheardIsReachable {T} tapes = (nodes after : List (Node T)) (outputs : List Message) → AreReachableSending tapes nodes outputs after → AreReachableFrom tapes nodes after
 
--- Nodes led on from reached nodes are reached; over a durable tape also with the bytes that a crash leaves of the tapes that
--- failed.
+-- Nodes led on from reached nodes are reached; over a durable tape also with the bytes that a crash
+-- leaves of the tapes that failed.
 abbrev pub ReachableStaysReachable : {T : Type 0} → Tape T → Type 0
 ReachableStaysReachable {T} tapes = (nodes after : List (Node T)) → AreReachable AnyPart nodes → AreReachableFrom tapes nodes after → AreReachable AnyPart after
 

@@ -1,10 +1,12 @@
--- Nodes that are closed and opened again from what is on their tapes: as the model's nodes they stop and restart.
+-- Nodes that are closed and opened again from what is on their tapes: as the model's nodes they
+-- stop and restart.
 use Rattle.std.specs.Prelude.{◌≡◌, ℕ, Bool, true, false, List, length, slice_get, Some}
 use Rattle.wf_delivery.specs.Common.{at_start, StandsFor, Node, stored_of, volatile_of}
 use Rattle.wf_delivery.specs.Delivery.{AnyPart, StandFor}
 use Rattle.wf_delivery.specs.Reachability.{AreReachable}
 
--- What is stored again: what the node had stored; or, if its tape had failed, what these bytes stand for, which a crash left of it.
+-- What is stored again: what the node had stored; or, if its tape had failed, what these bytes
+-- stand for, which a crash left of it.
 abbrev pub HasStoredAgain : {T U : Type 0} → Bool → List ℕ → Node T → Node U → Type 0
 HasStoredAgain false left before after = stored_of after ≡ stored_of before
 HasStoredAgain true left before after = StandsFor (stored_of after) left
@@ -20,7 +22,8 @@ pub record AreReopened {T U : Type 0} (left : ℕ → List ℕ) (nodes : List (N
   pub as_many : length again ≡ length nodes
   pub each : (i : ℕ) (next : Node U) → slice_get again i ≡ Some next → (node : Node T) × (slice_get nodes i ≡ Some node) × IsReopened (left i) node next
 
--- If the start leads to nodes, with these bytes left of the tapes that failed, it leads to nodes opened from what they left.
+-- If the start leads to nodes, with these bytes left of the tapes that failed, it leads to nodes
+-- opened from what they left.
 abbrev pub ReopenedAreReachable : Type 0 → Type 0 → Type 0
 ReopenedAreReachable T U = (left : ℕ → List ℕ) (nodes : List (Node T)) (again : List (Node U)) → AreReachable (StandFor left) nodes → AreReopened left nodes again → AreReachable AnyPart again
 

@@ -26,21 +26,26 @@ pub const MOST_OUTPUTS: usize = 8;
 pub struct Pumped {
     /// The number of deliveries made, lost ones included.
     pub deliveries: usize,
-    /// The number of deliveries that an allocation failure lost: the node is then as if it hadn't received the message.
+    /// The number of deliveries that an allocation failure lost: the node is then as if it hadn't
+    /// received the message.
     pub lost: usize,
-    /// Whether it stopped early: after 100,000 deliveries, or because no room could be reserved for the messages of the next one.
+    /// Whether it stopped early: after 100,000 deliveries, or because no room could be reserved for
+    /// the messages of the next one.
     pub stopped: bool,
 }
 
-/// Delivers each message once to each node, ascending, and likewise each message that a node sends meanwhile, until none is left.
-/// Stops early after 100,000 deliveries, or if growing its own list of messages fails. A delivery for which an allocation fails
-/// within the node, or before it, is lost, as on a network, and counted; the deliveries go on. Only a message that has a definition
-/// is lost, or one on which the node stores or sends something. A node whose tape fails is halted and accepts no further delivery.
+/// Delivers each message once to each node, ascending, and likewise each message that a node sends
+/// meanwhile, until none is left. Stops early after 100,000 deliveries, or if growing its own list
+/// of messages fails. A delivery for which an allocation fails within the node, or before it, is
+/// lost, as on a network, and counted; the deliveries go on. Only a message that has a definition
+/// is lost, or one on which the node stores or sends something. A node whose tape fails is halted
+/// and accepts no further delivery.
 ///
-/// Node i of the slice must be node i of n, where n is its length; it may be empty. Whatever world of the model the nodes and the
-/// messages were, at most `deliveries` deliveries lead to the world that they are afterwards; a delivery at which a tape failed
-/// is a crash within a step. This holds over any kind of tape; over a durable one also for whatever bytes a crash leaves of the
-/// tapes that failed. A node keeps what it published.
+/// Node i of the slice must be node i of n, where n is its length; it may be empty. Whatever world
+/// of the model the nodes and the messages were, at most `deliveries` deliveries lead to the world
+/// that they are afterwards; a delivery at which a tape failed is a crash within a step. This holds
+/// over any kind of tape; over a durable one also for whatever bytes a crash leaves of the tapes
+/// that failed. A node keeps what it published.
 pub fn deliver_all<T: Tape>(alloc: Global, nodes: &mut [Node<T>], messages: Vec<Message>) -> Pumped
     requires in_turn { StandInTurn nodes.old }
     ensures delivered { AreDelivered AnyPart result.deliveries nodes.old messages.items nodes.new }
@@ -67,8 +72,9 @@ pub fn deliver_all<T: Tape>(alloc: Global, nodes: &mut [Node<T>], messages: Vec<
     deliver_each(alloc, nodes, messages)
 }
 
-/// Delivers each message once to each entry, of which there is at least one, ascending, and likewise each message that a node sends
-/// meanwhile, until none is left or the deliveries stop early: [`deliver_all`] over whatever holds the nodes.
+/// Delivers each message once to each entry, of which there is at least one, ascending, and
+/// likewise each message that a node sends meanwhile, until none is left or the deliveries stop
+/// early: [`deliver_all`] over whatever holds the nodes.
 pub fn deliver_each<E: Recipient<T>, T: Tape>(
     alloc: Global,
     entries: &mut [E],
@@ -93,8 +99,8 @@ pub fn deliver_each<E: Recipient<T>, T: Tape>(
     }
 }
 
-/// Delivers the messages, and those sent meanwhile, to each node in turn, until none is left, the limit of deliveries is reached, or there
-/// is no room for the messages of the next one.
+/// Delivers the messages, and those sent meanwhile, to each node in turn, until none is left, the
+/// limit of deliveries is reached, or there is no room for the messages of the next one.
 fn deliver_rounds<E: Recipient<T>, T: Tape>(
     alloc: Global,
     entries: &mut [E],
@@ -127,8 +133,9 @@ fn deliver_rounds<E: Recipient<T>, T: Tape>(
     Delivered { progress, lost }
 }
 
-/// Delivers a message to a node, and appends the messages that the node sends; returns whether the delivery was lost. Room is
-/// reserved first, since a node can't undo a step; if that fails, nothing is delivered.
+/// Delivers a message to a node, and appends the messages that the node sends; returns whether the
+/// delivery was lost. Room is reserved first, since a node can't undo a step; if that fails,
+/// nothing is delivered.
 fn deliver_one<E: Recipient<T>, T: Tape>(
     alloc: Global,
     entries: &mut [E],
@@ -162,8 +169,9 @@ pub struct Outputs {
     pub lost: bool,
 }
 
-/// Delivers a copy of a message to a node, and returns the messages that it sends. If the copy can't be allocated, the message is
-/// lost and nothing is sent. A halted node gets no copy, so it loses nothing.
+/// Delivers a copy of a message to a node, and returns the messages that it sends. If the copy
+/// can't be allocated, the message is lost and nothing is sent. A halted node gets no copy, so it
+/// loses nothing.
 pub fn hand<T: Tape>(alloc: Global, node: &mut Node<T>, message: &Message) -> Outputs
     ensures takes { Takes T.Tape result.lost (Deliver (view_message message.now)) node.old node.new
         result.messages.items }
@@ -180,8 +188,8 @@ pub fn hand<T: Tape>(alloc: Global, node: &mut Node<T>, message: &Message) -> Ou
     }
 }
 
-/// Gives a node an input, and returns the messages that it sends: none if it rejects, if its tape fails and it is halted, or if an
-/// allocation fails and the input is lost.
+/// Gives a node an input, and returns the messages that it sends: none if it rejects, if its tape
+/// fails and it is halted, or if an allocation fails and the input is lost.
 pub fn consume<T: Tape>(alloc: Global, node: &mut Node<T>, input: Input) -> Outputs
     ensures takes { Takes T.Tape result.lost (view input) node.old node.new result.messages.items }
     ensures cause { result.lost ≡ true → TakesMemory node.old (view input) }
@@ -256,7 +264,8 @@ fn sends_halt(fault: NodeFault) -> bool
     }
 }
 
-/// Performs a step of a node. Returns the messages that it sends, or an error, after which it has sent none.
+/// Performs a step of a node. Returns the messages that it sends, or an error, after which it has
+/// sent none.
 fn step<T: Tape>(alloc: Global, node: &mut Node<T>, input: Input) -> Result<Vec<Message>, NodeFault>
     ensures answers { IfOk result (λ outputs.
         Answers T.Tape (view input) node.old node.new outputs.items) }
@@ -273,7 +282,8 @@ fn step<T: Tape>(alloc: Global, node: &mut Node<T>, input: Input) -> Result<Vec<
     node.step(alloc, input)
 }
 
-/// Appends the messages that a node sends to those sent before. There is room for them, so nothing fails.
+/// Appends the messages that a node sends to those sent before. There is room for them, so nothing
+/// fails.
 pub fn send(sent: &mut Vec<Message>, mut outputs: Vec<Message>)
     requires { vec_len sent.old + vec_len outputs ≤ vec_capacity sent.old }
     ensures { sent.new.items ≡ sent.old.items ++ outputs.items }

@@ -1,28 +1,36 @@
-//! Nodes that a caller holds, over any kind of tape: what one does with an input, the delivery of their messages, and the theorems
-//! that whatever happens to them, step by step, is one run of the model, so that they agree.
+//! Nodes that a caller holds, over any kind of tape: what one does with an input, the delivery of
+//! their messages, and the theorems that whatever happens to them, step by step, is one run of the
+//! model, so that they agree.
 //!
-//! **Model.** The world of `wf_model`: its nodes and all messages ever sent. `Refines` (`specs/Delivery.antt`) relates the nodes and
-//! their messages to a world; node i of a list is node i of n, where n is its length. A node whose tape failed is halted, and is the
-//! model's stopped one.
+//! **Model.** The world of `wf_model`: its nodes and all messages ever sent. `Refines`
+//! (`specs/Delivery.antt`) relates the nodes and their messages to a world; node i of a list is
+//! node i of n, where n is its length. A node whose tape failed is halted, and is the model's
+//! stopped one.
 //!
 //! **Promises.**
-//! - A node takes an input ([`consume`], [`hand`]): it halts, rejects it, makes its transition, fails with its tape, or loses it for want
-//!   of memory, and what it sends is returned (`specs/NodeInput.antt`, [`a_step_is_answered`]).
-//! - Nodes receive one another's messages by [`deliver_all`]: each message is delivered to each node in turn, until none is left or
-//!   the deliveries report that they stopped early, and they report how many an allocation failure lost. Only a message that has
-//!   a definition is lost, or one on which the node stores or sends something. Whatever world of the model the nodes and their messages
-//!   were, at most the reported number of deliveries leads to the world that they are afterwards (`specs/Delivery.antt`).
-//!   [`deliver_each`] is that loop over whatever holds the nodes ([`Recipient`]), as the entries of a farm.
-//! - Successive calls are one run of the model: a step of a node, and the deliveries of the messages that it sent, lead on from
-//!   whatever world the nodes were, however many messages were sent before ([`a_step_is_reachable`], [`deliveries_are_reachable`],
-//!   [`reachability_goes_on`]; `specs/Reachability.antt`). Nodes opened on empty tapes are the model's start ([`open_fresh`],
-//!   [`fresh_nodes_are_reachable`]); nodes led on from reached nodes are reached ([`reachable_stays`]); and so are nodes opened again
-//!   from what reached nodes left on their tapes ([`reopen`], [`reopened_nodes_are_reachable`]; `specs/ReopenedNodes.antt`).
-//! - Reached nodes agree, and answer alike: [`reachable_nodes_agree`], [`reachable_nodes_answer_alike`].
+//! - A node takes an input ([`consume`], [`hand`]): it halts, rejects it, makes its transition,
+//!   fails with its tape, or loses it for want of memory, and what it sends is returned
+//!   (`specs/NodeInput.antt`, [`a_step_is_answered`]).
+//! - Nodes receive one another's messages by [`deliver_all`]: each message is delivered to each
+//!   node in turn, until none is left or the deliveries report that they stopped early, and they
+//!   report how many an allocation failure lost. Only a message that has a definition is lost, or
+//!   one on which the node stores or sends something. Whatever world of the model the nodes and
+//!   their messages were, at most the reported number of deliveries leads to the world that they
+//!   are afterwards (`specs/Delivery.antt`). [`deliver_each`] is that loop over whatever holds the
+//!   nodes ([`Recipient`]), as the entries of a farm.
+//! - Successive calls are one run of the model: a step of a node, and the deliveries of the
+//!   messages that it sent, lead on from whatever world the nodes were, however many messages were
+//!   sent before ([`a_step_is_reachable`], [`deliveries_are_reachable`], [`reachability_goes_on`];
+//!   `specs/Reachability.antt`). Nodes opened on empty tapes are the model's start ([`open_fresh`],
+//!   [`fresh_nodes_are_reachable`]); nodes led on from reached nodes are reached
+//!   ([`reachable_stays`]); and so are nodes opened again from what reached nodes left on their
+//!   tapes ([`reopen`], [`reopened_nodes_are_reachable`]; `specs/ReopenedNodes.antt`).
+//! - Reached nodes agree, and answer alike: [`reachable_nodes_agree`],
+//!   [`reachable_nodes_answer_alike`].
 //! - The four theorems of `wf_safety` hold for the program's definitions ([`agreement`]).
 //!
-//! **Doesn't.** There is no time, and no promise that a message is delivered where allocations fail, or that anything is ever
-//! published.
+//! **Doesn't.** There is no time, and no promise that a message is delivered where allocations
+//! fail, or that anything is ever published.
 #![tactic(auto)]
 
 mod delivery;

@@ -12,7 +12,8 @@ use wf_ballot::NodeId;
 use wf_node::Node;
 use wf_tape::MemoryTape;
 
-/// Returns node `id` of n, on an empty tape in memory: it runs, with all parts empty. Err if an allocation fails.
+/// Returns node `id` of n, on an empty tape in memory: it runs, with all parts empty. Err if an
+/// allocation fails.
 #[tactic(auto, using(crate::proofs::Stored::opened_fresh))]
 pub fn open_fresh(alloc: Global, id: NodeId, n: u8) -> Result<Node<MemoryTape>, AllocError>
     requires most { n ≤ 64 }
@@ -32,8 +33,9 @@ pub fn open_fresh(alloc: Global, id: NodeId, n: u8) -> Result<Node<MemoryTape>, 
     }
 }
 
-/// Closes a node in memory and opens it again from its tape, as the same one of n nodes: it stops and restarts. Err if an allocation
-/// fails: the tape is returned, and stands for what the node had stored.
+/// Closes a node in memory and opens it again from its tape, as the same one of n nodes: it stops
+/// and restarts. Err if an allocation fails: the tape is returned, and stands for what the node had
+/// stored.
 pub fn reopen(alloc: Global, node: Node<MemoryTape>, n: u8) -> Result<Node<MemoryTape>, MemoryTape>
     requires most { n ≤ 64 }
     requires member { node.id < n }
@@ -46,7 +48,8 @@ pub fn reopen(alloc: Global, node: Node<MemoryTape>, n: u8) -> Result<Node<Memor
     let id = node.id();
     match Node::open(alloc, node.close(), id, n) {
         Ok(again) => Ok(again),
-        // A tape in memory that a node left, and that has no fuse, is rejected only for allocation failure.
+        // A tape in memory that a node left, and that has no fuse, is rejected only for allocation
+        // failure.
         Err((tape, _)) => Err(tape),
     }
 }

@@ -6,8 +6,8 @@ ghost use Rattle.wf_delivery.specs.Progress.{begun, counted, next};
 /// The most deliveries of one call.
 pub const MOST_DELIVERIES: usize = 100_000;
 
-/// How far deliveries have come, message by message to each of some nodes: whole rounds, deliveries of the next round, and deliveries
-/// in total.
+/// How far deliveries have come, message by message to each of some nodes: whole rounds, deliveries
+/// of the next round, and deliveries in total.
 #[derive(Clone, Copy)]
 pub struct PumpProgress {
     pub whole: usize,

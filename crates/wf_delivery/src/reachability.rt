@@ -1,5 +1,5 @@
-//! Theorems about nodes that a caller holds: whatever happens to them, step by step, is one run of the model, and nodes reached
-//! from the model's start agree.
+//! Theorems about nodes that a caller holds: whatever happens to them, step by step, is one run of
+//! the model, and nodes reached from the model's start agree.
 
 ghost use Rattle.wf_delivery.specs.Delivery.{AnyPart};
 ghost use Rattle.wf_delivery.specs.Reachability.{AreReachable, BothAreOutput, DeliveriesAreReachable, FreshAreReachable, FreshOnTape, HaveOneAnswer, HaveOneHistory, HaveOneMapAnswer, NothingIsOutput, NothingIsReachable, ReachableStaysReachable, ReachableOnTape, StepIsReachable, ReachableIsTransitive, UnheardIsReachable};
@@ -9,20 +9,20 @@ use wf_node::Node;
 use wf_tape::Tape;
 use wf_wms::each_query_has_one_answer;
 
-/// A step Propose, Retry or CatchUp of a node leads the nodes on, whatever it returns, and sends exactly the messages that it
-/// returns. A theorem: the call does nothing.
+/// A step Propose, Retry or CatchUp of a node leads the nodes on, whatever it returns, and sends
+/// exactly the messages that it returns. A theorem: the call does nothing.
 pub fn a_step_is_reachable<T: Tape>()
     ensures { StepIsReachable T.Tape }
 {}
 
-/// Nodes to which sent messages are delivered by [`deliver_all`](crate::deliver_all) are led on, however many messages were sent
-/// before. A theorem: the call does nothing.
+/// Nodes to which sent messages are delivered by [`deliver_all`](crate::deliver_all) are led on,
+/// however many messages were sent before. A theorem: the call does nothing.
 pub fn deliveries_are_reachable<T: Tape>()
     ensures { DeliveriesAreReachable T.Tape }
 {}
 
-/// The empty run leads nodes to themselves; two runs in turn are one run; and messages sent need not be delivered. A theorem: the
-/// call does nothing.
+/// The empty run leads nodes to themselves; two runs in turn are one run; and messages sent need
+/// not be delivered. A theorem: the call does nothing.
 pub fn reachability_goes_on<T: Tape>()
     ensures still { NothingIsReachable T.Tape }
     ensures again { ReachableIsTransitive T.Tape }
@@ -31,8 +31,9 @@ pub fn reachability_goes_on<T: Tape>()
     ensures lost { UnheardIsReachable T.Tape }
 {}
 
-/// Nodes led on from nodes that are reached from the model's start are reached. Over a durable tape that also holds for whatever
-/// bytes a crash leaves of the tapes that failed. A theorem: the call does nothing.
+/// Nodes led on from nodes that are reached from the model's start are reached. Over a durable tape
+/// that also holds for whatever bytes a crash leaves of the tapes that failed. A theorem: the call
+/// does nothing.
 pub fn reachable_stays<T: Tape>()
     ensures any { ReachableStaysReachable T.Tape }
     ensures on_tape { ReachableOnTape T.Tape }
@@ -44,25 +45,27 @@ pub fn fresh_nodes_are_reachable<T: Tape>()
     ensures on_tape { FreshOnTape T }
 {}
 
-/// Nodes opened again from what reached nodes left on their tapes are reached: they stopped and restarted. If the tape of a node had
-/// failed, it may be opened from any bytes that a crash left of it. A theorem: the call does nothing.
+/// Nodes opened again from what reached nodes left on their tapes are reached: they stopped and
+/// restarted. If the tape of a node had failed, it may be opened from any bytes that a crash left
+/// of it. A theorem: the call does nothing.
 pub fn reopened_nodes_are_reachable<T: Tape, U: Tape>()
     ensures any { ReopenedAreReachable T U }
     ensures on_tape { ReopenedOnTape T U }
 {}
 
-/// The headline, for the nodes that a caller holds, over any kind of tape: if they are reached from the model's start, no two of
-/// them, running or halted, have published different maps under one sequence. The call does nothing.
+/// The headline, for the nodes that a caller holds, over any kind of tape: if they are reached from
+/// the model's start, no two of them, running or halted, have published different maps under one
+/// sequence. The call does nothing.
 pub fn reachable_nodes_agree<T: Tape>(nodes: &[Node<T>])
     ensures { AreReachable AnyPart nodes.now → HaveOneHistory nodes.now }
 {
     let _ = nodes;
 }
 
-/// The headline's second half, for the nodes that a caller holds, over any kind of tape: if they are reached from the model's
-/// start, two of them with the same last published sequence answer the same query with the same bytes, the same kind and the same
-/// media type. So do two asked for the same map (OGC 06-042, 7.3), whatever their last published sequences. The call does
-/// nothing.
+/// The headline's second half, for the nodes that a caller holds, over any kind of tape: if they
+/// are reached from the model's start, two of them with the same last published sequence answer the
+/// same query with the same bytes, the same kind and the same media type. So do two asked for the
+/// same map (OGC 06-042, 7.3), whatever their last published sequences. The call does nothing.
 pub fn reachable_nodes_answer_alike<T: Tape>(nodes: &[Node<T>])
     ensures proposal_state { AreReachable AnyPart nodes.now → HaveOneAnswer nodes.now }
     ensures map { AreReachable AnyPart nodes.now → HaveOneMapAnswer nodes.now }

@@ -12,7 +12,8 @@ use wf_codec::Message;
 use wf_node::Node;
 use wf_tape::Tape;
 
-/// What one loop delivers messages to: a node, or an entry that holds one, whose node may be stopped.
+/// What one loop delivers messages to: a node, or an entry that holds one, whose node may be
+/// stopped.
 pub trait Recipient<T: Tape> {
     /// The entry as node i of n.
     ghost node: { ℕ → ℕ → Self → Node T };
@@ -23,8 +24,8 @@ pub trait Recipient<T: Tape> {
     /// What stays the same of an entry that a message is delivered to.
     ghost keeps: { Self → Self → Type 0 };
 
-    /// Delivers a copy of a message to the node, and returns the messages that it sends. A stopped node takes and sends nothing, and
-    /// loses nothing.
+    /// Delivers a copy of a message to the node, and returns the messages that it sends. A stopped
+    /// node takes and sends nothing, and loses nothing.
     fn receive(&mut self, alloc: Global, message: &Message) -> Outputs
         ensures takes { (n : ℕ) (i : ℕ) → Takes T.Tape result.lost
             (Deliver (view_message message.now)) (node n i self.old) (node n i self.new)

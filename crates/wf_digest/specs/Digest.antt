@@ -42,7 +42,8 @@ pub record IsCollision (first second : List ℕ) : Type 0 where
 abbrev pub EqualHistoriesHaveEqualDigests : Type 0
 EqualHistoriesHaveEqualDigests = (a b : List Definition) (seq : ℕ) → take seq a ≡ take seq b → digest_at a seq ≡ digest_at b seq
 
--- Histories with equal digests at a sequence that both have are equal up to it, unless two different texts have one SHA-256.
+-- Histories with equal digests at a sequence that both have are equal up to it, unless two
+-- different texts have one SHA-256.
 abbrev pub EqualDigestsMeanEqualHistories : Type 0
 EqualDigestsMeanEqualHistories = (a b : List Definition) (seq : ℕ) → All IsWithinLimits a → All IsWithinLimits b → seq ≤ length a → seq ≤ length b →
     digest_at a seq ≡ digest_at b seq → (take seq a ≡ take seq b) ⊎ ((first : List ℕ) × (second : List ℕ) × IsCollision first second)

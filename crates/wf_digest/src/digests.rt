@@ -44,8 +44,8 @@ impl Digests {
         Ok(Digests { digests })
     }
 
-    /// Goes on to the last published sequence of a history, if these are the digests of a front of it. The only error is allocation
-    /// failure, which changes nothing.
+    /// Goes on to the last published sequence of a history, if these are the digests of a front of
+    /// it. The only error is allocation failure, which changes nothing.
     pub fn extend(&mut self, history: &History) -> Result<(), AllocError>
         ensures ok { OnOk result ((k : ℕ) → AreDigestsOf (take k history.now.definitions) self.old → AreDigestsOf history.now.definitions self.new) }
         ensures err { OnErr result (self.new ≡ self.old) }

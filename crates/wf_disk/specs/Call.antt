@@ -28,7 +28,8 @@ error_of (Err fault) = Some fault
 abbrev pub extended : List ℕ → File → File
 extended bytes file = record file { rest = file.rest ++ bytes }
 
--- The file after a sync that succeeded: all its bytes are synced, unless it is doubtful, and then nothing more is known.
+-- The file after a sync that succeeded: all its bytes are synced, unless it is doubtful, and then
+-- nothing more is known.
 abbrev pub synced : File → File
 synced file = if file.doubtful then file else whole (bytes_of file)
 
@@ -48,7 +49,8 @@ changed_at Second change folder = record folder { second = option_map change fol
 
 -- ---- calls that succeed
 
--- A file that was absent is made under the own name, and until the names are synced a power cut may take it away again.
+-- A file that was absent is made under the own name, and until the names are synced a power cut may
+-- take it away again.
 unfoldable pub opened_over : Option File → Folder → Folder
 opened_over None folder = record folder { own = Some empty_file; earlier = None ∷ folder.earlier }
 opened_over (Some file) folder = folder
@@ -77,8 +79,9 @@ HasItsFile call folder = Unit {0}
 
 -- ---- calls that fail
 
--- What the call may leave if the device fails: an append a prefix of its bytes; a sync a doubtful file; to open or to rename has
--- been done or not; to make may have changed the second file, whatever it is then.
+-- What the call may leave if the device fails: an append a prefix of its bytes; a sync a doubtful
+-- file; to open or to rename has been done or not; to make may have changed the second file,
+-- whatever it is then.
 abbrev pub IsCut : Call → Folder → Folder → Type 0
 IsCut (Append name bytes) old new = (front : List ℕ) × IsBeginning front bytes × (new ≡ changed_at name (extended front) old)
 IsCut (Sync name) old new = new ≡ changed_at name doubted old
@@ -87,7 +90,8 @@ IsCut Rename old new = (new ≡ old) ⊎ (new ≡ done Rename old)
 IsCut Make old new = (second : Option File) × (new ≡ record old { second = second })
 IsCut call old new = new ≡ old
 
--- What a call leaves: the folder before it, the error that was returned, if one was, and the folder after it.
+-- What a call leaves: the folder before it, the error that was returned, if one was, and the folder
+-- after it.
 abbrev pub IsLeft : Call → Folder → Option DiskFault → Folder → Type 0
 IsLeft call old None new = HasItsFile call old × (new ≡ done call old)
 IsLeft call old (Some Device) new = IsCut call old new

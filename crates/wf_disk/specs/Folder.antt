@@ -1,16 +1,18 @@
--- A folder with one file under its own name and one under a second name, and what a power cut may leave of it.
+-- A folder with one file under its own name and one under a second name, and what a power cut may
+-- leave of it.
 use Rattle.std.specs.Prelude.{◌≡◌, ◌⊎◌, ℕ, Bool, false, List, [], ◌∷◌, ◌++◌, Option, Some, None}
 use Rattle.wf_disk.specs.Moments.{IsBeginning}
 
--- A file: the bytes that are synced, and those after them that aren't. It is doubtful from its first failed sync on: the system
--- may have dropped what that sync didn't write, so a later one may return success and leave bytes unwritten.
+-- A file: the bytes that are synced, and those after them that aren't. It is doubtful from its
+-- first failed sync on: the system may have dropped what that sync didn't write, so a later one may
+-- return success and leave bytes unwritten.
 pub record File : Type 0 where
   pub synced : List ℕ
   pub rest : List ℕ
   pub doubtful : Bool
 
--- A folder: the file under the own name, the file under the second name, and what a power cut may put back under the own name
--- until the names are synced, the latest first. None is no file.
+-- A folder: the file under the own name, the file under the second name, and what a power cut may
+-- put back under the own name until the names are synced, the latest first. None is no file.
 pub record Folder : Type 0 where
   pub own : Option File
   pub second : Option File
@@ -43,18 +45,20 @@ unfoldable pub IsLeftOfOne : List (Option File) → List ℕ → Type 0
 IsLeftOfOne [] image = ⊥
 IsLeftOfOne (file ∷ others) image = IsLeftOf file image ⊎ IsLeftOfOne others image
 
--- A power cut may leave these bytes under the own name: of the file that is there, or of one that it puts back.
+-- A power cut may leave these bytes under the own name: of the file that is there, or of one that
+-- it puts back.
 abbrev pub MayLeave : Folder → List ℕ → Type 0
 MayLeave folder image = IsLeftOf folder.own image ⊎ IsLeftOfOne folder.earlier image
 
--- A power cut: under the own name is what it may leave, all of it synced, and that name is synced. Of the second name nothing is
--- known.
+-- A power cut: under the own name is what it may leave, all of it synced, and that name is synced.
+-- Of the second name nothing is known.
 pub record IsCrashed (old new : Folder) : Type 0 where
   pub left : MayLeave old (bytes_in new.own)
   pub synced : (new.own ≡ None) ⊎ (new.own ≡ Some (whole (bytes_in new.own)))
   pub names : new.earlier ≡ []
 
--- The end of a process: it is killed, and the folder stays as it is, unsynced bytes and names too; or the power is cut.
+-- The end of a process: it is killed, and the folder stays as it is, unsynced bytes and names too;
+-- or the power is cut.
 abbrev pub IsEnded : Folder → Folder → Type 0
 IsEnded old new = (new ≡ old) ⊎ IsCrashed old new
 

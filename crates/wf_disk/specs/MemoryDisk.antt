@@ -5,8 +5,9 @@ use Rattle.wf_disk.specs.declared.fault.DiskFault.TheVariants.{Device}
 use Rattle.wf_disk.specs.Moments.{last_count}
 use Rattle.wf_disk.specs.Folder.{File, Folder, whole, MayLeave}
 
--- The folder; the folders before it, the latest first; the number of the call that will fail, counted from 1 from now, or 0 for
--- none, and how much it keeps; and the count of the failures that were.
+-- The folder; the folders before it, the latest first; the number of the call that will fail,
+-- counted from 1 from now, or 0 for none, and how much it keeps; and the count of the failures that
+-- were.
 pub record DiskValue : Type 0 where
   pub folder : Folder
   pub past : List Folder
@@ -14,8 +15,8 @@ pub record DiskValue : Type 0 where
   pub kept : ℕ
   pub failures : ℕ
 
--- Of folders in order, the latest first, the earliest stood at moment 0, the next one at moment 1, and so on. A power cut in one of
--- them, at this moment or a later one, may leave the image.
+-- Of folders in order, the latest first, the earliest stood at moment 0, the next one at moment 1,
+-- and so on. A power cut in one of them, at this moment or a later one, may leave the image.
 unfoldable pub WasLeft : List Folder → ℕ → List ℕ → Type 0
 WasLeft [] moment image = ⊥
 WasLeft (folder ∷ older) moment image = ((moment ≤ length older) × MayLeave folder image) ⊎ WasLeft older moment image
@@ -32,12 +33,13 @@ IsLeftSince disk moment image = WasLeft (disk.folder ∷ disk.past) moment image
 unfoldable pub risen : ℕ → ℕ
 risen count = if nat_eq count last_count then count else count + 1
 
--- the file after a power cut that keeps so many of the bytes that weren't synced, at most all of them
+-- the file after a power cut that keeps so many of the bytes that weren't synced, at most all of
+-- them
 abbrev pub left_by : ℕ → File → File
 left_by keep file = whole (file.synced ++ take keep file.rest)
 
--- The file that a power cut puts back: 0 for the one that is there, then those before it, the latest first. Where there are fewer,
--- it is the one that is there.
+-- The file that a power cut puts back: 0 for the one that is there, then those before it, the
+-- latest first. Where there are fewer, it is the one that is there.
 abbrev pub file_back : ℕ → Folder → Option File
 file_back back folder = slice_index_or (folder.own ∷ folder.earlier) back folder.own
 

@@ -17,8 +17,9 @@ LeavesOldOr bytes old new = (image : List ℕ) → new image → old image ⊎ (
 abbrev pub LeavesOldOrNew : (List ℕ → Type 0) → (List ℕ → Type 0) → (List ℕ → Type 0) → Type 0
 LeavesOldOrNew old new inside = (image : List ℕ) → inside image → old image ⊎ new image
 
--- Time goes on: `past` and `since` give, before and after a call, what a crash at a moment or a later one could have left.
--- Nothing of it is forgotten, and it grows by nothing but what a crash could have left since the call began.
+-- Time goes on: `past` and `since` give, before and after a call, what a crash at a moment or a
+-- later one could have left. Nothing of it is forgotten, and it grows by nothing but what a crash
+-- could have left since the call began.
 pub record Elapses (before now : ℕ) (past since : ℕ → List ℕ → Type 0) : Type 0 where
   pub later : before ≤ now
   pub kept : (moment : ℕ) (image : List ℕ) → moment ≤ before → past moment image → since moment image

@@ -11,9 +11,10 @@ use std::io::ErrorKind;
 
 /// A disk: one folder with a file under its own name and one under a second name.
 ///
-/// Model: the folder, what a power cut at each earlier moment could have left under the own name, those inside a call included, and
-/// the count of the device's failures. The contracts about the folder and the moments hold of a durable disk. Honesty is a property
-/// of the type, so no call changes it.
+/// Model: the folder, what a power cut at each earlier moment could have left under the own name,
+/// those inside a call included, and the count of the device's failures. The contracts about the
+/// folder and the moments hold of a durable disk. Honesty is a property of the type, so no call
+/// changes it.
 pub trait Disk {
     /// The disk does what its calls say.
     ghost durable: { Type 0 };
@@ -30,7 +31,8 @@ pub trait Disk {
     /// The moment now, as a number that doesn't fall: each change ends a moment.
     ghost moment: { Self → ℕ };
 
-    /// What a power cut at this moment or a later one, up to now, could have left under the own name, inside a call or between two.
+    /// What a power cut at this moment or a later one, up to now, could have left under the own
+    /// name, inside a call or between two.
     ghost left_since: { Self → ℕ → List ℕ → Type 0 };
 
     /// Opens the own file, and makes it if it is absent. Call it once, before the others.
@@ -63,8 +65,8 @@ pub trait Disk {
             (MayLeave (folder self.new)) (left_since self.new (moment self.old)) }
         ensures cause { IsCounted (failed self.old) (failed self.new) result };
 
-    /// Syncs a file's bytes, unless an earlier sync of it failed: then it may return Ok and leave them as they are. Doesn't
-    /// allocate.
+    /// Syncs a file's bytes, unless an earlier sync of it failed: then it may return Ok and leave
+    /// them as they are. Doesn't allocate.
     fn sync(&mut self, name: Name) -> Result<(), DiskFault>
         ensures leaves { durable →
             IsLeft (Sync name) (folder self.old) (error_of result) (folder self.new) }
@@ -75,7 +77,8 @@ pub trait Disk {
             (MayLeave (folder self.new)) (left_since self.new (moment self.old)) }
         ensures cause { IsCounted (failed self.old) (failed self.new) result };
 
-    /// Gives the second file the own name. The file that had it goes, and until the names are synced a power cut may put it back.
+    /// Gives the second file the own name. The file that had it goes, and until the names are
+    /// synced a power cut may put it back.
     fn rename(&mut self) -> Result<(), DiskFault>
         ensures leaves { durable →
             IsLeft Rename (folder self.old) (error_of result) (folder self.new) }
@@ -112,7 +115,8 @@ pub trait Disk {
     fn failures(&self) -> u64
         ensures { result ≡ failed self.now };
 
-    /// What the system said of the last failure of the device. None: it hasn't failed, or no system said why.
+    /// What the system said of the last failure of the device. None: it hasn't failed, or no system
+    /// said why.
     fn cause(&self) -> Option<ErrorKind>
         ensures { result ≡ said self.now };
 

@@ -38,7 +38,8 @@ pub(crate) fn make(folder: &mut MemoryFolder, kept: Option<usize>) -> Result<(),
     }
 }
 
-/// Appends the bytes to a file. If it fails, it has appended the first of them, as many as are kept.
+/// Appends the bytes to a file. If it fails, it has appended the first of them, as many as are
+/// kept.
 #[tactic(auto, using(crate::proofs::Failures::append_short))]
 pub(crate) fn append(
     folder: &mut MemoryFolder,

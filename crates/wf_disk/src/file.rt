@@ -90,7 +90,8 @@ impl MemoryFile {
         self.doubtful = true;
     }
 
-    /// A power cut: keeps the synced bytes and at most `keep` bytes of the rest, all of them synced then.
+    /// A power cut: keeps the synced bytes and at most `keep` bytes of the rest, all of them synced
+    /// then.
     pub(crate) fn cut(&mut self, keep: usize)
         ensures { self.new ≡ left_by keep self.old }
     {

@@ -136,8 +136,9 @@ impl MemoryFolder {
         self.earlier.clear();
     }
 
-    /// A power cut: under the own name is one of the files that it may put back there, the file that is there for 0, with all its
-    /// synced bytes and at most `keep` bytes of the rest. The second file stays.
+    /// A power cut: under the own name is one of the files that it may put back there, the file
+    /// that is there for 0, with all its synced bytes and at most `keep` bytes of the rest. The
+    /// second file stays.
     pub(crate) fn cut(&mut self, back: usize, keep: usize)
         ensures { self.new ≡ cut_to back keep self.old }
     {
@@ -187,7 +188,8 @@ fn sync(file: &mut Option<MemoryFile>) -> Result<(), DiskFault>
     }
 }
 
-/// Puts back the file of this number: 0 is the one that is there, the others come after it. It stays where there are fewer.
+/// Puts back the file of this number: 0 is the one that is there, the others come after it. It
+/// stays where there are fewer.
 #[tactic(auto, using(crate::proofs::Files::put_back, crate::proofs::Files::stays_back))]
 fn put_back(own: &mut Option<MemoryFile>, others: &mut Vec<Option<MemoryFile>>, back: usize)
     ensures { own.new ≡ slice_index_or (own.old ∷ others.old.items) back own.old }

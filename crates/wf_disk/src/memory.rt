@@ -14,8 +14,9 @@ use std::io::ErrorKind;
 use std::marker::Model;
 use wf_past::Past;
 
-/// A disk in memory. It is durable, and its device fails only where a failure was set (`set_fuse`), or where the file of a call
-/// isn't there. What a power cut at each earlier moment could have left is known in proofs alone, and takes no memory.
+/// A disk in memory. It is durable, and its device fails only where a failure was set (`set_fuse`),
+/// or where the file of a call isn't there. What a power cut at each earlier moment could have left
+/// is known in proofs alone, and takes no memory.
 pub struct MemoryDisk {
     folder: MemoryFolder,
     past: Past<MemoryFolder, ()>,
@@ -69,8 +70,9 @@ impl MemoryDisk {
         }
     }
 
-    /// A power cut: under the own name is then one of the files that it may put back there, the one that is there for 0, with all its
-    /// synced bytes and at most `keep` bytes of the rest. The second file stays as it is. No earlier moment is known any more.
+    /// A power cut: under the own name is then one of the files that it may put back there, the one
+    /// that is there for 0, with all its synced bytes and at most `keep` bytes of the rest. The
+    /// second file stays as it is. No earlier moment is known any more.
     #[tactic(auto, using(crate::specs::FolderTheorems::cut_crashes))]
     pub fn cut(&mut self, back: usize, keep: usize)
         ensures crashed { IsCrashed self.old.folder self.new.folder }
@@ -84,9 +86,11 @@ impl MemoryDisk {
         self.past = Past::new();
     }
 
-    /// Sets a failure: the `call`-th call from now, counted from 1, fails once. An append that fails keeps `kept` of its bytes, at
-    /// most all of them. To open, to make and to rename, if it fails, has been done unless `kept` is 0. A sync that fails makes the
-    /// file doubtful. Call 0 sets no failure. A failure that was set before and that no call has reached is no longer set.
+    /// Sets a failure: the `call`-th call from now, counted from 1, fails once. An append that
+    /// fails keeps `kept` of its bytes, at most all of them. To open, to make and to rename, if it
+    /// fails, has been done unless `kept` is 0. A sync that fails makes the file doubtful. Call 0
+    /// sets no failure. A failure that was set before and that no call has reached is no longer
+    /// set.
     pub fn set_fuse(&mut self, call: usize, kept: usize)
         ensures folder { self.new.folder ≡ self.old.folder }
         ensures past { self.new.past ≡ self.old.past }
@@ -98,7 +102,8 @@ impl MemoryDisk {
         self.kept = kept;
     }
 
-    /// Notes the folder, and counts a call. If the failure that is set is this call's, returns how much it keeps.
+    /// Notes the folder, and counts a call. If the failure that is set is this call's, returns how
+    /// much it keeps.
     fn begin(&mut self) -> Option<usize>
         ensures kept { result ≡ burn self.old.call self.old.kept }
         ensures call { self.new.call ≡ self.old.call - 1 }

@@ -19,8 +19,9 @@ pub const FILE_READS: u32 = 1_048_576;
 /// The number of bytes requested in one read.
 const PIECE_BYTES: usize = 8192;
 
-/// A disk of the system: the file at a path, and a second one beside it. No contract sees what a file holds, so it declares itself
-/// not durable: that its calls leave what they say is an assumption, stated in words.
+/// A disk of the system: the file at a path, and a second one beside it. No contract sees what a
+/// file holds, so it declares itself not durable: that its calls leave what they say is an
+/// assumption, stated in words.
 #[derive(Drop)]
 pub struct SystemDisk<R: Files + Drop> {
     files: R,
@@ -36,8 +37,9 @@ pub struct SystemDisk<R: Files + Drop> {
 }
 
 impl<R: Files + Drop> SystemDisk<R> {
-    /// The disk of the file at the path, which is made when the disk is opened if it is absent. The second file's name has `.new`
-    /// appended. Nothing is opened yet. The only error is allocation failure.
+    /// The disk of the file at the path, which is made when the disk is opened if it is absent. The
+    /// second file's name has `.new` appended. Nothing is opened yet. The only error is allocation
+    /// failure.
     pub fn new(alloc: Global, files: R, path: &str) -> Result<SystemDisk<R>, DiskFault>
         ensures failures { IfOk result (λ disk. disk.failures ≡ 0) }
         ensures creates { IfOk result (λ disk. disk.creates ≡ true) }
@@ -45,8 +47,8 @@ impl<R: Files + Drop> SystemDisk<R> {
         SystemDisk::at(alloc, files, path, true)
     }
 
-    /// The disk of the file at the path, which is never made: where it is absent the disk doesn't open, and that is `Device`. Nothing
-    /// is opened yet. The only error is allocation failure.
+    /// The disk of the file at the path, which is never made: where it is absent the disk doesn't
+    /// open, and that is `Device`. Nothing is opened yet. The only error is allocation failure.
     pub fn existing(alloc: Global, files: R, path: &str) -> Result<SystemDisk<R>, DiskFault>
         ensures failures { IfOk result (λ disk. disk.failures ≡ 0) }
         ensures creates { IfOk result (λ disk. disk.creates ≡ false) }
@@ -85,8 +87,9 @@ impl<R: Files + Drop> SystemDisk<R> {
         DiskFault::Device
     }
 
-    /// Renames the second file to the first. If that fails, which of them has the path isn't known, so the path is opened again, and
-    /// no file is made there: a handle that was open may be one of a file without a name.
+    /// Renames the second file to the first. If that fails, which of them has the path isn't known,
+    /// so the path is opened again, and no file is made there: a handle that was open may be one of
+    /// a file without a name.
     fn put_second(&mut self) -> io::Result<()>
         ensures failures { self.new.failures ≡ self.old.failures }
         ensures said { self.new.cause ≡ self.old.cause }
@@ -105,7 +108,8 @@ impl<R: Files + Drop> SystemDisk<R> {
     }
 }
 
-/// The options to open a file to read and write, and to create it if it is absent and `creates` is set.
+/// The options to open a file to read and write, and to create it if it is absent and `creates` is
+/// set.
 fn to_read_and_write(creates: bool) -> OpenOptions
     ensures { asks_create result ≡ creates }
 {
@@ -114,7 +118,8 @@ fn to_read_and_write(creates: bool) -> OpenOptions
     options
 }
 
-/// Opens the file at the path to read and write, and creates it if it is absent and `creates` is set.
+/// Opens the file at the path to read and write, and creates it if it is absent and `creates` is
+/// set.
 fn open_file<R: Files>(files: &R, path: &str, creates: bool) -> io::Result<R::File> {
     to_read_and_write(creates).open(files, path)
 }

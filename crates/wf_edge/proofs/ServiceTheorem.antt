@@ -1,4 +1,5 @@
--- A request to the map service has one response, wherever the map that it asks for is the same, or its text alone rejects it.
+-- A request to the map service has one response, wherever the map that it asks for is the same, or
+-- its text alone rejects it.
 use Rattle.std.proofs.Common.{◌≡◌, ◌≢◌, ◌∙◌, ◌<◌, ℕ, List, length, Vec, refl, sym, ap, subst, arith}
 use Rattle.std.specs.Prelude.{Some, Result, Ok, Err}
 use Rattle.httparse.proofs.GrammarLemmas.{request_unique}

@@ -1,4 +1,5 @@
--- Responses of one line of plain text: an error response allocates nothing (RFC 9110, section 15; RFC 6585, section 5).
+-- Responses of one line of plain text: an error response allocates nothing (RFC 9110, section 15;
+-- RFC 6585, section 5).
 use Rattle.std.specs.Prelude.{ℕ, List, ◌++◌, codes, Option, Some, None, Result, Ok, Err}
 use Rattle.wf_node.specs.declared.fault.NodeFault.{NodeFault}
 use Rattle.wf_node.specs.declared.fault.NodeFault.TheVariants as node

@@ -1,5 +1,5 @@
--- A request only adds to the node's list of published maps, and pictures cached for a list are valid for each list that has grown
--- from it.
+-- A request only adds to the node's list of published maps, and pictures cached for a list are
+-- valid for each list that has grown from it.
 use Rattle.std.proofs.Common.{◌≡◌, Bool, true, false, List, Vec, refl, sym, ap, subst}
 use Rattle.std.specs.Prelude.{Result}
 use Rattle.wf_codec.specs.declared.message.Message.{Message}

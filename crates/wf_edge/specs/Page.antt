@@ -42,7 +42,8 @@ pub record IsServicePage (history : List Definition) (query : List ℕ) (page : 
   pub is_answer : IsLastAnswer history query answer
   pub is_page : page ≡ service_page answer
 
--- That page, or an allocation of the map service failed. Only the map service answers a query: none is rejected before.
+-- That page, or an allocation of the map service failed. Only the map service answers a query: none
+-- is rejected before.
 abbrev pub IsServiceGiven : List Definition → List ℕ → Result Response ErrorResponse → Type 0
 IsServiceGiven history query (Ok page) = IsServicePage history query page
 IsServiceGiven history query (Err n) = n ≡ error_response.Unavailable

@@ -28,7 +28,8 @@ module _ {P : Type 0} (changes : List Definition → List ℕ → P → P → Ty
   Changes asked.Status history query answer old new = new ≡ old
   Changes (asked.Publish bytes) history query answer old new = new ≡ old
 
-  -- A request that only reads was answered from a list of published maps and a status, and its response written: that is the change.
+  -- A request that only reads was answered from a list of published maps and a status, and its
+  -- response written: that is the change.
   pub record IsReadBy {K : Type 0} (sinks : Sink K) (request : Request) (history : List Definition) (status : Status) (sink sink_after : K) (old new : P) (completion : Outcome) : Type 0 where
     pub answer : Result Response ErrorResponse
     pub answers : Answers request.asked (query_of request.head.target) history status answer

@@ -4,7 +4,8 @@ use Rattle.wf_stream.specs.Effects.{Rises}
 use Rattle.wf_edge.specs.declared.outcome.Outcome.{Outcome}
 use Rattle.wf_edge.specs.declared.outcome.Outcome.TheVariants as outcome
 
--- A failed read is reported iff one has failed: an outcome of any response, even 503, means that none has.
+-- A failed read is reported iff one has failed: an outcome of any response, even 503, means that
+-- none has.
 abbrev pub CountsReceiving : Outcome → ℕ → ℕ → Type 0
 CountsReceiving outcome.ReadFailed old new = Rises old new
 CountsReceiving outcome.NoRequest old new = new ≡ old

@@ -50,7 +50,8 @@ IsPublish (asked.Publish bytes) = Unit {0}
 
 -- ---- the reply
 
--- the answer to a request that only reads, by what it asks for and its query, from a list of published maps and a status
+-- the answer to a request that only reads, by what it asks for and its query, from a list of
+-- published maps and a status
 abbrev pub Answers : RequestedResource → List ℕ → List Definition → Status → Result Response ErrorResponse → Type 0
 Answers asked.Wms query history status answer = IsServiceGiven history query answer
 Answers asked.Status query history status answer = answer ≡ Ok (status_page status)
@@ -71,7 +72,8 @@ abbrev pub HandsOut : {A : Type 0} → Result (Vec Message A) NodeFault → Vec 
 HandsOut (Ok messages) sent = sent ≡ messages
 HandsOut (Err why) sent = sent.items ≡ []
 
--- A request that only reads was answered from a list of published maps and a status, and its response written.
+-- A request that only reads was answered from a list of published maps and a status, and its
+-- response written.
 pub record IsReadAnswered {K : Type 0} (sinks : Sink K) (request : Request) (history : List Definition) (status : Status) (old new : K) (completion : Outcome) : Type 0 where
   pub answer : Result Response ErrorResponse
   pub answers : Answers request.asked (query_of request.head.target) history status answer
@@ -91,7 +93,8 @@ module _ {T A : Type 0} (tapes : Tape T) where
   GivesTo asked.Status request before answer sent after = (answer ≡ Ok (status_page (status_at before))) × IsUnmoved before sent after
   GivesTo (asked.Publish bytes) request before answer sent after = GivesPublish request.body before answer sent after
 
-  -- the reply to what was read: a rejection and allocation failure are reported, and leave the node unchanged
+  -- the reply to what was read: a rejection and allocation failure are reported, and leave the node
+  -- unchanged
   abbrev pub Gives : Result Request RequestFault → Node T → Result Response ErrorResponse → Vec Message A → Node T → Type 0
   Gives (Ok request) before answer sent after = GivesTo request.asked request before answer sent after
   Gives (Err (fault.Rejected r)) before answer sent after = (answer ≡ Err (error_response.Rejected r)) × IsUnmoved before sent after
@@ -132,8 +135,8 @@ module _ {T A : Type 0} (tapes : Tape T) where
     pub written : WritesPart (response_bytes response) old new count
     pub status_is : status ≡ response.status
 
-  -- The outcome of one request. There is no request only if the input is empty; then, and if the reader failed, nothing is
-  -- written.
+  -- The outcome of one request. There is no request only if the input is empty; then, and if the
+  -- reader failed, nothing is written.
   abbrev pub IsOutcome : Option (List ℕ) → Option (List ℕ) → Option (List ℕ) → Node T → Vec Message A → Node T → Outcome → Type 0
   IsOutcome input old new before sent after (outcome.Sent status count) = SendsAll input old new before sent after status count
   IsOutcome input old new before sent after (outcome.WriteFailed status count) = SendsPart input old new before sent after status count
@@ -149,22 +152,24 @@ module _ {T A : Type 0} (tapes : Tape T) where
       pub gives : GivesTo request.asked request before answer sent after
       pub completes : Completes sinks (response_of answer) old new completion
 
-    -- this many first bytes of a response were written without a failure; then a call failed, and no call came after it
+    -- this many first bytes of a response were written without a failure; then a call failed, and
+    -- no call came after it
     pub record StopsAtFailure (input : Option (List ℕ)) (old new : K) (before : Node T) (sent : Vec Message A) (after : Node T) (status count : ℕ) : Type 0 where
       pub response : Response
       pub responds : Responds input before response sent after
       pub breaks : BreaksOff sinks (response_bytes response) old new count
       pub status_is : status ≡ response.status
 
-    -- A failed write is the last call. Where the input is empty or the reader failed, the writer isn't called.
+    -- A failed write is the last call. Where the input is empty or the reader failed, the writer
+    -- isn't called.
     abbrev pub IsEnding : Option (List ℕ) → K → K → Node T → Vec Message A → Node T → Outcome → Type 0
     IsEnding input old new before sent after (outcome.Sent status count) = Unit {0}
     IsEnding input old new before sent after (outcome.WriteFailed status count) = StopsAtFailure input old new before sent after status count
     IsEnding input old new before sent after outcome.ReadFailed = new ≡ old
     IsEnding input old new before sent after outcome.NoRequest = new ≡ old
 
-    -- One request was served: what was written and what the node did, also where the input isn't known, and how the reading and the
-    -- writing ended.
+    -- One request was served: what was written and what the node did, also where the input isn't
+    -- known, and how the reading and the writing ended.
     pub record Serves {S : Type 0} (sources : Source S) (source source_after : S) (sink sink_after : K) (before : Node T) (sent : Vec Message A) (after : Node T) (completion : Outcome) : Type 0 where
       pub outcome : IsOutcome (sources.left source) (sinks.written sink) (sinks.written sink_after) before sent after completion
       pub moves : MovesOnce before sent after

@@ -112,7 +112,8 @@ module _ {T A : Type 0} (tapes : Tape T) where
         served_by asked.Status request old new node node answer sent completion is (answers, record { same = refl; quiet = quiet }) completes
     answer_given (asked.Publish bytes) request old new node answer completion is answers completes sent quiet = absurd answers
 
-    -- what was answered from a node's list of published maps and its status was answered by the node, which sends nothing
+    -- what was answered from a node's list of published maps and its status was answered by the
+    -- node, which sends nothing
     pub read_served : (request : Request) (old new : K) (node : Node T) (history : List Definition) (status : Status) (completion : Outcome)
         → history ≡ node.parts.history → status ≡ status_at node → IsReadAnswered sinks request history status old new completion
         → (sent : Vec Message A) → sent.items ≡ [] → IsServed tapes sinks request old new node sent node completion

@@ -1,5 +1,5 @@
--- How writing a response ends: a call that fails is the last one, and where there is no response no call is made. This holds of
--- each writer, also of one whose bytes aren't known.
+-- How writing a response ends: a call that fails is the last one, and where there is no response no
+-- call is made. This holds of each writer, also of one whose bytes aren't known.
 use Rattle.std.specs.Prelude.{◌≡◌}
 use Rattle.wf_edge.specs.ErrorResponse.{response_of_error}
 use Rattle.wf_edge.specs.Completion.{IsCompleted, CountsCompleting}
@@ -20,7 +20,8 @@ module _ {K : Type 0} (sinks : Sink K) where
   IsEnded response old new outcome.ReadFailed = ⊥
   IsEnded response old new outcome.NoRequest = ⊥
 
-  -- for the crate's own contracts: what was written of the response, whether a write failed, and how the response ended
+  -- for the crate's own contracts: what was written of the response, whether a write failed, and
+  -- how the response ended
   pub record Completes (response : Response) (old new : K) (completion : Outcome) : Type 0 where
     pub written : IsCompleted response (sinks.written old) (sinks.written new) completion
     pub counts : CountsCompleting completion (sinks.failures old) (sinks.failures new)

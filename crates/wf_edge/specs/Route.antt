@@ -1,4 +1,5 @@
--- The routes of a node: which resource is at a path, which method it has, and what the head of a request asks for.
+-- The routes of a node: which resource is at a path, which method it has, and what the head of a
+-- request asks for.
 use Rattle.std.specs.Prelude.{ℕ, List, [], ◌∷◌, bytes_eq, codes, Option, Some, None, Result, Ok, Err, if◌then◌else◌}
 use Rattle.wf_http.specs.Checks.{body_length, check_target, first_failing, unless_rejected}
 use Rattle.wf_http.specs.Head.{Head}

@@ -22,9 +22,11 @@ pub record AsksMapService (input query : List ℕ) : Type 0 where
   pub of_service : request.asked ≡ Wms
   pub of_query : query_of request.head.target ≡ query
 
--- Two nodes with these lists of published maps answer the query alike. Either both lists have the same length, and the map that the
--- query is about is the same; or the query is a GetMap request for a sequence at which both have the same map, however many more
--- there are. Or the lists may differ in every way, where its text alone rejects the query, or both nodes do by the same exception.
+-- Two nodes with these lists of published maps answer the query alike. Either both lists have the
+-- same length, and the map that the query is about is the same; or the query is a GetMap request
+-- for a sequence at which both have the same map, however many more there are. Or the lists may
+-- differ in every way, where its text alone rejects the query, or both nodes do by the same
+-- exception.
 pub data AnswerAlike (query : List ℕ) (history other : List Definition) : Type 0 where
   stand_alike : length other ≡ length history → map_at history (subject (length history) query) ≡ map_at other (subject (length history) query)
       → AnswerAlike query history other
@@ -40,8 +42,8 @@ EachQueryHasOnePage = (query : List ℕ) (history other : List Definition) (page
     IsServicePage history query page → IsServicePage other query another → another ≡ page
 
 module _ {T : Type 0} (A : Type 0) (tapes : Tape T) where
-  -- Two nodes, or one node at two times, that receive equal requests to the map service and answer them alike, respond with equal
-  -- bytes, if neither responds with allocation failure.
+  -- Two nodes, or one node at two times, that receive equal requests to the map service and answer
+  -- them alike, respond with equal bytes, if neither responds with allocation failure.
   abbrev pub EqualRequestsHaveEqualResponses : Type 0
   EqualRequestsHaveEqualResponses = (input query : List ℕ) (before after other other_after : Node T) (sent other_sent : Vec Message A) (response another : Response) →
       AsksMapService input query → AnswerAlike query before.parts.history other.parts.history →

@@ -1,6 +1,6 @@
--- Which requests may be answered with 503: those alone for which something is allocated, and a publish whose step the node's tape
--- fails. That an allocation was rejected can't be said: std's contracts have no count of rejected allocations, and don't say when
--- one succeeds.
+-- Which requests may be answered with 503: those alone for which something is allocated, and a
+-- publish whose step the node's tape fails. That an allocation was rejected can't be said: std's
+-- contracts have no count of rejected allocations, and don't say when one succeeds.
 use Rattle.std.specs.Prelude.{◌≡◌, ℕ, List, Some, Err, Vec}
 use Rattle.wf_codec.specs.declared.message.Message.{Message}
 use Rattle.wf_def.specs.Definition.{Definition}
@@ -25,7 +25,8 @@ pub record BeginsWithPublish (input body : List ℕ) : Type 0 where
   pub of_body : request.body ≡ body
 
 module _ {T : Type 0} (A : Type 0) (tapes : Tape T) where
-  -- the step Propose of the body's map failed: an allocation of it did, or the node's tape does, or did before
+  -- the step Propose of the body's map failed: an allocation of it did, or the node's tape does, or
+  -- did before
   pub record FailsToPropose (body : List ℕ) (before after : Node T) : Type 0 where
     pub map : Definition
     pub of_body : IsMapOf body map
@@ -33,8 +34,9 @@ module _ {T : Type 0} (A : Type 0) (tapes : Tape T) where
     pub step : IsProposed {A = A} tapes before map (Err why) after
     pub is : error_of_result why ≡ Unavailable
 
-  -- A request to the map service, whose documents are allocated; a publish whose body, of at least one byte, isn't read yet; or one
-  -- whose body is within the limit of a mapfile and UTF-8, so that it is read as a map; or one whose step fails.
+  -- A request to the map service, whose documents are allocated; a publish whose body, of at least
+  -- one byte, isn't read yet; or one whose body is within the limit of a mapfile and UTF-8, so that
+  -- it is read as a map; or one whose step fails.
   pub data MayBeUnavailable (input : List ℕ) (before after : Node T) : Type 0 where
     by_service : (query : List ℕ) → AsksMapService input query → MayBeUnavailable input before after
     by_body : AsksForBody input → MayBeUnavailable input before after

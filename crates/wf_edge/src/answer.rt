@@ -81,9 +81,10 @@ fn page_for<P: Pictures>(
     }
 }
 
-/// Answers a request that isn't a publish from the maps that are published and a status, and writes the response: of a node its
-/// history and [`status_of`] it. Allocation failure is answered with 503. The pictures are those after the query to the map
-/// service; a status, and an allocation failure, leave them unchanged.
+/// Answers a request that isn't a publish from the maps that are published and a status, and writes
+/// the response: of a node its history and [`status_of`] it. Allocation failure is answered
+/// with 503. The pictures are those after the query to the map service; a status, and an allocation
+/// failure, leave them unchanged.
 pub fn answer_get<K: Sink, P: Pictures>(
     alloc: Global,
     sink: &mut K,

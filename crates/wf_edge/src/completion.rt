@@ -8,8 +8,8 @@ use crate::outcome::Outcome;
 use wf_http::{RequestFault, Response};
 use wf_stream::Sink;
 
-/// Writes a response: all of it if `Sent`, otherwise a prefix, and no call comes after the failed one. Both report the response's
-/// status and the number of bytes written.
+/// Writes a response: all of it if `Sent`, otherwise a prefix, and no call comes after the failed
+/// one. Both report the response's status and the number of bytes written.
 pub fn write_response<K: Sink>(sink: &mut K, response: &Response<'_>) -> Outcome
     ensures completion { IsCompleted response.now (K.written sink.old) (K.written sink.new) result }
     ensures writes { CountsCompleting result (K.failures sink.old) (K.failures sink.new) }
@@ -21,8 +21,8 @@ pub fn write_response<K: Sink>(sink: &mut K, response: &Response<'_>) -> Outcome
     }
 }
 
-/// Responds if there is no request: writes the rejection, or 503 if an allocation failed. The writer isn't called if the input is
-/// empty or a read failed. Allocates nothing.
+/// Responds if there is no request: writes the rejection, or 503 if an allocation failed. The
+/// writer isn't called if the input is empty or a read failed. Allocates nothing.
 #[tactic(auto, using(wf_stream::specs::KnownTheorems::keeps_same))]
 pub fn write_error<K: Sink>(sink: &mut K, fault: RequestFault) -> Outcome
     ensures completion { IsErrorCompleted fault (K.written sink.old) (K.written sink.new) result }

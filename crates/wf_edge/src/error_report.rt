@@ -102,7 +102,8 @@ pub fn respond_to_error(error_response: ErrorResponse) -> Response<'static>
     )
 }
 
-/// The error response for a request that can't be read; none if the input is empty or a read failed.
+/// The error response for a request that can't be read; none if the input is empty or a read
+/// failed.
 pub fn error_of_fault(fault: RequestFault) -> Option<ErrorResponse>
     ensures { result ≡ error_of_fault fault }
 {

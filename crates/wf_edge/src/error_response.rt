@@ -13,7 +13,8 @@ pub enum ErrorResponse {
     Busy,
     /// 409 `N3`: the last sequence is published.
     SequenceFull,
-    /// 409 `N4`: the proposal would need a new round, and there is no higher one. A leader needs none.
+    /// 409 `N4`: the proposal would need a new round, and there is no higher one. A leader needs
+    /// none.
     RoundsFull,
     /// 503: an allocation failed, or the node's tape fails or has failed before.
     Unavailable,

@@ -19,7 +19,8 @@ pub trait Pictures {
     /// What the answer to a query does to them, by these maps: those before, and those after.
     ghost changes: { List Definition → List ℕ → Self → Self → Type 0 };
 
-    /// The map service's answer to a query, at the last published sequence. An error leaves the pictures unchanged.
+    /// The map service's answer to a query, at the last published sequence. An error leaves the
+    /// pictures unchanged.
     fn answer(
         &mut self,
         alloc: Global,

@@ -63,8 +63,8 @@ fn canon_of(alloc: Global, body: &[u8], map: MapDef) -> Result<Canon, PublishFau
     }
 }
 
-// The map in a body, with its canonical text. A body that is a canonical text, as `wfarm canon` writes it, is scanned: that takes a
-// fraction of the time.
+// The map in a body, with its canonical text. A body that is a canonical text, as `wfarm canon`
+// writes it, is scanned: that takes a fraction of the time.
 #[tactic(auto, using(crate::proofs::PublishTheorem::is_scanned))]
 fn canon_in(alloc: Global, body: &[u8]) -> Result<Canon, PublishFault>
     ensures ok { IfOk result (IsMapOf body.now) }
@@ -111,8 +111,9 @@ fn publish_map<T: Tape>(
     }
 }
 
-/// Publishes the map in a body: performs the node's step Propose, and returns the page that reports it and the messages of the
-/// step. No step is made if the body isn't a map, its canonical text is too long, or an allocation fails before.
+/// Publishes the map in a body: performs the node's step Propose, and returns the page that reports
+/// it and the messages of the step. No step is made if the body isn't a map, its canonical text is
+/// too long, or an allocation fails before.
 fn publish<T: Tape>(
     alloc: Global,
     node: &mut Node<T>,

@@ -39,8 +39,9 @@ fn body_bytes(asked: RequestedResource) -> usize
 }
 
 impl Request {
-    /// Reads a request: its head, the checks on it, and its body. Bytes after it are ignored, and are read only in one piece with
-    /// the last of the head. A rejection is that of the first check that fails. Only a body allocates.
+    /// Reads a request: its head, the checks on it, and its body. Bytes after it are ignored, and
+    /// are read only in one piece with the last of the head. A rejection is that of the first check
+    /// that fails. Only a body allocates.
     #[tactic(auto, using(crate::proofs::RequestTheorem::head_failed, crate::proofs::RequestTheorem::check_failed, crate::proofs::RequestTheorem::body_failed, crate::proofs::RequestTheorem::request_read, crate::proofs::RequestTheorem::request_taken))]
     pub fn read<S: Source>(alloc: Global, source: &mut S) -> Result<Self, RequestFault>
         ensures asks { IfOk result (λ request. resolved request.head ≡ Ok request.asked) }

@@ -85,9 +85,9 @@ fn resolve_at(found: Option<Resource>, fields: &Fields<'_>) -> Result<RequestedR
     }
 }
 
-/// What a head asks for, or the rejection by the first check that fails: of the target (400), its path (404), its method (405),
-/// and, for a publish, the body's coding (501), whether its length is given (411), is one whole number (400) and is within the
-/// limit (413).
+/// What a head asks for, or the rejection by the first check that fails: of the target (400), its
+/// path (404), its method (405), and, for a publish, the body's coding (501), whether its length is
+/// given (411), is one whole number (400) and is within the limit (413).
 #[tactic(auto, unfolding(crate::specs::Route::resolved))]
 pub fn resolve(front: &Front) -> Result<RequestedResource, HttpError>
     ensures { result ≡ resolved front.now.head }

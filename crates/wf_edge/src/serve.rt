@@ -31,8 +31,8 @@ pub struct Served {
     pub messages: Vec<Message>,
 }
 
-/// Proposes the map in a publish's body by a node, and writes the response. The messages of the node's step are returned whether or
-/// not the write succeeds; nothing is allocated after the step.
+/// Proposes the map in a publish's body by a node, and writes the response. The messages of the
+/// node's step are returned whether or not the write succeeds; nothing is allocated after the step.
 #[tactic(auto, using(crate::specs::RequestEffectTheorems::publish_served))]
 pub fn publish_request<K: Sink, T: Tape>(
     alloc: Global,
@@ -108,12 +108,14 @@ fn answer_request<K: Sink, T: Tape, P: Pictures>(
     }
 }
 
-/// Serves one request: reads it, and nothing after it but what came in one piece with the last of its head, answers it by the
-/// node, and writes the response. A prefix of the response is written, all of it if `Sent`; a failed write is the last call of the
-/// writer, which isn't called at all if the reader failed or the input is empty. POST /publish is the node's step Propose if its
-/// checks pass, its body is a map with a canonical text, and no allocation fails before the step; the step's messages are returned
-/// whether or not the write succeeds. Any other request leaves the node unchanged. Allocation failure is answered with 503;
-/// nothing is allocated after the step of a publish.
+/// Serves one request: reads it, and nothing after it but what came in one piece with the last of
+/// its head, answers it by the node, and writes the response. A prefix of the response is written,
+/// all of it if `Sent`; a failed write is the last call of the writer, which isn't called at all if
+/// the reader failed or the input is empty. POST /publish is the node's step Propose if its checks
+/// pass, its body is a map with a canonical text, and no allocation fails before the step; the
+/// step's messages are returned whether or not the write succeeds. Any other request leaves the
+/// node unchanged. Allocation failure is answered with 503; nothing is allocated after the step of
+/// a publish.
 pub fn serve_one<S: Source, K: Sink, T: Tape>(
     alloc: Global,
     source: &mut S,
@@ -132,8 +134,9 @@ pub fn serve_one<S: Source, K: Sink, T: Tape>(
     serve_with(alloc, source, sink, node, &mut Uncached)
 }
 
-/// Serves one request as [`serve_one`] does, with a cache of pictures of the node's maps, which stays valid: a publish only adds to
-/// the node's history. The cache is unchanged, or as one query to the map service leaves it.
+/// Serves one request as [`serve_one`] does, with a cache of pictures of the node's maps, which
+/// stays valid: a publish only adds to the node's history. The cache is unchanged, or as one query
+/// to the map service leaves it.
 pub fn serve_one_cached<S: Source, K: Sink, T: Tape>(
     alloc: Global,
     source: &mut S,

@@ -113,7 +113,8 @@ impl TextLine {
     }
 }
 
-/// The line with the node's status: its number, its last published sequence and the state of its proposal.
+/// The line with the node's status: its number, its last published sequence and the state of its
+/// proposal.
 #[tactic(auto, unfolding(crate::specs::Page::status_words))]
 pub(crate) fn status_line(id: NodeId, published: Seq, proposal_state: ProposalState) -> TextLine
     ensures { result.bytes.items ≡ text_line (status_words id published proposal_state) }

@@ -1,5 +1,5 @@
--- A tape that a crash within a step left, and the node that is opened from it: which durable state it has shows in the tape's
--- length.
+-- A tape that a crash within a step left, and the node that is opened from it: which durable state
+-- it has shows in the tape's length.
 use Rattle.std.proofs.Common.{◌≡◌, ℕ, ◌+◌, ◌<◌, true, false, List, [], ◌∷◌, ◌++◌, length, take, Option, Some, None, sym, ap, subst, ◌∙◌, arith, inl, inr, Bool, nat_lt, length-append, if◌then◌else◌}
 use Rattle.wf_farm.proofs.Common.{le-ltb, lt-ltb, append-nil, nil_from_length, take-take, take_all, same_Some, Definition, DurableState, Record, fold, ReadsOn, ReadsWith, IsFoldOf, Follows, IsSettled, ReadsSame, TapeValue, IsImageNow, AreRecords, BeginsWithNone, ReadsAs, Splits, length_of, IsCutTape, kept_beyond, stored_by}
 use Rattle.wf_ballot.specs.Field.{frame}

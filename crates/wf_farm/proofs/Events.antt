@@ -74,7 +74,8 @@ host_members hosts i host after at keeps sturdy = record {
   ];
 }
 
--- A farm keeps its members where one entry is set, with the number of entries and the entry's index given by other names.
+-- A farm keeps its members where one entry is set, with the number of entries and the entry's index
+-- given by other names.
 pub cast_members : (hosts : List MemoryHost) (i : ℕ) (host after : MemoryHost) (n id : ℕ) → slice_get hosts i ≡ Some host → n ≡ length hosts → id ≡ i → (IsHostOf n id host → IsHostOf n id after) →
     KeepsSturdy host after → KeepMembers hosts (slice_set hosts i after)
 cast_members hosts i host after n id at many is keeps sturdy = host_members hosts i host after at

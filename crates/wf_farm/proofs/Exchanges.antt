@@ -1,4 +1,5 @@
--- A farm's entry whose node takes an input; and what a client does to a farm's node is done to the nodes.
+-- A farm's entry whose node takes an input; and what a client does to a farm's node is done to the
+-- nodes.
 use Rattle.std.proofs.Common.{◌≡◌, ℕ, zero, suc, ◌∷◌, slice_index_or, ◌≤◌, Bool, false, List, [], length-set, slice_get, slice_set, Some, refl, sym, ap, subst, ◌∙◌, arith, Vec}
 use Rattle.wf_farm.proofs.Common.{Global, none-some, same_Some, Message, Definition, Input, Node, NodeHost, Running, Stopped, StandAmong, IsAsked, IsReadyFor, IsSturdy, ReachabilityGoesOn, IsSoundFarm, Takes, AreReachableFrom, AreReachableSending, KeepEntries, KeepsEntry, nodes_of, set_there, keep_set, length-nodes, nodes_get, nodes_set}
 use Rattle.wf_farm.specs.Hosts.{AreMembers}

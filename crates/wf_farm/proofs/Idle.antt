@@ -1,4 +1,5 @@
--- Whether a node takes a step: it exists and runs, the step's message was sent, and the table doesn't reject it. Otherwise nothing happens.
+-- Whether a node takes a step: it exists and runs, the step's message was sent, and the table
+-- doesn't reject it. Otherwise nothing happens.
 use Rattle.std.proofs.Common.{◌≡◌, ◌∙◌, ℕ, Bool, true, false, is_some, List, length, map, slice_get, Option, Some, None, option_map, refl, sym, ap, subst}
 use Rattle.wf_farm.proofs.Common.{false≢true, none-some, same_Some, slice_get-map, Message, Definition, definition_eq, Action, Input, StepRejection, step_rejection, after_torn, after_turn, delivered, happens, input_of, step_rejection_of, refused, turn_of, Kept, Node, stored_of, volatile_of, proposal_step_rejection, step_rejection_at, retry_step_rejection, NodeFault, TapeValue, Running, Stopped, Rejection, reported, IsHappened, MemoryHost, IsHostOf, rejection_in, IsIdle, ReportsWhyNot, acted}
 use Rattle.wf_codec.specs.Message as message

@@ -1,4 +1,5 @@
--- The entries of a farm as a list of nodes; and a farm over durable tapes whose nodes are led on is reached still.
+-- The entries of a farm as a list of nodes; and a farm over durable tapes whose nodes are led on is
+-- reached still.
 use Rattle.std.proofs.Common.{◌≡◌, ℕ, zero, suc, Bool, true, false, List, [], ◌∷◌, ◌++◌, map, length, slice_get, slice_set, Option, Some, None, refl, sym, ap, subst, ◌∙◌, arith, inl, inr, length-set}
 use Rattle.wf_farm.proofs.Common.{both_ways, cases_eq, false≢true, append-nil, none-some, same_Some, Message, Definition, definition_eq, steps_in_turn, World, start, after, steps, AllStandFor, Node, NodeHost, Running, Stopped, AnyPart, StandAmong, StandFor, StandInTurn, MayLeaveOfEach, IsNodeBy, IsReachable, AreReachableFrom, AreReachable, Reach, AreChanged, Changed, KeepEntries, KeepHosts, KeepsEntry, KeepsHost, Unchanged, node_in, nodes_of, keep_set, keep_themselves, keep_twice, keeps_itself, length-nodes, nodes_back, nodes_get, get_set_same, get_set_other}
 use Rattle.wf_codec.specs.Message as message

@@ -1,4 +1,5 @@
--- Events while a node's tape may fail: the farm, whose tapes may fail or not, and whose failures are set and taken away.
+-- Events while a node's tape may fail: the farm, whose tapes may fail or not, and whose failures
+-- are set and taken away.
 use Rattle.std.proofs.Common.{◌≡◌, ◌∙◌, ℕ, ◌≤◌, ◌<◌, List, ◌++◌, length, slice_get, slice_set, Option, Some, None, inl, inr, refl, sym, ap, subst, arith}
 use Rattle.wf_farm.proofs.Common.{cases_eq, none-some, same_Some, slice_get_within, Message, Definition, definition_eq, steps_in_turn, Action, Event, steps, NeverFails, ChangesByEvent, ChangesByStep, AreSoundHosts, Happens, KeepMembers, Moves, StayShown, FarmFault, Memory, may_allocate, FailsOnly, FailsWithin, IsHappened, NoneFails, MemoryHost, tape_in, with_fuse_in, get_set_other, get_set_same}
 use Rattle.wf_model.specs.World as world

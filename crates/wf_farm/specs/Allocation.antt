@@ -1,5 +1,6 @@
--- Which events may allocate: only those that have an effect. So an allocation never fails at an event that is rejected, that is about
--- an absent node or an absent message, or that its node's being stopped or running leaves without effect.
+-- Which events may allocate: only those that have an effect. So an allocation never fails at an
+-- event that is rejected, that is about an absent node or an absent message, or that its node's
+-- being stopped or running leaves without effect.
 use Rattle.std.specs.Prelude.{◌≡◌, ℕ, Bool, true, false, List, take, slice_get, Option, Some, None, is_some, is_none}
 use Rattle.wf_farm.specs.Common.{Message, Definition, definition_eq, Action, World, Event, turn, steps}
 use Rattle.wf_model.specs.World as world
@@ -18,8 +19,8 @@ abbrev pub is_stopped : Option (world.Node Definition) → Bool
 is_stopped None = false
 is_stopped (Some node) = is_none node.volatile
 
--- Whether the event may allocate: its step is taken, also if the node crashes after the step's record; or its stopped node restarts.
--- A stop doesn't, nor does a crash before the step's record.
+-- Whether the event may allocate: its step is taken, also if the node crashes after the step's
+-- record; or its stopped node restarts. A stop doesn't, nor does a crash before the step's record.
 unfoldable pub may_allocate : World Definition → Event Definition → Bool
 may_allocate w (world.Act i action) = is_taken w i action
 may_allocate w (world.Stop i) = false
@@ -40,7 +41,8 @@ abbrev pub MayAllocateIn : World Definition → Option (Event Definition) → Ty
 MayAllocateIn w None = ⊥
 MayAllocateIn w (Some event) = may_allocate w event ≡ true
 
--- of these events the one of this number, counted from 0, may allocate in the world after those before it
+-- of these events the one of this number, counted from 0, may allocate in the world after those
+-- before it
 unfoldable pub MayAllocateAt : ℕ → List (Event Definition) → List MemoryHost → List Message → Type 0
 MayAllocateAt done events hosts sent = (w : World Definition) → Refines hosts sent w → MayAllocateIn (steps definition_eq w (take done events)) (slice_get events done)
 

@@ -1,4 +1,5 @@
--- Deliveries by a carrier: why one isn't made, and that the carrier is used only where a delivery has an effect.
+-- Deliveries by a carrier: why one isn't made, and that the carrier is used only where a delivery
+-- has an effect.
 use Rattle.std.specs.Prelude.{◌≡◌, ◌⊎◌, ℕ, ⊤, false, List}
 use Rattle.wf_farm.specs.Common.{Message, Definition, Action, World, Event}
 use Rattle.wf_farm.specs.declared.carrier.CarrierFault.{CarrierFault}
@@ -24,10 +25,12 @@ IsMemory (Carried done) = ⊥
 abbrev pub IsUndelivered : FarmFault → Type 0
 IsUndelivered fault = (fault ≡ Memory 0) ⊎ (fault ≡ Carried 0)
 
--- Only a step that node i takes changes this: it is unchanged from a world in which the node doesn't take the step.
+-- Only a step that node i takes changes this: it is unchanged from a world in which the node
+-- doesn't take the step.
 unfoldable pub ChangesByStep : {C : Type 0} → ℕ → Action Definition ℕ → List MemoryHost → List Message → C → C → Type 0
 ChangesByStep i action hosts sent before after = (w : World Definition) → Refines hosts sent w → is_taken w i action ≡ false → after ≡ before
 
--- Only an event that may allocate changes this: it is unchanged from a world in which the event has no effect that may allocate.
+-- Only an event that may allocate changes this: it is unchanged from a world in which the event has
+-- no effect that may allocate.
 unfoldable pub ChangesByEvent : {C : Type 0} → Event Definition → List MemoryHost → List Message → C → C → Type 0
 ChangesByEvent event hosts sent before after = (w : World Definition) → Refines hosts sent w → may_allocate w event ≡ false → after ≡ before

@@ -1,4 +1,5 @@
--- An exchange: a node of a farm is asked to do something, and its messages are delivered, and those sent in reply.
+-- An exchange: a node of a farm is asked to do something, and its messages are delivered, and those
+-- sent in reply.
 use Rattle.std.specs.Prelude.{◌≡◌, ℕ, List, slice_get, slice_set, Some, Vec}
 use Rattle.wf_farm.specs.Common.{Global, Message, Node}
 use Rattle.wf_delivery.specs.declared.delivery.Pumped.{Pumped}
@@ -26,8 +27,9 @@ module _ {T : Type 0} (tapes : Tape T) where
   unfoldable pub ReachabilityGoesOn : Node T → List Message → Node T → Type 0
   ReachabilityGoesOn before outputs after = (nodes : List (Node T)) (i : ℕ) → slice_get nodes i ≡ Some before → StandInTurn nodes → AreReachableSending tapes nodes outputs (slice_set nodes i after)
 
-  -- Node `number` was asked; and its messages were delivered to the nodes, and so were the messages that they sent in reply: each to
-  -- each node, until none was left, or the deliveries stopped early.
+  -- Node `number` was asked; and its messages were delivered to the nodes, and so were the messages
+  -- that they sent in reply: each to each node, until none was left, or the deliveries stopped
+  -- early.
   pub record IsExchange {C : Type 0} (asks : C → Node T → Vec Message Global → Node T → C → Type 0) (number : ℕ) (client : C) (nodes : List (Node T)) (pumped : Pumped) (client_after : C) (nodes_after : List (Node T)) : Type 0 where
     -- the node's messages, and the nodes by then
     pub outputs : Vec Message Global

@@ -1,4 +1,5 @@
--- A step that a node in memory takes, whose tape may fail: it is done; or the node crashes within it, and is opened again.
+-- A step that a node in memory takes, whose tape may fail: it is done; or the node crashes within
+-- it, and is opened again.
 use Rattle.std.specs.Prelude.{◌≡◌, ◌≤◌, ◌<◌, ℕ, Bool, true, false, ⊤, List, length, Option, Some, None, if◌then◌else◌, nat_lt, slice_get}
 use Rattle.wf_farm.specs.Common.{Message, Definition, definition_eq, DurableState, Record, Action, Input, most_reports, at_start, World, Event, input_of, rejected_at, turn, Kept, EachIsCut, Node, stored_of, volatile_of, IsTransition, step_rejection_at, transition_of, stored_next, NodeFault, TapeValue, IsImageNow, NeverFails}
 use Rattle.wf_model.specs.Kept.{view as view_kept}
@@ -17,7 +18,8 @@ use Rattle.wf_farm.specs.NodeHost.{MemoryHost, IsHostOf, HostStays}
 
 -- ---- whether a node takes a step
 
--- why a node that runs would reject an action's step: the error of the table's rejection, None if there is none
+-- why a node that runs would reject an action's step: the error of the table's rejection, None if
+-- there is none
 unfoldable pub ReportsWhyNot : {T : Type 0} → Node T → Action Definition ℕ → Option NodeFault → Type 0
 ReportsWhyNot node action why = (sent : List (model.Message Definition)) (input : Input Definition) → input_of sent action ≡ Some input → IsWhyNot (step_rejection_at node input) why
 
@@ -55,12 +57,13 @@ abbrev pub stored_by : world.Kept → DurableState Definition → DurableState D
 stored_by world.Before before after = before
 stored_by world.After before after = after
 
--- what a crash kept, by the number of bytes before the step and now: its record, if the tape is longer
+-- what a crash kept, by the number of bytes before the step and now: its record, if the tape is
+-- longer
 abbrev pub kept_beyond : ℕ → ℕ → Kept
 kept_beyond long now = if nat_lt long now then kept.After else kept.Before
 
--- A tape after a step that failed: before it the tape had these records alone, as many bytes long, and each image is cut within the
--- step's record or behind it.
+-- A tape after a step that failed: before it the tape had these records alone, as many bytes long,
+-- and each image is cut within the step's record or behind it.
 pub record IsCutTape (long : ℕ) (entry : Option (Record Definition)) (before after : DurableState Definition) (left : TapeValue) : Type 0 where
   pub content : List ℕ
   pub records : List (Record Definition)
@@ -68,7 +71,8 @@ pub record IsCutTape (long : ℕ) (entry : Option (Record Definition)) (before a
   pub is_long : length content ≡ long
   pub cut : EachIsCut entry before after (λ image. image ≡ content) (IsImageNow left)
 
--- The node crashed and was opened again, with what was kept of these two durable states, unless an allocation failed.
+-- The node crashed and was opened again, with what was kept of these two durable states, unless an
+-- allocation failed.
 abbrev pub IsTornTo : DurableState Definition → DurableState Definition → Fate → MemoryHost → Type 0
 IsTornTo before after (fate.Torn kept) (Running node) = (stored_of node ≡ stored_by (view_kept kept) before after) × (volatile_of node ≡ at_start)
 IsTornTo before after (fate.Torn kept) (Stopped left) = ⊥
@@ -80,8 +84,8 @@ abbrev pub Goes : Input Definition → MemoryHost → Type 0
 Goes input (Running node) = (node.halted ≡ false) × (node.n ≤ 64) × (node.id < node.n) × (step_rejection_at node input ≡ None)
 Goes input (Stopped tape) = ⊥
 
--- What became of the step: it was done; or the node crashed within it, since its tape could fail, and was opened again; or an allocation
--- failed.
+-- What became of the step: it was done; or the node crashed within it, since its tape could fail,
+-- and was opened again; or an allocation failed.
 abbrev pub Fares : Input Definition → Fate → MemoryHost → MemoryHost → Type 0
 Fares input what (Stopped tape) after = ⊥
 Fares input (fate.Done outputs) (Running node) after = (next : Node TapeValue) × (after ≡ Running next) × IsTransition node (transition_of node input) outputs.items next

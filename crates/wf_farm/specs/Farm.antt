@@ -12,8 +12,9 @@ use Rattle.wf_farm.specs.Cluster.{Moves}
 use Rattle.wf_farm.specs.NodeHost.{MemoryHost}
 use Rattle.wf_farm.specs.Hosts.{AreNodes, AreMembers}
 
--- Its nodes' entries and the messages sent; the number of the first message not pumped yet; the rejection of the last run's last
--- event, if it was rejected; and whether these are all messages ever sent, or it has forgotten the earlier ones.
+-- Its nodes' entries and the messages sent; the number of the first message not pumped yet; the
+-- rejection of the last run's last event, if it was rejected; and whether these are all messages
+-- ever sent, or it has forgotten the earlier ones.
 pub record Farm (T : Type 0) : Type 0 where
   pub hosts : List (NodeHost T)
   pub sent : List Message
@@ -39,7 +40,8 @@ running_in None = None
 running_in (Some (Running node)) = Some node
 running_in (Some (Stopped tape)) = None
 
--- Some events lead from the start to a world that these are; the messages are all that were sent, or the last of them.
+-- Some events lead from the start to a world that these are; the messages are all that were sent,
+-- or the last of them.
 pub record IsReachable {T : Type 0} (images : T → List ℕ → Type 0) (complete : Bool) (hosts : List (NodeHost T)) (sent : List Message) : Type 0 where
   pub events : List (Event Definition)
   pub earlier : List Message
@@ -47,8 +49,8 @@ pub record IsReachable {T : Type 0} (images : T → List ℕ → Type 0) (comple
   pub messages : (after definition_eq (length hosts) events).sent ≡ map message.view (earlier ++ sent)
   pub all : complete ≡ true → earlier ≡ []
 
--- The invariant of every farm: it has 1 to 64 nodes, running or stopped; and if its tapes are durable, some events have led to it
--- from the start.
+-- The invariant of every farm: it has 1 to 64 nodes, running or stopped; and if its tapes are
+-- durable, some events have led to it from the start.
 pub record IsSoundFarm {T : Type 0} (durable : Type 0) (images : T → List ℕ → Type 0) (never_fails : T → Type 0) (hosts : List (NodeHost T)) (sent : List Message) (pumped : ℕ) (complete : Bool) : Type 0 where
   pub some : 1 ≤ length hosts
   pub most : length hosts ≤ 64

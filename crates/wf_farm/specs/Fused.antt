@@ -1,5 +1,5 @@
--- A run in which one call of a node's tape fails. If it fails within a step, the node crashes there and is opened again: a crash
--- within a step and a restart in the model.
+-- A run in which one call of a node's tape fails. If it fails within a step, the node crashes there
+-- and is opened again: a crash within a step and a restart in the model.
 use Rattle.std.specs.Prelude.{◌≡◌, ◌⊎◌, ◌<◌, ◌+◌, ◌≤◌, ℕ, ⊤, List, [], ◌∷◌, ◌++◌, length, take, drop, slice_get, Option, Some, None}
 use Rattle.wf_farm.specs.Common.{Message, Definition, definition_eq, Action, StepRejection, World, Event, happens, refused, Kept, NeverFails}
 use Rattle.wf_model.specs.Kept.{view as view_kept}
@@ -44,11 +44,13 @@ abbrev pub crash_at : world.Kept → Option (Event Definition) → List (Event D
 crash_at kept None = []
 crash_at kept (Some event) = crash_if kept (step_of event)
 
--- these events, but within the step of the one of this number, counted from 0, its node crashes and then restarts
+-- these events, but within the step of the one of this number, counted from 0, its node crashes and
+-- then restarts
 abbrev pub torn_at : List (Event Definition) → ℕ → world.Kept → List (Event Definition)
 torn_at events k kept = take k events ++ crash_at kept (slice_get events k) ++ drop (k + 1) events
 
--- the events that happen, by the number of the one within whose step the tape failed and by what the crash left
+-- the events that happen, by the number of the one within whose step the tape failed and by what
+-- the crash left
 abbrev pub with_torn : List (Event Definition) → Option (ℕ × Kept) → List (Event Definition)
 with_torn events None = events
 with_torn events (Some torn) = torn_at events torn.0 (view_kept torn.1)
@@ -62,7 +64,8 @@ abbrev pub IsStepOfNode : ℕ → List (Event Definition) → Option (ℕ × Kep
 IsStepOfNode i events None = ⊤
 IsStepOfNode i events (Some torn) = (event : Event Definition) × (slice_get events torn.0 ≡ Some event) × IsStepOf i event
 
--- These events happen to the farm; or one of them is a step of node i, within which the node crashes, and then it restarts.
+-- These events happen to the farm; or one of them is a step of node i, within which the node
+-- crashes, and then it restarts.
 pub record RunsOrTears (i : ℕ) (events : List (Event Definition)) (torn : Option (ℕ × Kept)) (before after : MemoryFarm) : Type 0 where
   pub runs : Runs (with_torn events torn) before after
   pub step : IsStepOfNode i events torn

@@ -1,4 +1,5 @@
--- The entries of a farm, over any kind of tape: which nodes of the model they are, and what holds of each entry of every farm.
+-- The entries of a farm, over any kind of tape: which nodes of the model they are, and what holds
+-- of each entry of every farm.
 use Rattle.std.specs.Prelude.{◌≡◌, ℕ, ⊤, false, List, [], ◌∷◌, length, slice_get, Some, None}
 use Rattle.wf_farm.specs.Common.{Definition, AllStandFor, stored_of, volatile_of}
 use Rattle.wf_model.specs.World as world
@@ -6,8 +7,9 @@ use Rattle.wf_farm.specs.declared.cluster.NodeHost.{NodeHost}
 use Rattle.wf_farm.specs.declared.cluster.NodeHost.TheVariants.{Running, Stopped}
 
 module _ {T : Type 0} (images : T → List ℕ → Type 0) where
-  -- The entry is this node of the model. A running node has both its parts. A stopped one has no volatile state, and its durable
-  -- state is what its tape stands for, whatever a crash leaves of it.
+  -- The entry is this node of the model. A running node has both its parts. A stopped one has no
+  -- volatile state, and its durable state is what its tape stands for, whatever a crash leaves of
+  -- it.
   abbrev pub IsNode : NodeHost T → world.Node Definition → Type 0
   IsNode (Running node) shown = shown ≡ record { stored = stored_of node; volatile = Some (volatile_of node) }
   IsNode (Stopped tape) shown = (shown.volatile ≡ None) × AllStandFor shown.stored (images tape)
@@ -20,7 +22,8 @@ module _ {T : Type 0} (images : T → List ℕ → Type 0) where
   AreNodes (host ∷ hosts) (node ∷ nodes) = IsNode host node × AreNodes hosts nodes
 
 module _ {T : Type 0} (durable : Type 0) (images : T → List ℕ → Type 0) (never_fails : T → Type 0) where
-  -- The entry has node i of n. a durable tape doesn't fail, so that its node isn't halted; and a crash leaves something of it.
+  -- The entry has node i of n. a durable tape doesn't fail, so that its node isn't halted; and a
+  -- crash leaves something of it.
   abbrev pub IsMember : ℕ → ℕ → NodeHost T → Type 0
   IsMember n i (Running node) = (node.id ≡ i) × (node.n ≡ n) × (durable → (node.halted ≡ false) × never_fails node.tape)
   IsMember n i (Stopped tape) = durable → never_fails tape × ((left : List ℕ) × images tape left)

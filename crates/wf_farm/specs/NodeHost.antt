@@ -48,7 +48,8 @@ HostStays before after = IsChanged (λ node. node) before after
 unfoldable pub KeepsMember : MemoryHost → MemoryHost → Type 0
 KeepsMember before after = (n i : ℕ) → IsHostOf n i before → IsHostOf n i after
 
--- The node stops: its tape stands for what it stored, unless the tape had failed. A stopped node stays stopped.
+-- The node stops: its tape stands for what it stored, unless the tape had failed. A stopped node
+-- stays stopped.
 abbrev pub Stops : MemoryHost → MemoryHost → Type 0
 Stops (Running node) after = (left : TapeValue) × (after ≡ Stopped left) × (node.halted ≡ false → AllStandFor (stored_of node) (IsImageNow left))
 Stops (Stopped tape) after = after ≡ Stopped tape

@@ -1,4 +1,5 @@
--- The entries of a farm as a list of nodes: what is defined of nodes that a caller holds is so of the nodes of a farm.
+-- The entries of a farm as a list of nodes: what is defined of nodes that a caller holds is so of
+-- the nodes of a farm.
 use Rattle.std.specs.Prelude.{◌≡◌, ℕ, suc, true, List, [], ◌∷◌, length, slice_get, Some, None}
 use Rattle.std.specs.FinMap as map
 use Rattle.wf_farm.specs.Common.{Node}
@@ -17,7 +18,8 @@ no_parts = record { tried = 0; promise = None; votes = map.empty; history = [] }
 abbrev pub no_volatile : VolatileState
 no_volatile = record { proposing = Idle; leadership = None }
 
--- The entry as node i of n. A stopped node accepts no step, as one that is halted, and shows nothing of what is on its tape.
+-- The entry as node i of n. A stopped node accepts no step, as one that is halted, and shows
+-- nothing of what is on its tape.
 abbrev pub node_in : {T : Type 0} → ℕ → ℕ → NodeHost T → Node T
 node_in n i (Running node) = node
 node_in n i (Stopped tape) = record { tape = tape; halted = true; failed = None; id = i; n = n; parts = no_parts; volatile = no_volatile }

@@ -1,4 +1,5 @@
--- The entries of a farm as a list of nodes: each at its index, also after one is set; and what stays of them.
+-- The entries of a farm as a list of nodes: each at its index, also after one is set; and what
+-- stays of them.
 use Rattle.std.proofs.Common.{◌≡◌, ℕ, zero, suc, ◌+◌, ◌<◌, List, [], ◌∷◌, ◌++◌, length, slice_get, slice_set, Some, refl, sym, ap, subst, ◌∙◌, arith, inl, inr, length-set}
 use Rattle.wf_farm.specs.Common.{cases_eq, none-some, same_Some, slice_get_within, Node}
 use Rattle.wf_farm.specs.declared.cluster.NodeHost.{NodeHost}

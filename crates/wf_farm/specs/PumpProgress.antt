@@ -28,7 +28,8 @@ IsForMemory Done = ⊤
 IsForMemory Stopped = ⊤
 IsForMemory (Failed fault) = fault ≡ carrier.Memory
 
--- nothing is left; the limit of deliveries is reached, and some are left; or one wasn't made before that
+-- nothing is left; the limit of deliveries is reached, and some are left; or one wasn't made before
+-- that
 abbrev pub IsProgressEnd : ℕ → ℕ → PumpProgress → PumpEnd → Type 0
 IsProgressEnd first count p Done = (p.some ≡ 0) × (first + p.whole ≡ count)
 IsProgressEnd first count p Stopped = (p.done ≡ most_deliveries) × (first + p.whole < count)

@@ -19,9 +19,9 @@ pub enum CarrierFault {
     Lost,
 }
 
-/// What brings messages to the nodes of a farm, as a connection does. It is the world outside, so it may bring anything, or fail.
-/// Only a faithful one, as [`Copies`] is, is known to bring the message itself and to fail for allocations alone; faithfulness is a
-/// property of the type.
+/// What brings messages to the nodes of a farm, as a connection does. It is the world outside, so
+/// it may bring anything, or fail. Only a faithful one, as [`Copies`] is, is known to bring the
+/// message itself and to fail for allocations alone; faithfulness is a property of the type.
 pub trait Carrier {
     /// The carrier brings what it is given.
     ghost faithful: { Type 0 } = { ⊥ };
@@ -31,7 +31,8 @@ pub trait Carrier {
         ensures same { faithful → IfOk result (λ brought. brought ≡ message.now) }
         ensures memory { faithful → IfErr result (λ fault. fault ≡ faults.Memory) };
 
-    /// Sends the first bytes of the message, and ends there: nothing arrives. These are at most `bytes`, and never all of the message.
+    /// Sends the first bytes of the message, and ends there: nothing arrives. These are at most
+    /// `bytes`, and never all of the message.
     fn cut(&mut self, alloc: Global, message: &Message, bytes: usize) -> Result<(), CarrierFault>
         ensures memory { faithful → IfErr result (λ fault. fault ≡ faults.Memory) };
 }
@@ -59,8 +60,8 @@ impl Carrier for Copies {
     }
 }
 
-/// What the carrier brings, if that is the message itself. Err: an allocation failed; or the carrier failed, or it brought another
-/// message.
+/// What the carrier brings, if that is the message itself. Err: an allocation failed; or the
+/// carrier failed, or it brought another message.
 pub(crate) fn carry_over<C: Carrier>(
     alloc: Global,
     carrier: &mut C,

@@ -12,9 +12,11 @@ use std::alloc::Global;
 use std::mem::replace;
 use wf_tape::Tape;
 
-/// What changes the nodes of a farm, as messages that it delivers do: some events of the model lead to what they are afterwards.
+/// What changes the nodes of a farm, as messages that it delivers do: some events of the model lead
+/// to what they are afterwards.
 pub trait FarmClient<T: Tape> {
-    /// What is known of a call: the client and the nodes before it, and the nodes and the client after it.
+    /// What is known of a call: the client and the nodes before it, and the nodes and the client
+    /// after it.
     ghost changes: { Self → List (Node T) → List (Node T) → Self → Type 0 };
 
     /// Changes the farm's entries. A node that runs still does, and a stopped one is unchanged.
@@ -27,8 +29,8 @@ pub trait FarmClient<T: Tape> {
 }
 
 impl<T: Tape> Farm<T> {
-    /// Lets the client change the farm's nodes. Afterwards all messages are forgotten, those sent before too. A node keeps what it
-    /// published.
+    /// Lets the client change the farm's nodes. Afterwards all messages are forgotten, those sent
+    /// before too. A node keeps what it published.
     pub fn change<C: FarmClient<T>>(&mut self, alloc: Global, client: &mut C)
         ensures changes { C.changes client.old (nodes_in self.old) (nodes_in self.new) client.new }
         ensures reachable { AreReachableFrom T.Tape (nodes_in self.old) (nodes_in self.new) }

@@ -11,8 +11,9 @@ use wf_tape::MemoryTape;
 use wf_wms::Answer;
 
 impl Farm<MemoryTape> {
-    /// Returns the answer of node `number` to the query of a web map service request (OGC 06-042), at the last sequence that the
-    /// node published. Err: F2 iff no such node runs; F1 with 0 if an allocation fails.
+    /// Returns the answer of node `number` to the query of a web map service request (OGC 06-042),
+    /// at the last sequence that the node published. Err: F2 iff no such node runs; F1 with 0 if an
+    /// allocation fails.
     #[tactic(auto, using(crate::proofs::Answered::none_runs, crate::proofs::Answered::memory_wanted))]
     pub fn answer(&self, alloc: Global, number: usize, query: &[u8]) -> Result<Answer, FarmFault>
         ensures answer { IfOk result (λ answer.
@@ -29,9 +30,10 @@ impl Farm<MemoryTape> {
         }
     }
 
-    /// The headline's second half, for the farm that the caller holds: whatever happened to it, two of its nodes with the same
-    /// last published sequence answer the same query with the same bytes, the same kind and the same media type. So do two nodes
-    /// asked for the same map (OGC 06-042, 7.3), whatever their last published sequences.
+    /// The headline's second half, for the farm that the caller holds: whatever happened to it, two
+    /// of its nodes with the same last published sequence answer the same query with the same
+    /// bytes, the same kind and the same media type. So do two nodes asked for the same map (OGC
+    /// 06-042, 7.3), whatever their last published sequences.
     #[tactic(auto, using(crate::proofs::Answered::one_answer, crate::proofs::Answered::one_map_answer))]
     pub fn answers_agree(&self)
         ensures proposal_state { HasOneAnswer self.now }

@@ -18,7 +18,8 @@ use wf_model::Kept;
 use wf_tape::MemoryTape;
 
 impl Cluster<MemoryTape> {
-    /// Applies the events in order. Err: the number of events that were applied before one wasn't, which would have an effect, and why.
+    /// Applies the events in order. Err: the number of events that were applied before one wasn't,
+    /// which would have an effect, and why.
     #[tactic(auto, using(crate::proofs::Events::same_members))]
     pub(crate) fn run<C: Carrier>(
         &mut self,
@@ -54,8 +55,9 @@ impl Cluster<MemoryTape> {
         Ok(Ran { why, torn })
     }
 
-    /// Applies the event, as number `number` of a run, and returns its rejection, if its node rejects. If the tape of the watched node
-    /// fails within its step, the tape doesn't fail any more.
+    /// Applies the event, as number `number` of a run, and returns its rejection, if its node
+    /// rejects. If the tape of the watched node fails within its step, the tape doesn't fail any
+    /// more.
     pub(crate) fn go<C: Carrier>(
         &mut self,
         alloc: Global,

@@ -1,4 +1,5 @@
-//! Exchanges: a node of a farm is asked to do something, over any kind of tape, and its messages are delivered.
+//! Exchanges: a node of a farm is asked to do something, over any kind of tape, and its messages
+//! are delivered.
 
 ghost use Rattle.std.specs.Prelude.{◌≡◌, ◌<◌, ◌≤◌, false, [], length, None, Vec};
 ghost use Rattle.std.specs.declared.alloc.Global.{Global};
@@ -20,12 +21,14 @@ use wf_delivery::{Pumped, deliver_each};
 use wf_node::Node;
 use wf_tape::Tape;
 
-/// What asks a node of a farm to do something: a step of the node's own, which isn't a delivery, or nothing.
+/// What asks a node of a farm to do something: a step of the node's own, which isn't a delivery, or
+/// nothing.
 pub trait NodeClient<T: Tape> {
     /// The client may ask this node.
     ghost ready: { Self → Node T → Type 0 };
 
-    /// What is known of a call: the client and the node before it, the node's messages, and the node and the client after it.
+    /// What is known of a call: the client and the node before it, the node's messages, and the
+    /// node and the client after it.
     ghost asks: { Self → Node T → Vec Message Global → Node T → Self → Type 0 };
 
     /// Asks the node, and returns the messages that it sends.
@@ -37,8 +40,9 @@ pub trait NodeClient<T: Tape> {
 }
 
 impl<T: Tape> Farm<T> {
-    /// Returns the farm of these nodes, each opened on its tape: node i at index i. The tapes are of a kind that isn't known to be
-    /// durable, as a file isn't; a farm over tapes in memory begins with [`Farm::new`]. Allocates nothing.
+    /// Returns the farm of these nodes, each opened on its tape: node i at index i. The tapes are
+    /// of a kind that isn't known to be durable, as a file isn't; a farm over tapes in memory
+    /// begins with [`Farm::new`]. Allocates nothing.
     pub fn open(alloc: Global, hosts: Vec<NodeHost<T>>) -> Farm<T>
         requires some { 1 ≤ length hosts.items }
         requires most { length hosts.items ≤ 64 }
@@ -63,9 +67,10 @@ impl<T: Tape> Farm<T> {
         }
     }
 
-    /// Lets the client ask node `number`, and delivers the node's messages to every node, and those sent meanwhile, as
-    /// [`deliver_all`](wf_delivery::deliver_all) does; stopped nodes receive nothing. Afterwards all messages are forgotten, those sent
-    /// before the exchange too. A node that the tape fails under is halted, and keeps what it published.
+    /// Lets the client ask node `number`, and delivers the node's messages to every node, and those
+    /// sent meanwhile, as [`deliver_all`](wf_delivery::deliver_all) does; stopped nodes receive
+    /// nothing. Afterwards all messages are forgotten, those sent before the exchange too. A node
+    /// that the tape fails under is halted, and keeps what it published.
     pub fn exchange<C: NodeClient<T>>(
         &mut self,
         alloc: Global,
@@ -92,8 +97,9 @@ impl<T: Tape> Farm<T> {
         pumped
     }
 
-    /// The headline, for a farm over any kind of tape: if some events led to its nodes from the start, no two of them, running or
-    /// halted, have published different definitions under one sequence. Over a durable tape some did. The call does nothing.
+    /// The headline, for a farm over any kind of tape: if some events led to its nodes from the
+    /// start, no two of them, running or halted, have published different definitions under one
+    /// sequence. Over a durable tape some did. The call does nothing.
     pub fn nodes_agree(&self)
         ensures reached { T.durable → AreReachable AnyPart (nodes_in self.now) }
         ensures agree { AreReachable AnyPart (nodes_in self.now) →

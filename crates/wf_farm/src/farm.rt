@@ -12,8 +12,9 @@ use wf_codec::Message;
 use wf_node::Node;
 use wf_tape::{MemoryTape, Tape};
 
-/// A farm: its nodes, running or stopped, over any kind of tape, and the messages that they sent. Every farm over a durable tape,
-/// as one in memory is, is reached from the start by some events, so its nodes agree ([`Farm::agree`]).
+/// A farm: its nodes, running or stopped, over any kind of tape, and the messages that they sent.
+/// Every farm over a durable tape, as one in memory is, is reached from the start by some events,
+/// so its nodes agree ([`Farm::agree`]).
 #[derive(Drop)]
 pub struct Farm<T: Tape = MemoryTape> {
     pub(crate) cluster: Cluster<T>,
@@ -107,7 +108,8 @@ impl Farm<MemoryTape> {
     ghost use Rattle.wf_delivery.specs.Reachability.{AreFresh};
     ghost use Rattle.wf_farm.specs.Nodes.{AllRun, nodes_in};
 
-    /// Returns a farm of n nodes, all running, with all parts empty: the model's start. Err: F1 with 0 if an allocation fails.
+    /// Returns a farm of n nodes, all running, with all parts empty: the model's start. Err: F1
+    /// with 0 if an allocation fails.
     #[tactic(auto, using(crate::proofs::Worlds::farm_started, crate::proofs::Worlds::fresh_run, crate::proofs::Worlds::fresh_are_new))]
     pub fn new(alloc: Global, n: u8) -> Result<Farm<MemoryTape>, FarmFault>
         requires some { 1 ≤ n }
@@ -131,9 +133,10 @@ impl Farm<MemoryTape> {
         }
     }
 
-    /// Applies the events in order: the farm becomes the model's world after them. Err: F1 with the number of events done if an
-    /// allocation fails; the farm is then the world after these, and the next event would have an effect. In either case each
-    /// node's published list before is a prefix of its list afterwards.
+    /// Applies the events in order: the farm becomes the model's world after them. Err: F1 with the
+    /// number of events done if an allocation fails; the farm is then the world after these, and
+    /// the next event would have an effect. In either case each node's published list before is a
+    /// prefix of its list afterwards.
     #[tactic(auto, using(crate::proofs::Worlds::members_of, crate::proofs::Worlds::sturdy_of))]
     pub fn run(&mut self, alloc: Global, events: &[Event]) -> Result<(), FarmFault>
         ensures done { OnOk result (Runs (map view events.now) self.old self.new) }
@@ -167,8 +170,9 @@ impl Farm<MemoryTape> {
         }
     }
 
-    /// The headline, for the farm that the caller holds: whatever happened to it, no two of its nodes, running or stopped,
-    /// publish different definitions under one sequence. And a farm that has all messages is exactly one world of the model.
+    /// The headline, for the farm that the caller holds: whatever happened to it, no two of its
+    /// nodes, running or stopped, publish different definitions under one sequence. And a farm that
+    /// has all messages is exactly one world of the model.
     #[tactic(auto, using(crate::proofs::Worlds::agree_reached, crate::proofs::Worlds::one_world))]
     pub fn agree(&self)
         ensures agree { HasNoTwoDefinitions self.now }

@@ -29,10 +29,11 @@ use wf_node::{Input, Node, NodeFault};
 use wf_tape::{MemoryTape, Tape};
 
 impl Cluster<MemoryTape> {
-    /// Applies the event. The message of a delivery is what the carrier brings; it isn't used if the event has no effect. If the tape of
-    /// the node fails within its step, the node crashes, which keeps `keep` unsynced bytes, and is opened again. Err: an allocation
-    /// failed, or the carrier failed or brought another message, at an event that would have an effect; if no tape fails, the world
-    /// is unchanged.
+    /// Applies the event. The message of a delivery is what the carrier brings; it isn't used if
+    /// the event has no effect. If the tape of the node fails within its step, the node crashes,
+    /// which keeps `keep` unsynced bytes, and is opened again. Err: an allocation failed, or the
+    /// carrier failed or brought another message, at an event that would have an effect; if no tape
+    /// fails, the world is unchanged.
     #[tactic(auto, using(crate::proofs::Events::same_members))]
     pub(crate) fn happen<C: Carrier>(
         &mut self,
@@ -72,8 +73,8 @@ impl Cluster<MemoryTape> {
         }
     }
 
-    /// Performs a step of a node, if the node takes it: the whole step, or one within which the node crashes, which leaves `crash`. A step
-    /// without effect takes precedence over an error.
+    /// Performs a step of a node, if the node takes it: the whole step, or one within which the
+    /// node crashes, which leaves `crash`. A step without effect takes precedence over an error.
     #[tactic(auto, using(crate::proofs::Events::same_members))]
     fn act<C: Carrier>(
         &mut self,
@@ -118,8 +119,9 @@ impl Cluster<MemoryTape> {
         }
     }
 
-    /// Whether a node takes a step: it exists and runs, the step's message was sent, and the node doesn't reject it. Err: nothing happens,
-    /// and why the node rejects the step, if it does. Allocates nothing.
+    /// Whether a node takes a step: it exists and runs, the step's message was sent, and the node
+    /// doesn't reject it. Err: nothing happens, and why the node rejects the step, if it does.
+    /// Allocates nothing.
     fn takes(&self, node: usize, action: &Action<Canon, usize>) -> Result<(), Option<Rejection>>
         requires members { AreSoundHosts self.now.hosts.items }
         ensures within { OnOk result (node < length self.now.hosts.items) }
@@ -144,7 +146,8 @@ impl Cluster<MemoryTape> {
         }
     }
 
-    /// Performs a step that the node takes. Its messages are sent if it is heard; else the node stops after it.
+    /// Performs a step that the node takes. Its messages are sent if it is heard; else the node
+    /// stops after it.
     #[tactic(auto, using(crate::proofs::Events::same_members))]
     fn give<C: Carrier>(
         &mut self,
@@ -173,8 +176,8 @@ impl Cluster<MemoryTape> {
         }
     }
 
-    /// Performs the step with this input. Room for its messages is reserved first, since a node can't undo a step. The only error is
-    /// allocation failure.
+    /// Performs the step with this input. Room for its messages is reserved first, since a node
+    /// can't undo a step. The only error is allocation failure.
     #[tactic(auto, using(crate::proofs::Events::same_members))]
     fn step(
         &mut self,
@@ -314,7 +317,8 @@ impl Cluster<MemoryTape> {
     }
 }
 
-/// The error with which a node that runs would reject a step now; None if it would be done. Allocates nothing.
+/// The error with which a node that runs would reject a step now; None if it would be done.
+/// Allocates nothing.
 #[tactic(auto, using(crate::proofs::Idle::reports_question, crate::proofs::Idle::reports_delivery))]
 fn step_rejection<T: Tape>(node: &Node<T>, action: &Action<Canon, usize>) -> Option<NodeFault>
     ensures { node.now.halted ≡ false → ReportsWhyNot node.now (numbered action.now) result }

@@ -33,7 +33,8 @@ pub(crate) fn fault_after(fault: CarrierFault, done: usize) -> FarmFault
     }
 }
 
-/// The rejection that a node's error is; None for an error that isn't a rejection of the step table.
+/// The rejection that a node's error is; None for an error that isn't a rejection of the step
+/// table.
 pub(crate) fn rejection_in(fault: NodeFault) -> Option<Rejection>
     ensures { result ≡ rejection_in fault }
 {

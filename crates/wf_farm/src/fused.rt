@@ -21,19 +21,22 @@ use wf_tape::MemoryTape;
 pub struct Fused {
     /// The farm. No tape of it fails any more.
     pub farm: Farm<MemoryTape>,
-    /// The number of the event within whose step the tape failed, counted from 0, and what the crash left of the node; None if the
-    /// tape didn't fail within a step.
+    /// The number of the event within whose step the tape failed, counted from 0, and what the
+    /// crash left of the node; None if the tape didn't fail within a step.
     pub torn: Option<(usize, Kept)>,
 }
 
-/// Applies the events in order to a new farm of n nodes, where the `call`-th call of the tape of node `node` fails: that `read`,
-/// `append`, `sync` or `replace`, counted from 1 after the farm's start. A failing append keeps `kept` bytes of the new ones, at
-/// most all; a failing replace keeps the old content for 0, and has the new one otherwise; a failing read or sync changes nothing.
+/// Applies the events in order to a new farm of n nodes, where the `call`-th call of the tape of
+/// node `node` fails: that `read`, `append`, `sync` or `replace`, counted from 1 after the farm's
+/// start. A failing append keeps `kept` bytes of the new ones, at most all; a failing replace keeps
+/// the old content for 0, and has the new one otherwise; a failing read or sync changes nothing.
 ///
-/// If that call is within the step of an event, the node crashes there: `crash` bytes of those that aren't synced are kept. It is
-/// opened again, and the run goes on. The farm is then the model's world after the same events, but for that event a crash within its step
-/// and a restart of the node. If the call is one of a restart, the node is opened once more. Then, and if the call isn't reached,
-/// the farm is the world after the events. Err: F1 with the number of events done if an allocation fails.
+/// If that call is within the step of an event, the node crashes there: `crash` bytes of those that
+/// aren't synced are kept. It is opened again, and the run goes on. The farm is then the model's
+/// world after the same events, but for that event a crash within its step and a restart of the
+/// node. If the call is one of a restart, the node is opened once more. Then, and if the call isn't
+/// reached, the farm is the world after the events. Err: F1 with the number of events done if an
+/// allocation fails.
 #[tactic(auto, using(crate::proofs::TriedEvents::fails_at_once))]
 pub fn run_fused(
     alloc: Global,
@@ -63,8 +66,9 @@ pub fn run_fused(
     }
 }
 
-/// Applies the events in order to a farm, where the `call`-th call of the tape of node `node` fails, as [`run_fused`] does. Err, and the
-/// farm is lost: F1 with the number of events that were applied before one wasn't.
+/// Applies the events in order to a farm, where the `call`-th call of the tape of node `node`
+/// fails, as [`run_fused`] does. Err, and the farm is lost: F1 with the number of events that were
+/// applied before one wasn't.
 #[tactic(auto, using(crate::proofs::TriedEvents::none_fails, crate::proofs::TriedEvents::fails_at, crate::proofs::Worlds::members_of, crate::proofs::Worlds::sturdy_of))]
 fn run_failing(
     alloc: Global,

@@ -22,8 +22,8 @@ use wf_node::{Input, Node};
 use wf_tape::MemoryTape;
 
 impl NodeHost<MemoryTape> {
-    /// A step that the node takes. If its tape fails within the step, the node crashes, which keeps `keep` of the bytes that aren't
-    /// synced, and is opened again.
+    /// A step that the node takes. If its tape fails within the step, the node crashes, which keeps
+    /// `keep` of the bytes that aren't synced, and is opened again.
     pub(crate) fn step(&mut self, alloc: Global, keep: usize, input: Input) -> Fate
         requires goes { Goes (view input) self.old }
         ensures fares { Fares (view input) result self.old self.new }
@@ -54,8 +54,9 @@ impl NodeHost<MemoryTape> {
         }
     }
 
-    /// Restarts a stopped node from its tape, as node `id` of n; if the tape fails, it is opened again. A running node is unchanged. An
-    /// allocation failure leaves the node, which is stopped then, with what it had stored.
+    /// Restarts a stopped node from its tape, as node `id` of n; if the tape fails, it is opened
+    /// again. A running node is unchanged. An allocation failure leaves the node, which is stopped
+    /// then, with what it had stored.
     pub(crate) fn restart(&mut self, alloc: Global, id: NodeId, n: u8) -> Result<(), AllocError>
         requires nodes { n ≤ 64 }
         requires member { id < n }
@@ -78,7 +79,8 @@ impl NodeHost<MemoryTape> {
         }
     }
 
-    /// The entry with its node restarted as node `id` of n; if an allocation fails, the entry with its tape returned.
+    /// The entry with its node restarted as node `id` of n; if an allocation fails, the entry with
+    /// its tape returned.
     #[tactic(auto, using(crate::proofs::Steps::opened, crate::proofs::Steps::not_opened, crate::proofs::Steps::still_running, crate::proofs::Steps::opened_member, crate::proofs::Allocation::stopped_there))]
     fn reopen_node(
         self,
@@ -150,8 +152,8 @@ fn step_running(
     (NodeHost::Running(node), Fate::Done(messages))
 }
 
-/// The entry of a node after its tape failed within a step: the node crashes, which keeps so many unsynced bytes, and is opened again.
-/// Before the step its tape was so many bytes long.
+/// The entry of a node after its tape failed within a step: the node crashes, which keeps so many
+/// unsynced bytes, and is opened again. Before the step its tape was so many bytes long.
 fn crash(
     alloc: Global,
     node: Node<MemoryTape>,
@@ -180,7 +182,8 @@ fn crash(
     }
 }
 
-/// What a crash kept, by the number of bytes on the tape before the step and now: its record is there if the tape is longer.
+/// What a crash kept, by the number of bytes on the tape before the step and now: its record is
+/// there if the tape is longer.
 fn kept_beyond(long: usize, now: usize) -> Kept
     ensures { result ≡ kept_beyond long now }
 {
@@ -191,8 +194,9 @@ fn kept_beyond(long: usize, now: usize) -> Kept
     }
 }
 
-/// The entry of node `id` of n whose tape was rejected: if the tape failed, it is opened again. A tape in memory that a node left is
-/// rejected otherwise only for allocation failure: the entry is returned with it.
+/// The entry of node `id` of n whose tape was rejected: if the tape failed, it is opened again. A
+/// tape in memory that a node left is rejected otherwise only for allocation failure: the entry is
+/// returned with it.
 #[tactic(auto, using(crate::proofs::Tried::stays_itself))]
 fn open_again(
     alloc: Global,
@@ -216,7 +220,8 @@ fn open_again(
     }
 }
 
-/// The entry of node `id` of n, opened from a tape that no longer fails; if an allocation fails, the entry with its tape returned.
+/// The entry of node `id` of n, opened from a tape that no longer fails; if an allocation fails,
+/// the entry with its tape returned.
 fn open_whole(
     alloc: Global,
     tape: MemoryTape,

@@ -1,4 +1,5 @@
-//! A pump: each message that isn't pumped yet is delivered to each named node. And a delivery by a carrier.
+//! A pump: each message that isn't pumped yet is delivered to each named node. And a delivery by a
+//! carrier.
 
 ghost use Rattle.std.specs.Prelude.{◌≡◌, ◌<◌, ◌≤◌, [], ◌∷◌, length, None, IfOk, IfErr, OnOk, OnErr};
 ghost use Rattle.wf_model.specs.Table as table;
@@ -26,11 +27,13 @@ use wf_model::Action;
 use wf_tape::MemoryTape;
 
 impl Farm<MemoryTape> {
-    /// Delivers message `number` to the node, as the carrier brings it: one event of the model, whatever the carrier. A delivery
-    /// without effect (the message isn't sent, or the node is absent or stopped) is made without the carrier. No delivery is
-    /// rejected, and the last run's rejection stands. Err: F1 with 0 if an allocation fails, F3 with 0 if the carrier fails or
-    /// brings another message; the world is then unchanged, and the delivery would have an effect. Of a faithful carrier, F1 is the
-    /// only error. Each node's published list before is a prefix of its list afterwards.
+    /// Delivers message `number` to the node, as the carrier brings it: one event of the model,
+    /// whatever the carrier. A delivery without effect (the message isn't sent, or the node is
+    /// absent or stopped) is made without the carrier. No delivery is rejected, and the last run's
+    /// rejection stands. Err: F1 with 0 if an allocation fails, F3 with 0 if the carrier fails or
+    /// brings another message; the world is then unchanged, and the delivery would have an effect.
+    /// Of a faithful carrier, F1 is the only error. Each node's published list before is a prefix
+    /// of its list afterwards.
     #[tactic(auto, using(crate::proofs::Carried::stays_moves, crate::proofs::Carried::undelivered, crate::proofs::Carried::at_once, crate::proofs::Worlds::members_of, crate::proofs::Worlds::sturdy_of))]
     pub fn deliver_by<C: Carrier>(
         &mut self,
@@ -62,11 +65,13 @@ impl Farm<MemoryTape> {
         }
     }
 
-    /// Delivers each message not pumped yet, in order of number and including new ones, once to each named node, ascending; to
-    /// every node if none is named. A delivery without effect counts too, even to a node that doesn't exist. A message counts as
-    /// pumped from its first delivery on. Returns Ok(true) iff it stopped after 100,000 deliveries with some left. Err: F1 with
-    /// the number of deliveries done if an allocation fails; the farm is then the world after these, and the next delivery would
-    /// have an effect, unless none is done. Each node's published list before is a prefix of its list afterwards.
+    /// Delivers each message not pumped yet, in order of number and including new ones, once to
+    /// each named node, ascending; to every node if none is named. A delivery without effect counts
+    /// too, even to a node that doesn't exist. A message counts as pumped from its first delivery
+    /// on. Returns Ok(true) iff it stopped after 100,000 deliveries with some left. Err: F1 with
+    /// the number of deliveries done if an allocation fails; the farm is then the world after
+    /// these, and the next delivery would have an effect, unless none is done. Each node's
+    /// published list before is a prefix of its list afterwards.
     pub fn pump(&mut self, alloc: Global, nodes: &[usize]) -> Result<bool, FarmFault>
         ensures done { IfOk result (IsPumped nodes.now self.old self.new) }
         ensures part { IfErr result (IsPumpedPart nodes.now self.old self.new) }
@@ -80,9 +85,10 @@ impl Farm<MemoryTape> {
         self.pump_by(alloc, &mut copies, nodes)
     }
 
-    /// A pump by the carrier: each delivery that has an effect is made of what it brings. Err: F1 as for a pump; F3 with the number of
-    /// deliveries done if the carrier fails or brings another message: the farm is then the world after these, and the next
-    /// delivery would have an effect. Of a faithful carrier, F1 is the only error.
+    /// A pump by the carrier: each delivery that has an effect is made of what it brings. Err: F1
+    /// as for a pump; F3 with the number of deliveries done if the carrier fails or brings another
+    /// message: the farm is then the world after these, and the next delivery would have an effect.
+    /// Of a faithful carrier, F1 is the only error.
     #[tactic(auto, using(crate::proofs::Carried::pump_for_memory, crate::proofs::Worlds::members_of, crate::proofs::Worlds::sturdy_of))]
     pub fn pump_by<C: Carrier>(
         &mut self,
@@ -118,8 +124,8 @@ impl Farm<MemoryTape> {
 }
 
 impl Cluster<MemoryTape> {
-    /// Delivers the messages from number `first` on to each target by the carrier, until none is left, the limit of deliveries is
-    /// reached, or one isn't made.
+    /// Delivers the messages from number `first` on to each target by the carrier, until none is
+    /// left, the limit of deliveries is reached, or one isn't made.
     #[tactic(auto, using(crate::proofs::Events::same_members))]
     pub(crate) fn pump<C: Carrier>(
         &mut self,

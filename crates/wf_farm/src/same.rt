@@ -70,7 +70,8 @@ fn is_accepted(message: &Message, node: NodeId, slot: Slot, ballot: Ballot) -> b
     }
 }
 
-/// Whether it is the node's rejection of the ballot at the slot, since it has promised the second ballot there.
+/// Whether it is the node's rejection of the ballot at the slot, since it has promised the second
+/// ballot there.
 fn is_nack(message: &Message, node: NodeId, slot: Slot, ballot: Ballot, promised: Ballot) -> bool
     ensures { IsTrue result ↔ (Nack node slot ballot promised ≡ message.now) }
 {

@@ -1,4 +1,5 @@
--- The layers of a map while it is read: their names, and how many features and points may come after them.
+-- The layers of a map while it is read: their names, and how many features and points may come
+-- after them.
 use Rattle.std.specs.Prelude.{◌≡◌, ◌↔◌, ℕ, ◌-◌, Bool, true, not, ◌&&◌, ◌==◌, nat_lt, List, length, ◌+◌, ◌≤◌, All}
 use Rattle.std.specs.List.{list_any}
 use Rattle.wf_def.specs.Definition.{LayerDefinition}

@@ -103,8 +103,8 @@ impl FeatureSlots {
     }
 }
 
-/// Reads a shape of at most `most` points up to its END (MapServer mapfile reference, FEATURE), and returns it with the
-/// number of its points.
+/// Reads a shape of at most `most` points up to its END (MapServer mapfile reference, FEATURE), and
+/// returns it with the number of its points.
 #[tactic(auto, unfolding(crate::specs::Feature::feature), using(crate::proofs::Counted::feature_counted))]
 pub fn read_feature(parser: &mut Parser<'_>, most: usize) -> Result<(Feature, usize), MapFault>
     ensures read { Gives (λ f. (f.0, parser.new)) result (feature most parser.old) }

@@ -10,8 +10,8 @@ use wf_def::{
     Layer, LayerFault, MOST_FEATURES, MOST_LAYERS, MOST_POINTS, MapDef, Text, is_layer_name,
 };
 
-/// The Boolean test of layer names is true iff the text may be a layer's name. A theorem about the definitions: the call does
-/// nothing.
+/// The Boolean test of layer names is true iff the text may be a layer's name. A theorem about the
+/// definitions: the call does nothing.
 pub fn layer_names_are_tested()
     ensures { LayerNamesAreTested }
 {}

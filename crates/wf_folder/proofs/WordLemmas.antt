@@ -1,4 +1,5 @@
--- What follows a word in a text, and the number, mark, promise or vote before it, are determined by the bytes.
+-- What follows a word in a text, and the number, mark, promise or vote before it, are determined by
+-- the bytes.
 use Rattle.std.proofs.Common.{◌≡◌, ◌≢◌, ◌∙◌, ℕ, ◌<◌, ◌^◌, List, [], ◌++◌, length, append_assoc, get_or, Result, Ok, refl, sym, ap, arith}
 use Rattle.std.specs.Prelude.{Option, Some, None, IfNone, codes}
 use Rattle.std.specs.Int.{w32, to_be_bytes, from_be_bytes}

@@ -1,4 +1,5 @@
--- Whether the nodes of a farm may start on what is in a folder: its file `farm`, and its tapes, that of node i at index i.
+-- Whether the nodes of a farm may start on what is in a folder: its file `farm`, and its tapes,
+-- that of node i at index i.
 use Rattle.std.specs.Prelude.{◌≡◌, ◌≢◌, ◌≤◌, ◌<◌, ℕ, Bool, true, false, List, slice_index_or}
 use Rattle.wf_folder.specs.declared.admission.FoundFile.{FoundFile}
 use Rattle.wf_folder.specs.declared.admission.FoundFile.TheVariants as finds
@@ -60,8 +61,9 @@ pub record HasTapes (nodes : ℕ) (tapes : List Presence) : Type 0 where
   pub all : AllAreThere nodes tapes
   pub none : NoneIsSurplus nodes tapes
 
--- By its file, the folder is that of a farm of n nodes, and their tapes are there; without one it is new, where no tape has a byte and
--- none is another node's, or taken over, where exactly the nodes' tapes are there and one has a byte.
+-- By its file, the folder is that of a farm of n nodes, and their tapes are there; without one it
+-- is new, where no tape has a byte and none is another node's, or taken over, where exactly the
+-- nodes' tapes are there and one has a byte.
 abbrev pub IsStart : ℕ → FoundFile → List Presence → Start → Type 0
 IsStart nodes (finds.File file) tapes (starts.Own own) = (own ≡ file) × (file.nodes ≡ nodes) × HasTapes nodes tapes
 IsStart nodes (finds.File file) tapes starts.New = ⊥
@@ -85,8 +87,8 @@ HasBegun finds.Nothing tapes = (i : ℕ) × HasByte tapes i
 HasBegun (finds.File file) tapes = Unit {0}
 HasBegun (finds.Bad fault) tapes = ⊥
 
--- The cause: the file is bad; it is that of another number of nodes; if neither, a tape of another node is there; if none is, a
--- tape is missing of a folder that has begun.
+-- The cause: the file is bad; it is that of another number of nodes; if neither, a tape of another
+-- node is there; if none is, a tape is missing of a folder that has begun.
 abbrev pub IsAdmissionFault : ℕ → FoundFile → List Presence → StartRejection → Type 0
 IsAdmissionFault nodes found tapes (causes.BadFile fault) = found ≡ finds.Bad fault
 IsAdmissionFault nodes found tapes (causes.OtherNodes other) = (file : FarmFile) × (found ≡ finds.File file) × (file.nodes ≡ other) × (other ≢ nodes)

@@ -1,4 +1,5 @@
--- On what a node may start: the file `farm` and the tape of a folder, in a farm of n nodes, and what the tape holds.
+-- On what a node may start: the file `farm` and the tape of a folder, in a farm of n nodes, and
+-- what the tape holds.
 use Rattle.std.specs.Prelude.{◌≡◌, ◌≢◌, ◌<◌, ◌≤◌, ℕ, true, List, Option, Some}
 use Rattle.wf_folder.specs.declared.node_admission.NodeFound.{NodeFound}
 use Rattle.wf_folder.specs.declared.node_admission.NodeFound.TheVariants as finds
@@ -18,8 +19,8 @@ IsSoundFind finds.Nothing = Unit {0}
 IsSoundFind (finds.File file) = IsNodeFile file
 IsSoundFind (finds.Bad fault) = Unit {0}
 
--- The node's file is there, of a farm of n nodes, and its tape, and a further start can be counted: the file of this start counts it, and
--- says what it said otherwise.
+-- The node's file is there, of a farm of n nodes, and its tape, and a further start can be counted:
+-- the file of this start counts it, and says what it said otherwise.
 pub record IsAdmittedStart (nodes : ℕ) (file : NodeFile) (tape : Presence) (now : NodeFile) : Type 0 where
   pub same_nodes : file.nodes ≡ nodes
   pub has_tape : is_there tape ≡ true
@@ -31,7 +32,8 @@ IsNodeStart nodes finds.Nothing tape now = ⊥
 IsNodeStart nodes (finds.File file) tape now = IsAdmittedStart nodes file tape now
 IsNodeStart nodes (finds.Bad fault) tape now = ⊥
 
--- why a node doesn't start on this file: it is of another number of nodes; if not, the tape is missing; if not, it counts no further start
+-- why a node doesn't start on this file: it is of another number of nodes; if not, the tape is
+-- missing; if not, it counts no further start
 abbrev pub IsFileRejection : ℕ → NodeFile → Presence → NodeRejection → Type 0
 IsFileRejection nodes file tape (causes.OtherNodes other) = (file.nodes ≡ other) × (other ≢ nodes)
 IsFileRejection nodes file tape causes.MissingTape = (file.nodes ≡ nodes) × (¬ (is_there tape ≡ true))
@@ -50,8 +52,8 @@ NodeStartsAreNotRejected = (nodes : ℕ) (found : NodeFound) (tape : Presence) (
 
 -- ---- what the tape holds
 
--- The tape holds no less than is known: it goes as far, with the same history up to there, and has no lower round and promise, and no lower
--- vote than one at a sequence that it hasn't as published.
+-- The tape holds no less than is known: it goes as far, with the same history up to there, and has
+-- no lower round and promise, and no lower vote than one at a sequence that it hasn't as published.
 pub record IsTapeAdmitted (known : Known) (tape : Reach) (digest : Option (List ℕ)) : Type 0 where
   pub up_to : known.reach.published ≤ tape.published
   pub same_history : digest ≡ Some known.digest
@@ -69,7 +71,8 @@ HasSameHistory known tape digest = GoesAsFar known tape × (digest ≡ Some know
 abbrev pub HasTried : Known → Reach → Option (List ℕ) → Type 0
 HasTried known tape digest = HasSameHistory known tape digest × (known.reach.round ≤ tape.round)
 
--- the cause: the tape doesn't go as far; if it does, its history differs; if not, its round is lower; if not, its promise; if not, its vote
+-- the cause: the tape doesn't go as far; if it does, its history differs; if not, its round is
+-- lower; if not, its promise; if not, its vote
 abbrev pub IsTapeRejection : Known → Reach → Option (List ℕ) → NodeRejection → Type 0
 IsTapeRejection known tape digest (causes.LowerSequence had has) = (known.reach.published ≡ had) × (tape.published ≡ has) × (has < had)
 IsTapeRejection known tape digest (causes.OtherHistory at) = GoesAsFar known tape × (known.reach.published ≡ at) × (digest ≢ Some known.digest)

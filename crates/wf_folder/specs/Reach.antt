@@ -51,7 +51,8 @@ IsNoLowerVote None claimed = Unit {0}
 IsNoLowerVote (Some known) None = ⊥
 IsNoLowerVote (Some known) (Some claimed) = vote_below claimed known ≡ false
 
--- the vote that a node still has that has published so far: none at a sequence that it has published
+-- the vote that a node still has that has published so far: none at a sequence that it has
+-- published
 abbrev pub open_vote : Option HighestVote → ℕ → Option HighestVote
 open_vote None published = None
 open_vote (Some v) published = if nat_lt published v.sequence then Some v else None

@@ -46,11 +46,13 @@ pub enum StartRejection {
     MissingTape(usize),
 }
 
-/// Whether a farm of n nodes may start on a folder, by its file `farm` and its tapes: tape i is the one of node i.
+/// Whether a farm of n nodes may start on a folder, by its file `farm` and its tapes: tape i is the
+/// one of node i.
 ///
-/// With the file the farm must have its number of nodes, and exactly these nodes' tapes must be there. Without it the folder is new
-/// where no tape has a byte, and taken over where exactly the nodes' tapes are there. A tape of a node that the farm doesn't have
-/// is rejected in any case, also if it has no byte: it would be one too many at the next start.
+/// With the file the farm must have its number of nodes, and exactly these nodes' tapes must be
+/// there. Without it the folder is new where no tape has a byte, and taken over where exactly the
+/// nodes' tapes are there. A tape of a node that the farm doesn't have is rejected in any case,
+/// also if it has no byte: it would be one too many at the next start.
 pub fn admit(nodes: u8, found: FoundFile, tapes: &[Presence]) -> Result<Start, StartRejection>
     requires { nodes ≤ length tapes.now }
     ensures start { IfOk result (IsStart nodes found tapes.now) }

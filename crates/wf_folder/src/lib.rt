@@ -1,17 +1,22 @@
-//! Whose a farm's folder is: the text of its file `farm`, and whether nodes may start on what is there.
+//! Whose a farm's folder is: the text of its file `farm`, and whether nodes may start on what is
+//! there.
 //!
-//! A folder holds the tapes of one farm, `node-0.tape` and so on, and the file `farm`, which says how many nodes the farm has,
-//! whether its tapes began empty, and a mark that no other folder's file has ([`FarmFile`]). [`FarmFile::text`] is its text, [`FarmFile::read`]
-//! reads it. [`admit`] decides whether a farm of n nodes may start, by what the file says and which tapes are there.
+//! A folder holds the tapes of one farm, `node-0.tape` and so on, and the file `farm`, which says
+//! how many nodes the farm has, whether its tapes began empty, and a mark that no other folder's
+//! file has ([`FarmFile`]). [`FarmFile::text`] is its text, [`FarmFile::read`] reads it. [`admit`]
+//! decides whether a farm of n nodes may start, by what the file says and which tapes are there.
 //!
-//! A folder that one node uses, apart from the others, has that node's tape and a file `farm` of its own kind ([`NodeFile`]), with
-//! the farm's name ([`FarmName`]), the node, how often it started there, how far it is known to have been ([`Known`]), and who suspended
-//! it, if anybody did ([`Suspension`]). [`admit_new`] says where such a folder may be made, [`admit_node`] whether the node may start,
-//! [`admit_tape`] whether on a tape that holds so much.
+//! A folder that one node uses, apart from the others, has that node's tape and a file `farm` of
+//! its own kind ([`NodeFile`]), with the farm's name ([`FarmName`]), the node, how often it started
+//! there, how far it is known to have been ([`Known`]), and who suspended it, if anybody did
+//! ([`Suspension`]). [`admit_new`] says where such a folder may be made, [`admit_node`] whether the
+//! node may start, [`admit_tape`] whether on a tape that holds so much.
 //!
-//! Promises: each farm has one text, and the texts that are read are exactly those (`specs/FarmFile.antt`). A start is admitted
-//! only where the folder is new, this farm's or taken over, and rejected only for the cause that is returned (`specs/Admission.antt`,
-//! `specs/NodeAdmission.antt`). What is known of a node never falls when it is raised (`specs/Reach.antt`).
+//! Promises: each farm has one text, and the texts that are read are exactly those
+//! (`specs/FarmFile.antt`). A start is admitted only where the folder is new, this farm's or taken
+//! over, and rejected only for the cause that is returned (`specs/Admission.antt`,
+//! `specs/NodeAdmission.antt`). What is known of a node never falls when it is raised
+//! (`specs/Reach.antt`).
 //!
 //! Not here: reading and writing files, and what the tapes hold.
 #![tactic(auto)]

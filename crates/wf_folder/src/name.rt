@@ -8,7 +8,8 @@ use std::marker::Model;
 /// The most bytes of a farm's name.
 pub const NAME_BYTES: usize = 32;
 
-/// A farm's name: 1 to 32 letters of ASCII, digits, `-`, `.` and `_`. A contract sees its 32 bytes, which are the name and then zeros.
+/// A farm's name: 1 to 32 letters of ASCII, digits, `-`, `.` and `_`. A contract sees its 32 bytes,
+/// which are the name and then zeros.
 #[derive(Clone, Copy, Debug, PartialEq, Eq)]
 pub struct FarmName {
     bytes: [u8; 32],

@@ -53,7 +53,8 @@ pub enum NodeRejection {
     /// The node had made this promise, and the tape has a lower one or none.
     #[error("the tape went back: it had promised {0}")]
     LowerPromise(Ballot),
-    /// The node had this vote at a sequence that the tape doesn't have as published, and the tape's highest vote is lower, or none.
+    /// The node had this vote at a sequence that the tape doesn't have as published, and the tape's
+    /// highest vote is lower, or none.
     #[error("the tape went back: it had voted for {0}")]
     LowerVote(HighestVote),
 }
@@ -70,10 +71,11 @@ pub fn admit_new(names: usize) -> Result<(), NotEmpty>
     if names == 0 { Ok(()) } else { Err(NotEmpty) }
 }
 
-/// Whether a node may start on a folder, by its file `farm` and its tape, in a farm of as many nodes as peers are listed. It starts on
-/// a folder that was made for a node of such a farm and has its tape, never on an empty or an unknown one. What the tape holds is for
-/// [`admit_tape`]. A suspended node may start: it stays suspended. Ok is the file of this start, with one start more, which is to replace
-/// the one that was found before the node says anything.
+/// Whether a node may start on a folder, by its file `farm` and its tape, in a farm of as many
+/// nodes as peers are listed. It starts on a folder that was made for a node of such a farm and has
+/// its tape, never on an empty or an unknown one. What the tape holds is for [`admit_tape`]. A
+/// suspended node may start: it stays suspended. Ok is the file of this start, with one start more,
+/// which is to replace the one that was found before the node says anything.
 pub fn admit_node(nodes: u8, found: NodeFound, tape: Presence) -> Result<NodeFile, NodeRejection>
     requires { IsSoundFind found }
     ensures start { IfOk result (IsNodeStart nodes found tape) }
@@ -104,9 +106,10 @@ fn admit_file(nodes: u8, file: &NodeFile, tape: Presence) -> Result<NodeFile, No
     }
 }
 
-/// Whether the node may start on a tape that holds so much, by how far it is known to have been. `digest` is that of the tape's history up
-/// to the sequence that the node is known to have published; None where it has none. A tape that holds less, or another history, is
-/// rejected; a vote at a sequence that the tape has as published needn't be there. Nothing is changed.
+/// Whether the node may start on a tape that holds so much, by how far it is known to have been.
+/// `digest` is that of the tape's history up to the sequence that the node is known to have
+/// published; None where it has none. A tape that holds less, or another history, is rejected; a
+/// vote at a sequence that the tape has as published needn't be there. Nothing is changed.
 pub fn admit_tape(
     known: &Known,
     tape: &Reach,

@@ -74,8 +74,8 @@ impl NodeFile {
         Some(NodeFile { starts, ..*self })
     }
 
-    /// The file once the node is known to have been so far, with the digest of its history up to what it has published: nothing that was
-    /// known falls.
+    /// The file once the node is known to have been so far, with the digest of its history up to
+    /// what it has published: nothing that was known falls.
     #[tactic(auto, using(crate::proofs::Raised::is_known, crate::proofs::Raised::by_together))]
     pub fn raise(&self, reach: &Reach, digest: [u8; 32]) -> NodeFile
         requires { IsNodeFile self.now }
@@ -112,8 +112,9 @@ impl NodeFile {
         }
     }
 
-    /// The file's text, eight lines in ASCII, and one more where the node is suspended. The only error is allocation failure. Numbers but
-    /// those of the node and the nodes are in hexadecimal digits, and so is the address of who suspended the node, in sixteen bytes.
+    /// The file's text, eight lines in ASCII, and one more where the node is suspended. The only
+    /// error is allocation failure. Numbers but those of the node and the nodes are in hexadecimal
+    /// digits, and so is the address of who suspended the node, in sixteen bytes.
     ///
     /// ```text
     /// wfarm folder 2

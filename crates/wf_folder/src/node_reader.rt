@@ -25,7 +25,8 @@ use crate::word_reader::{node_of, split_named, split_reach, split_word};
 const MARK_LINE: usize = 38;
 
 impl NodeFile {
-    /// The file with this text, also of version 1, of which nothing is known. Err: the bytes aren't the text of any.
+    /// The file with this text, also of version 1, of which nothing is known. Err: the bytes aren't
+    /// the text of any.
     pub fn read(bytes: &[u8]) -> Result<NodeFile, NodeFileFault>
         ensures file { IfOk result IsNodeFile }
         ensures text { IfOk result (IsTextOf bytes.now) }
@@ -132,7 +133,8 @@ fn read_old_fields(bytes: &[u8]) -> Option<NodeFile>
     })
 }
 
-/// The node, the number of nodes and the number of starts that bytes begin with, and what follows them.
+/// The node, the number of nodes and the number of starts that bytes begin with, and what follows
+/// them.
 #[tactic(auto, using(crate::proofs::Lines::same_node, crate::proofs::Lines::after_node, crate::proofs::Lines::same_nodes, crate::proofs::Lines::after_nodes))]
 fn read_numbers(bytes: &[u8]) -> Option<(u8, u8, u32, &[u8])>
     ensures nodes { IfSome result (λ x. IsNumberOfNodes x.1) }

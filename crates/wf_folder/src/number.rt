@@ -27,7 +27,8 @@ pub fn push_number(text: &mut Vec<u8>, number: u32) -> Result<(), AllocError>
     text.extend_from_slice(&number_digits(number))
 }
 
-/// The number whose digits bytes begin with, and what follows them; None if they begin with no number's.
+/// The number whose digits bytes begin with, and what follows them; None if they begin with no
+/// number's.
 #[tactic(auto, using(crate::proofs::Numbers::number_fits, crate::proofs::Numbers::number_front))]
 pub fn split_number(bytes: &[u8]) -> Option<(u32, &[u8])>
     ensures some { IfSome result (λ x. bytes.now ≡ number_digits x.0 ++ x.1.now) }

@@ -1,6 +1,7 @@
 use wf_ballot::{Ballot, Seq, Slot};
 
-/// The highest vote of a node: the ballot that it voted for, and at which sequence. Votes are ordered by ballot, then by sequence.
+/// The highest vote of a node: the ballot that it voted for, and at which sequence. Votes are
+/// ordered by ballot, then by sequence.
 #[derive(Clone, Copy, Debug, PartialEq, Eq)]
 pub struct HighestVote {
     /// The ballot.
@@ -9,7 +10,8 @@ pub struct HighestVote {
     pub sequence: Slot,
 }
 
-/// How far a node is. Of a sound one no number ever falls, and a vote goes only once its sequence is published.
+/// How far a node is. Of a sound one no number ever falls, and a vote goes only once its sequence
+/// is published.
 #[derive(Clone, Copy, Debug, PartialEq, Eq)]
 pub struct Reach {
     /// The highest round that it tried; 0 if none.
@@ -22,7 +24,8 @@ pub struct Reach {
     pub published: Seq,
 }
 
-/// How far a node is known to have been, and the digest of its history up to the sequence that it had published.
+/// How far a node is known to have been, and the digest of its history up to the sequence that it
+/// had published.
 #[derive(Clone, Copy, Debug, PartialEq, Eq)]
 pub struct Known {
     /// How far it was.

@@ -123,7 +123,8 @@ pub(crate) fn before<'a>(bytes: &'a [u8], end: &[u8]) -> Option<&'a [u8]>
     bytes.strip_suffix(end)
 }
 
-/// The mark whose digits bytes begin with, and what follows them; None if they begin with no mark's.
+/// The mark whose digits bytes begin with, and what follows them; None if they begin with no
+/// mark's.
 pub fn split_mark(bytes: &[u8]) -> Option<([u8; 16], &[u8])>
     ensures mark { IfSome result (λ x. IsBytes x.0 × (length x.0 ≡ 16)) }
     ensures some { IfSome result (λ x. bytes.now ≡ encode_lower x.0 ++ x.1.now) }

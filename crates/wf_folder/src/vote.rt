@@ -96,7 +96,8 @@ pub fn higher_vote(
     }
 }
 
-/// The vote that a node still has that has published so far: none at a sequence that it has published.
+/// The vote that a node still has that has published so far: none at a sequence that it has
+/// published.
 pub fn open_vote(vote: Option<HighestVote>, published: Seq) -> Option<HighestVote>
     ensures { result ≡ open_vote vote published }
 {

@@ -15,7 +15,8 @@ use crate::reader::{after, split_mark};
 use crate::words::NO_PROMISE;
 use wf_ballot::{Ballot, NodeId, Seq, Slot};
 
-/// How far a node is by the words that bytes begin with, and what follows them; None if they begin with no such words.
+/// How far a node is by the words that bytes begin with, and what follows them; None if they begin
+/// with no such words.
 pub fn split_reach(bytes: &[u8]) -> Option<(Reach, &[u8])>
     ensures known { IfSome result (λ x. IsReach x.0) }
     ensures some { IfSome result (λ x. bytes.now ≡ reach_then x.0 x.1.now) }
@@ -171,7 +172,8 @@ pub(crate) fn node_of(number: u32) -> Option<NodeId>
     }
 }
 
-/// The mark after a word with which bytes begin, and what follows it; None if they begin with no such word and mark.
+/// The mark after a word with which bytes begin, and what follows it; None if they begin with no
+/// such word and mark.
 #[tactic(auto, using(crate::proofs::WordLemmas::no_mark_after))]
 pub fn split_named<'a>(bytes: &'a [u8], word: &[u8]) -> Option<([u8; 16], &'a [u8])>
     ensures mark { IfSome result (λ x. IsBytes x.0 × (length x.0 ≡ 16)) }
@@ -184,7 +186,8 @@ pub fn split_named<'a>(bytes: &'a [u8], word: &[u8]) -> Option<([u8; 16], &'a [u
     }
 }
 
-/// The number after a word with which bytes begin, and what follows it; None if they begin with no such word and number.
+/// The number after a word with which bytes begin, and what follows it; None if they begin with no
+/// such word and number.
 #[tactic(auto, using(crate::proofs::WordLemmas::no_number_after))]
 pub fn split_word<'a>(bytes: &'a [u8], word: &[u8]) -> Option<(u32, &'a [u8])>
     ensures fits { IfSome result (λ x. x.0 < 2 ^ 32) }

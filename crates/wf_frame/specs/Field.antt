@@ -1,4 +1,5 @@
--- The fields of fixed length that a body is made of: a node, a slot (a sequence from 1 on), a round and a ballot.
+-- The fields of fixed length that a body is made of: a node, a slot (a sequence from 1 on), a round
+-- and a ballot.
 use Rattle.std.specs.Prelude.{ℕ, List, Option}
 use Rattle.wf_ballot.specs.Node.{IsNode, node_bytes}
 use Rattle.wf_ballot.specs.Sequence.{IsSlot, seq_bytes}
@@ -39,7 +40,8 @@ width SlotField = 2
 width RoundField = 4
 width BallotField = 5
 
--- the value at the front of bytes and the bytes after it, None if no value in the field's range is there
+-- the value at the front of bytes and the bytes after it, None if no value in the field's range is
+-- there
 abbrev pub front_value : (field : Field) → List ℕ → Option (Value field × List ℕ)
 front_value NodeField = front_node
 front_value SlotField = front_slot

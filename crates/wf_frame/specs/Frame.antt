@@ -1,13 +1,13 @@
--- A frame: a version byte, a kind byte, four bytes of length, and a body. A format says which versions are read, which kinds of
--- frame each of them has, and what the body of each is.
+-- A frame: a version byte, a kind byte, four bytes of length, and a body. A format says which
+-- versions are read, which kinds of frame each of them has, and what the body of each is.
 use Rattle.std.specs.Prelude.{◌≡◌, ℕ, ◌+◌, ◌<◌, ◌≤◌, ◌^◌, ◌⊎◌, nat_lt, Bool, true, List, [], ◌∷◌, length, take, Option, Some, None, Result, Ok, Err, MatchResult, if◌then◌else◌}
 use Rattle.std.specs.Int.{w32, from_be_bytes}
 use Rattle.wf_frame.specs.declared.fault.FrameFault.{FrameFault}
 use Rattle.wf_frame.specs.declared.fault.FrameFault.TheVariants.{Short, BadVersion, BadKind, TooLong, BadLength}
 use Rattle.wf_frame.specs.Layout.{Layout, fits}
 
--- `layout` is that of the body of a kind, by a version and the kind's byte, None if there is no such kind; `longest` is the most
--- bytes of a body.
+-- `layout` is that of the body of a kind, by a version and the kind's byte, None if there is no
+-- such kind; `longest` is the most bytes of a body.
 pub record Format : Type 0 where
   pub is_read : ℕ → Bool
   pub layout : ℕ → ℕ → Option Layout
@@ -72,8 +72,8 @@ stated_length bytes = from_be_bytes w32 (take 4 bytes)
 abbrev pub LacksBody : Layout → List ℕ → Type 0
 LacksBody layout bytes = (length bytes < 4) ⊎ ((fits layout (stated_length bytes) ≡ true) × (length bytes < 4 + stated_length bytes))
 
--- Part of a frame, without an error in its version, its kind and its length as far as they are there; the length is checked once
--- its four bytes are there.
+-- Part of a frame, without an error in its version, its kind and its length as far as they are
+-- there; the length is checked once its four bytes are there.
 abbrev pub IsUnfinished : Format → List ℕ → Type 0
 IsUnfinished format [] = Unit {0}
 IsUnfinished format (version ∷ []) = format.is_read version ≡ true

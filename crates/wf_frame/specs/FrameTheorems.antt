@@ -1,5 +1,5 @@
--- Frames: a whole frame is split off whatever follows it, what is split off is at the front, an error remains whatever follows, and
--- the error of too few bytes means part of a frame.
+-- Frames: a whole frame is split off whatever follows it, what is split off is at the front, an
+-- error remains whatever follows, and the error of too few bytes means part of a frame.
 use Rattle.std.proofs.Common.{◌≡◌, ℕ, ◌<◌, ◌≤◌, Bool, true, false, cond, ltb, List, [], ◌∷◌, ◌++◌, length, take, drop, Option, Some, None, Result, Ok, Err, refl, sym, ap, subst, ◌∙◌, length-append, arith, inl, inr}
 use Rattle.std.proofs.Math.Seq.{take-append_seam}
 use Rattle.std.proofs.lemmas.Bool.{ltb-true, ltb-false, lt-ltb, le-ltb}

@@ -1,4 +1,5 @@
--- The layout of a body: fields of fixed length, one after the other, and an ending. A kind of message or record has one layout.
+-- The layout of a body: fields of fixed length, one after the other, and an ending. A kind of
+-- message or record has one layout.
 use Rattle.std.specs.Prelude.{ℕ, ◌+◌, ◌&&◌, nat_le, Bool, List, [], ◌∷◌, ◌++◌, drop, Option, is_some, option_map, option_and_then}
 use Rattle.wf_frame.specs.Field.{Field, Value, IsValue, value_bytes, width, front_value}
 use Rattle.wf_frame.specs.BodyEnd.{Ending, End, IsEnd, end_bytes, least_end, most_end, end_texts, front_end, has_end, texts_in_end}

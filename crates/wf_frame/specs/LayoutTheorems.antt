@@ -1,4 +1,5 @@
--- Bodies and their layouts: a body is read as its parts, what is read has those bytes, and the checks by byte offset agree with it.
+-- Bodies and their layouts: a body is read as its parts, what is read has those bytes, and the
+-- checks by byte offset agree with it.
 use Rattle.std.proofs.Common.{◌≡◌, ℕ, ◌+◌, ◌≤◌, Bool, true, false, cond, ltb, leb, ◌&&◌, List, [], ◌∷◌, ◌++◌, length, drop, Option, Some, None, refl, ap, subst, ◌∙◌, length-append, arith}
 use Rattle.std.proofs.lemmas.Bool.{leb-true, le-leb, and_parts, and_from}
 use Rattle.std.proofs.lemmas.Option.{option_and_then_some}
@@ -95,7 +96,8 @@ end_again (Votes most) report is = report_again most report is
 some_is : {A : Type 0} (P : A → Type 0) (x y : A) → Some x ≡ Some y → P x → P y
 some_is P x y e p = let same : x ≡ y = cc in subst P same p
 
--- an ending that is read has these bytes: by the length that the body can have, nothing follows the last field
+-- an ending that is read has these bytes: by the length that the body can have, nothing follows the
+-- last field
 end_stands : (ending : Ending) (fields : ℕ) (bytes : List ℕ) (end : End ending) → AreBytes bytes → ends_at ending fields (fields + length bytes) ≡ true → front_end ending bytes ≡ Some end →
     bytes ≡ end_bytes ending end
 end_stands Nothing fields bytes end fit has e = nil_from_length bytes (omega (arith, end_within Nothing fields (fields + length bytes) has))
@@ -214,7 +216,8 @@ parts_checked (field ∷ fields) ending offset body payload text agrees =
     (λ value. parts_checked fields ending (offset + width field) body (λ others. payload (value, others)) text (λ others. agrees (value, others))
     ∙ ap (λ (n : ℕ). cond (has_parts fields ending (offset + width field) body) (Some (texts_in_end ending (drop n body))) None) sum)
 
--- A body is read iff each field is in its range, by byte offset, and its texts are those that follow the fields.
+-- A body is read iff each field is in its range, by byte offset, and its texts are those that
+-- follow the fields.
 pub body_checked : {B : Type 0} (layout : Layout) (bytes : List ℕ) (payload : Body layout → B) (text : B → List (List ℕ)) → ((body : Body layout) → text (payload body) ≡ body_texts layout body) →
     option_map text (read_body layout bytes payload) ≡ cond (has_fields layout bytes) (Some (texts_in layout bytes)) None
 body_checked layout bytes payload text agrees =

@@ -1,5 +1,6 @@
--- What a promise reports: the slot from which on it is made, its ballot, and the votes at that slot and the few after it. Each vote
--- has a mark, and a text its length, since several texts may follow one another.
+-- What a promise reports: the slot from which on it is made, its ballot, and the votes at that slot
+-- and the few after it. Each vote has a mark, and a text its length, since several texts may follow
+-- one another.
 use Rattle.std.specs.Prelude.{◌≡◌, ℕ, zero, suc, ◌+◌, ◌*◌, ◌<◌, ◌≤◌, ◌^◌, ◌&&◌, nat_le, List, [], ◌∷◌, ◌++◌, length, take, drop, map, Option, Some, None, option_map, option_and_then, IfSome, if◌then◌else◌}
 use Rattle.std.specs.Int.{w32, to_be_bytes, from_be_bytes}
 use Rattle.wf_ballot.specs.Sequence.{IsSlot, seq_bytes}
@@ -14,7 +15,8 @@ pub record Report : Type 0 where
   pub ballot : Ballot
   pub votes : List (Option (Vote (List ℕ)))
 
--- the number of votes that a report from the slot on has: one, or none, for each sequence of the window
+-- the number of votes that a report from the slot on has: one, or none, for each sequence of the
+-- window
 abbrev pub votes_in_report : ℕ → ℕ
 votes_in_report slot = sequences_from slot window
 
@@ -38,7 +40,8 @@ abbrev pub AreVotesOf : {V : Type 0} → (V → Type 0) → List (Option (Vote V
 AreVotesOf P [] = Unit {0}
 AreVotesOf P (vote ∷ votes) = IsVoteOf P vote × AreVotesOf P votes
 
--- each part is in its range, and there are as many votes as the slot has sequences; the length of a text has 4 bytes
+-- each part is in its range, and there are as many votes as the slot has sequences; the length of a
+-- text has 4 bytes
 pub record IsVoteReport (most : ℕ) (report : Report) : Type 0 where
   pub slot : IsSlot report.slot
   pub ballot : IsBallot report.ballot
@@ -64,7 +67,8 @@ votes_bytes (vote ∷ votes) = vote_bytes vote ++ votes_bytes votes
 unfoldable pub report_bytes : Report → List ℕ
 report_bytes report = seq_bytes report.slot ++ ballot_bytes report.ballot ++ votes_bytes report.votes
 
--- the most bytes of a report: four votes, each with its mark, its ballot, the length of its text, and its text
+-- the most bytes of a report: four votes, each with its mark, its ballot, the length of its text,
+-- and its text
 abbrev pub most_report : ℕ → ℕ
 most_report most = 7 + window * (10 + most)
 

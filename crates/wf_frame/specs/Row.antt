@@ -1,5 +1,6 @@
--- What a frame says, apart from its version, as a row: the byte of its kind, a value for each field of its body, and the ending. A
--- message or a record is said once, as its row; its body, its layout and its definitions follow from that.
+-- What a frame says, apart from its version, as a row: the byte of its kind, a value for each field
+-- of its body, and the ending. A message or a record is said once, as its row; its body, its layout
+-- and its definitions follow from that.
 use Rattle.std.specs.Prelude.{◌≡◌, ℕ, ◌==◌, List, [], ◌∷◌, ◌++◌, length, map, Option, Some, None, option_and_then, if◌then◌else◌}
 use Rattle.wf_ballot.specs.Sequence.{IsSlot}
 use Rattle.wf_ballot.specs.Ballot.{Ballot, IsBallot}
@@ -9,7 +10,8 @@ use Rattle.wf_frame.specs.Report.{AreVotesOf, report_bytes, votes_in_report, vot
 use Rattle.wf_frame.specs.BodyEnd.{Ending, Nothing, Text, Votes, End}
 use Rattle.wf_frame.specs.Layout.{Layout, Parts, Body, end_of, read_body}
 
--- what a body ends with, with definitions of any type: nothing, a definition, or the votes of a promise at a slot and a ballot
+-- what a body ends with, with definitions of any type: nothing, a definition, or the votes of a
+-- promise at a slot and a ballot
 pub data RowEnd (V : Type 0) : Type 0 where
   NoEnd : RowEnd V
   TextEnd : V → RowEnd V
@@ -35,7 +37,8 @@ end_definitions NoEnd = []
 end_definitions (TextEnd d) = d ∷ []
 end_definitions (VotesEnd s b votes) = votes_definitions votes
 
--- Each field is in its range; votes are as many as the slot has sequences; and P holds of each definition.
+-- Each field is in its range; votes are as many as the slot has sequences; and P holds of each
+-- definition.
 abbrev pub IsEndOf : {V : Type 0} → (V → Type 0) → RowEnd V → Type 0
 IsEndOf P NoEnd = Unit {0}
 IsEndOf P (TextEnd d) = P d
@@ -95,6 +98,7 @@ unfoldable pub layout_of : List (ℕ × Layout) → ℕ → Option Layout
 layout_of [] byte = None
 layout_of (kind ∷ kinds) byte = if byte == kind.0 then Some kind.1 else layout_of kinds byte
 
--- the row of the kind with this byte that has this body, None if there is none, if the kind can have the body's length
+-- the row of the kind with this byte that has this body, None if there is none, if the kind can
+-- have the body's length
 unfoldable pub read_row : List (ℕ × Layout) → ℕ → List ℕ → Option (Row (List ℕ))
 read_row kinds byte bytes = option_and_then (λ layout. read_body layout bytes (row_from byte layout)) (layout_of kinds byte)

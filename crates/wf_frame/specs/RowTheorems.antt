@@ -1,5 +1,5 @@
--- Rows: a row's body has a length that its layout allows, and it is read as the row; a row that is read has those bytes; and the
--- checks by byte offset agree with it.
+-- Rows: a row's body has a length that its layout allows, and it is read as the row; a row that is
+-- read has those bytes; and the checks by byte offset agree with it.
 use Rattle.std.proofs.Common.{◌≡◌, ℕ, ◌+◌, ◌<◌, ◌≤◌, ◌^◌, Bool, true, false, cond, eqb, List, [], ◌∷◌, ◌++◌, length, map, Option, Some, None, refl, sym, ap, subst, ◌∙◌, append_assoc, length-append, arith}
 use Rattle.std.specs.Prelude.{option_map, option_and_then}
 use Rattle.wf_ballot.specs.Front.{AreBytes}
@@ -147,7 +147,8 @@ same_texts [] (Text most) text = refl
 same_texts [] (Votes most) report = refl
 same_texts (field ∷ fields) ending parts = same_texts fields ending parts.1
 
--- A row is read iff each field is in its range, by byte offset, and its texts are those that follow the fields.
+-- A row is read iff each field is in its range, by byte offset, and its texts are those that follow
+-- the fields.
 pub row_checked : (kinds : List (ℕ × Layout)) (byte : ℕ) (layout : Layout) (bytes : List ℕ) → layout_of kinds byte ≡ Some layout →
     option_map (λ (r : Row (List ℕ)). end_definitions r.ending) (read_row kinds byte bytes) ≡ cond (has_fields layout bytes) (Some (texts_in layout bytes)) None
 unfolding read_row

@@ -1,5 +1,5 @@
--- The theorems about frames and their bodies: a frame has one reading, and none is a prefix of another; which bytes are part of a
--- frame; which errors remain.
+-- The theorems about frames and their bodies: a frame has one reading, and none is a prefix of
+-- another; which bytes are part of a frame; which errors remain.
 use Rattle.std.specs.Prelude.{◌≡◌, ◌↔◌, ℕ, List, ◌++◌, length, true, Some, None, option_map, Ok, Err, if◌then◌else◌}
 use Rattle.wf_ballot.specs.Field.{frame}
 use Rattle.wf_ballot.specs.Front.{AreBytes}
@@ -15,16 +15,17 @@ pub record IsFramed (format : Format) (bytes : List ℕ) (version byte : ℕ) (b
   pub has_body : HasBody format version byte body
   pub body_bytes : AreBytes body
 
--- A whole frame is split off whatever follows it, and what is split off is at the front; an error but that of too few bytes remains
--- whatever follows; and that one means part of a frame.
+-- A whole frame is split off whatever follows it, and what is split off is at the front; an error
+-- but that of too few bytes remains whatever follows; and that one means part of a frame.
 pub record FramesAreRead (format : Format) : Type 0 where
   pub whole : (version byte : ℕ) (body rest : List ℕ) → HasBody format version byte body → frame_front format (frame version byte body ++ rest) ≡ Ok (version, byte, body)
   pub front : (bytes : List ℕ) (version byte : ℕ) (body : List ℕ) → AreBytes bytes → frame_front format bytes ≡ Ok (version, byte, body) → IsFramed format bytes version byte body
   pub remains : (bytes more : List ℕ) (fault : FrameFault) → frame_front format bytes ≡ Err fault → (fault ≡ Short → ⊥) → frame_front format (bytes ++ more) ≡ Err fault
   pub short : (bytes : List ℕ) → (frame_front format bytes ≡ Err Short) ↔ IsUnfinished format bytes
 
--- A body has a length that its layout allows, it is read as its parts, and what is read has those bytes. It is read iff each field
--- is in its range, by byte offset, and its texts are those that follow the fields.
+-- A body has a length that its layout allows, it is read as its parts, and what is read has those
+-- bytes. It is read iff each field is in its range, by byte offset, and its texts are those that
+-- follow the fields.
 pub record BodiesAreRead : Type 0 where
   pub fit : (layout : Layout) (body : Body layout) → IsBody layout body → fits layout (length (body_bytes layout body)) ≡ true
   pub again : (layout : Layout) (body : Body layout) → IsBody layout body → read_body layout (body_bytes layout body) (λ b. b) ≡ Some body
@@ -47,8 +48,8 @@ pub record IsPayload (format : Format) (payload : Payload) : Type 0 where
 abbrev pub payload_bytes : Payload → List ℕ
 payload_bytes payload = frame payload.version payload.byte (body_bytes payload.layout payload.body)
 
--- No frame is a prefix of another, and a frame has one reading: if two frames, each followed by other bytes, are equal, so is what
--- they say.
+-- No frame is a prefix of another, and a frame has one reading: if two frames, each followed by
+-- other bytes, are equal, so is what they say.
 abbrev pub NoneBeginsAnother : Format → Type 0
 NoneBeginsAnother format = (x y : Payload) (after_x after_y : List ℕ) → IsPayload format x → IsPayload format y →
     payload_bytes x ++ after_x ≡ payload_bytes y ++ after_y → x ≡ y

@@ -12,7 +12,8 @@ pub fn put(out: &mut Vec<u8>, bytes: &[u8])
     out.extend_from_slice(bytes).unwrap();
 }
 
-/// Appends the header of a frame, for which there is room: it makes a frame with a body of `count` bytes, which the caller appends.
+/// Appends the header of a frame, for which there is room: it makes a frame with a body of `count`
+/// bytes, which the caller appends.
 pub fn put_header(out: &mut Vec<u8>, version: u8, kind: u8, count: usize)
     requires room { vec_len out.old + header_length ≤ vec_capacity out.old }
     requires four_bytes { count < 2 ^ 32 }

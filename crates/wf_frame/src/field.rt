@@ -48,7 +48,8 @@ pub fn put_round(fields: &mut FieldBytes, round: Round)
     append(fields, &round.bytes());
 }
 
-/// Appends a ballot, for which there is room. Its round and its node are in their ranges, as its type says.
+/// Appends a ballot, for which there is room. Its round and its node are in their ranges, as its
+/// type says.
 pub fn put_ballot(fields: &mut FieldBytes, ballot: Ballot)
     requires { array_vec_len fields.old + 5 ≤ 13 }
     ensures items { fields.new.items ≡ fields.old.items ++ ballot_bytes ballot }
@@ -68,14 +69,16 @@ fn append(fields: &mut FieldBytes, bytes: &[u8])
     fields.try_extend_from_slice(bytes).unwrap();
 }
 
-/// The slot's number is in its range, since its type says so: the call does nothing, and its contract tells it.
+/// The slot's number is in its range, since its type says so: the call does nothing, and its
+/// contract tells it.
 pub fn slot_in_range(slot: Slot)
     ensures { IsSlot slot }
 {
     let _ = slot.seq();
 }
 
-/// The ballot's round and node are in their ranges, since their types say so: the call does nothing, and its contract tells it.
+/// The ballot's round and node are in their ranges, since their types say so: the call does
+/// nothing, and its contract tells it.
 pub fn ballot_in_range(ballot: Ballot)
     ensures { IsBallot ballot }
 {

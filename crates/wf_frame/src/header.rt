@@ -9,9 +9,9 @@ use crate::lengths::Lengths;
 /// The number of bytes before a body: the version, the kind and the body's length.
 pub const HEADER_BYTES: usize = 6;
 
-/// The version, the kind's byte and the body of the frame at the front of the bytes. The checks go from left to right, each as soon
-/// as its bytes are there: the version, the kind, the body's length, whether the body is whole. What follows the frame isn't looked
-/// at.
+/// The version, the kind's byte and the body of the frame at the front of the bytes. The checks go
+/// from left to right, each as soon as its bytes are there: the version, the kind, the body's
+/// length, whether the body is whole. What follows the frame isn't looked at.
 #[tactic(auto, unfolding(crate::specs::Frame::frame_front))]
 pub fn split_frame<F: FrameFormat>(bytes: &[u8]) -> Result<(u8, u8, &[u8]), FrameFault>
     ensures { IsSplitAs (λ x. (x.0, x.1, x.2.now)) result (frame_front F.format bytes.now) }

@@ -1,4 +1,5 @@
--- The operations of a view that is moved by some pixels give each pixel the colour of the moved pixel in the first view.
+-- The operations of a view that is moved by some pixels give each pixel the colour of the moved
+-- pixel in the first view.
 use Rattle.std.proofs.Common.{◌≡◌, ℕ, ◌^◌, Bool, true, false, cond, List, [], ◌∷◌, ◌++◌, map, slice_get, Option, Some, None, ℤ, refl, sym, ap, ◌∙◌, arith}
 use Rattle.std.proofs.lemmas.Int.{ints}
 use Rattle.std.proofs.lemmas.List.{map-append}

@@ -1,4 +1,5 @@
--- Each request has a view: on each level the nearest grid lines alone can be the sides of its box, so whether a cell fits is decided.
+-- Each request has a view: on each level the nearest grid lines alone can be the sides of its box,
+-- so whether a cell fits is decided.
 use Rattle.std.proofs.Common.{◌≡◌, ℕ, zero, suc, ◌*◌, ◌^◌, ◌<◌, ◌≤◌, ◌==◌, ◌&&◌, ◌⊎◌, inl, inr, Bool, true, false, true≢false, ℤ, pos, refl, sym, ap, ◌∙◌, subst, ⊎_elim, arith}
 use Rattle.std.proofs.lemmas.Nat.{pow_pos}
 use Rattle.std.proofs.lemmas.Bool.{cases_order}

@@ -35,7 +35,8 @@ not_above high z = grind (arith, ints)
 
 -- ---- a row of pixels
 
--- where levels rise, the pixels within a margin start after the steps to its lower border and end after those to its upper one
+-- where levels rise, the pixels within a margin start after the steps to its lower border and end
+-- after those to its upper one
 pub rising_span : (start step margin : ℤ) (most : ℕ) (span : Span) → span.to ≤ most →
     ((u : ℕ) → u < most → is_less (product step (pos u)) (difference (opposite margin) start) ≡ nat_lt u span.from) →
     ((u : ℕ) → u < most → is_less (product step (pos u)) (difference margin start) ≡ nat_lt u span.to) →

@@ -1,4 +1,5 @@
--- A view that is moved moves each shape by the same offset: it covers a pixel there iff it covers the moved pixel here.
+-- A view that is moved moves each shape by the same offset: it covers a pixel there iff it covers
+-- the moved pixel here.
 use Rattle.std.proofs.Common.{◌≡◌, ℕ, ◌+◌, ◌*◌, ◌==◌, ◌%◌, ◌/◌, ◌||◌, Bool, cond, List, [], ◌∷◌, ◌++◌, map, ℤ, pos, negsuc, ◌+ℤ◌, ◌-ℤ◌, ◌*ℤ◌, ◌≤ℤ◌, ◌<ℤ◌, refl, sym, ap, ◌∙◌, arith}
 use Rattle.std.specs.Int.{int_div_euclid}
 use Rattle.std.specs.List.{count_by, list_any, flat_map, fold}

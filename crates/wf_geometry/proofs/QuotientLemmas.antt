@@ -21,7 +21,8 @@ unfolding plus product quotient
 divided_again (pos a) n some = omega (arith, ints)
 divided_again (negsuc a) n some = omega (arith, ints)
 
--- a distance of at most two limits, scaled as in a view, is at most `2 * most_scale * most_millionths` spans
+-- a distance of at most two limits, scaled as in a view, is at most
+-- `2 * most_scale * most_millionths` spans
 pub stretched : (d s n : ℕ) → d ≤ 2 * most_millionths → s ≤ most_scale * n → d * s ≤ n * (2 * most_scale * most_millionths)
 stretched d s n most finest =
     let product : d * s ≤ 2 * most_millionths * (most_scale * n) = mul-le-mul most finest in

@@ -129,7 +129,8 @@ pub far_by_step : (number value divisor : ℤ) (step : ℕ) → number ≡ value
 far_by_step number value divisor step is same far =
     subst (λ (z : ℤ). IsFar z divisor) is (subst (λ (z : ℤ). IsFar number z) same far)
 
--- where levels rise and the multiples below both borders are counted, the span between has the pixels within the margin
+-- where levels rise and the multiples below both borders are counted, the span between has the
+-- pixels within the margin
 pub counted_row : (l : Levels) (step start lower upper : ℤ) (row most : ℕ) (span : Span) → span.to ≤ most → step ≡ product (pos pixel_side) l.across → start ≡ row_level l row →
     lower ≡ difference (opposite l.margin) start → upper ≡ difference l.margin start →
     ((u : ℕ) → u < most → is_less (product step (pos u)) lower ≡ nat_lt u span.from) →

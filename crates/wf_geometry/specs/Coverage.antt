@@ -1,4 +1,5 @@
--- The pixels that a fill or a line covers: those whose centre it covers. Positions are in sixteenths of a pixel.
+-- The pixels that a fill or a line covers: those whose centre it covers. Positions are in
+-- sixteenths of a pixel.
 use Rattle.std.specs.Prelude.{ℕ, ◌*◌, ◌%◌, ◌==◌, ◌&&◌, ◌||◌, Bool, not, nat_lt, List, ℤ, pos, nat_abs, if◌then◌else◌}
 use Rattle.std.specs.List.{count_by, list_any}
 use Rattle.wf_geometry.specs.Exact.{difference, product, opposite, is_less}
@@ -65,7 +66,8 @@ is_on_flat width c a b = if is_less b.x a.x then is_across width c b a else is_a
 unfoldable pub is_steep : PositionValue → PositionValue → Bool
 is_steep a b = nat_lt (nat_abs (run a b)) (nat_abs (rise a b))
 
--- the line of `width` pixels along the segment covers the position; a steep segment is tested with the axes exchanged
+-- the line of `width` pixels along the segment covers the position; a steep segment is tested with
+-- the axes exchanged
 unfoldable pub is_on : ℕ → PositionValue → Segment → Bool
 is_on width c s = if is_steep s.from s.to then is_on_flat width (turned c) (turned s.from) (turned s.to) else is_on_flat width c s.from s.to
 

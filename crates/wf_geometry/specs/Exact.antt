@@ -1,4 +1,5 @@
--- Sums, products and comparisons of integers: the operations that views and coverage are defined by.
+-- Sums, products and comparisons of integers: the operations that views and coverage are defined
+-- by.
 use Rattle.std.specs.Prelude.{ℤ, ◌+ℤ◌, ◌-ℤ◌, ◌*ℤ◌, neg_ℤ, Bool, int_lt, ℕ, pos}
 use Rattle.std.specs.Int.{int_div_euclid}
 use Rattle.wf_geometry.specs.declared.row.Quotient.{Quotient}

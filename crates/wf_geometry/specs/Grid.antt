@@ -1,5 +1,5 @@
--- The tile grid: at level z the extent's width has 2^z cells. Cells count from the extent's lower left corner; those below it are
--- negative.
+-- The tile grid: at level z the extent's width has 2^z cells. Cells count from the extent's lower
+-- left corner; those below it are negative.
 use Rattle.std.specs.Prelude.{◌≡◌, true, ℕ, ◌*◌, ◌^◌, ◌≤◌, ◌&&◌, ◌==◌, Bool, nat_le, ℤ, pos, nat_abs}
 use Rattle.wf_def.specs.Extent.{ExtentValue}
 use Rattle.wf_geometry.specs.Exact.{plus, difference, product}
@@ -10,8 +10,8 @@ use Rattle.wf_geometry.specs.declared.grid.GridCell.{GridCell}
 unfoldable pub width_of : ExtentValue → ℕ
 width_of e = nat_abs (difference e.maxx e.minx)
 
--- With `cells` cells along the width, grid line k is at `least + k * width / cells`. The coordinate x lies within 2 millionths of
--- it; both sides are multiplied by the number of cells.
+-- With `cells` cells along the width, grid line k is at `least + k * width / cells`. The coordinate
+-- x lies within 2 millionths of it; both sides are multiplied by the number of cells.
 unfoldable pub is_on_line : ℤ → ℕ → ℕ → ℤ → ℤ → Bool
 is_on_line least width cells k x =
     nat_le (nat_abs (difference (product (difference x least) (pos cells)) (product k (pos width)))) (2 * cells)
@@ -38,7 +38,8 @@ fits e box width height cell = width == tile_pixels && height == tile_pixels && 
 abbrev pub AtMostOneFits : Type 0
 AtMostOneFits = (e box : ExtentValue) (width height : ℕ) (c d : GridCell) → fits e box width height c ≡ true → fits e box width height d ≡ true → c ≡ d
 
--- the level is one of the grid, and column and row lie in the range that boxes of map coordinates can reach
+-- the level is one of the grid, and column and row lie in the range that boxes of map coordinates
+-- can reach
 pub record IsGridCell (cell : GridCell) : Type 0 where
   pub level : cell.z ≤ most_level
   pub column_near : nat_abs cell.col ≤ 2 ^ 39

@@ -1,4 +1,5 @@
--- The limits of views and of the tile grid, each once, with its unit. The constants of the code are proved equal to them.
+-- The limits of views and of the tile grid, each once, with its unit. The constants of the code are
+-- proved equal to them.
 use Rattle.std.specs.Prelude.{ℕ}
 
 -- the greatest width and height of a view, in pixels

@@ -17,7 +17,8 @@ use Rattle.wf_geometry.specs.declared.operation.Shape.{Shape}
 use Rattle.wf_geometry.specs.declared.operation.Shape.TheVariants.{Fill, Line, Square}
 use Rattle.wf_geometry.specs.declared.operation.Operation.{Operation}
 
--- the inside of edges, lines of a width along segments, a square of a size about a position; width and size in pixels
+-- the inside of edges, lines of a width along segments, a square of a size about a position; width
+-- and size in pixels
 pub data ShapeValue : Type 0 where
   FillOf : List Segment → ShapeValue
   LineOf : ℕ → List Segment → ShapeValue

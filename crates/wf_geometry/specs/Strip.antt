@@ -1,4 +1,5 @@
--- Strips: the pixels of some rows and columns whose level lies within a margin, and where those of a row begin and end.
+-- Strips: the pixels of some rows and columns whose level lies within a margin, and where those of
+-- a row begin and end.
 use Rattle.std.specs.Prelude.{◌≡◌, ◌⊎◌, ℕ, ◌+◌, ◌*◌, ◌^◌, ◌<◌, ◌≤◌, ◌&&◌, Bool, ℤ, pos, nat_abs}
 use Rattle.wf_geometry.specs.Exact.{plus, difference, product, opposite, quotient, number_of}
 use Rattle.wf_geometry.specs.Level.{level, row_level, level_at, is_in_margin}
@@ -34,7 +35,8 @@ pub record AreEnds (l : Levels) (row : ℕ) (e : RowEnds) : Type 0 where
 abbrev pub IsFar : ℤ → ℤ → Type 0
 IsFar number divisor = 2 ^ 50 < nat_abs (quotient number divisor)
 
--- the levels don't change from column to column, or the lower end, the distance of the ends or their change is too far from 0
+-- the levels don't change from column to column, or the lower end, the distance of the ends or
+-- their change is too far from 0
 abbrev pub HasNoEnds : Levels → ℕ → Type 0
 HasNoEnds l row = (l.across ≡ pos 0)
     ⊎ (IsFar (difference (difference (opposite l.margin) (row_level l row)) (pos 1)) (product (pos pixel_side) l.across)

@@ -21,8 +21,8 @@ box_view box width height = record {
   corner = None;
 }
 
--- Tiles are drawn four by four. A cell is width / cells of the extent wide and takes the pixels of a tile; the view starts at the
--- first of the four cells that this one is among.
+-- Tiles are drawn four by four. A cell is width / cells of the extent wide and takes the pixels of
+-- a tile; the view starts at the first of the four cells that this one is among.
 unfoldable pub tile_shift : ℤ → ℤ
 tile_shift k = product (quotient k (pos shared_tiles)) (pos (pixel_side * most_pixels))
 

@@ -8,7 +8,8 @@ use Rattle.wf_geometry.specs.Limit.{most_pixels}
 use Rattle.wf_geometry.specs.Position.{PositionValue}
 use Rattle.wf_geometry.specs.declared.view.Corner.{Corner}
 
--- `span` millionths are `scale` sixteenths of a pixel; the coordinate `origin` lies `shift` sixteenths before the view's side
+-- `span` millionths are `scale` sixteenths of a pixel; the coordinate `origin` lies `shift`
+-- sixteenths before the view's side
 pub record AxisValue : Type 0 where
   pub origin : ℤ
   pub scale : ℕ
@@ -23,7 +24,8 @@ scaled distance scale span = quotient (product distance (pos scale)) (pos span)
 unfoldable pub position : AxisValue → ℤ → ℤ
 position axis x = difference (scaled (difference x axis.origin) axis.scale axis.span) axis.shift
 
--- a size in pixels, the two axes, and for a tile its lower left pixel: the picture is then the part of the view that starts there
+-- a size in pixels, the two axes, and for a tile its lower left pixel: the picture is then the part
+-- of the view that starts there
 pub record ViewValue : Type 0 where
   pub width : ℕ
   pub height : ℕ

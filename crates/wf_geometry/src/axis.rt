@@ -9,8 +9,8 @@ ghost use Rattle.wf_geometry.specs.View.{scaled, position, most_scale, most_shif
 use std::marker::Model;
 use wf_def::Micro;
 
-/// How a view maps one axis of the map to pixels: `span` millionths are `scale` sixteenths of a pixel, and the coordinate
-/// `origin` lies `shift` sixteenths before the view's side.
+/// How a view maps one axis of the map to pixels: `span` millionths are `scale` sixteenths of a
+/// pixel, and the coordinate `origin` lies `shift` sixteenths before the view's side.
 #[derive(Clone, Copy)]
 pub struct Axis {
     origin: Micro,

@@ -112,7 +112,8 @@ fn is_along(position: Position, left: Position, right: Position) -> bool
     !is_less(position.x(), left.x()) && !is_less(right.x(), position.x())
 }
 
-/// Whether the position lies within half the width above or below the line; the lower border counts, the upper doesn't.
+/// Whether the position lies within half the width above or below the line; the lower border
+/// counts, the upper doesn't.
 #[tactic(auto, unfolding(crate::specs::Coverage::is_in_band))]
 fn is_in_band(width: u8, position: Position, left: Position, right: Position) -> bool
     ensures { result ≡ is_in_band width position left right }

@@ -11,8 +11,8 @@ use crate::axis::distance;
 use crate::limits::{LEAST_CELL, MOST_LEVEL, TILE_PIXELS};
 use wf_def::Extent;
 
-/// A cell of the tile grid: its level, column and row. Columns and rows count from the extent's lower left corner; those below it
-/// are negative.
+/// A cell of the tile grid: its level, column and row. Columns and rows count from the extent's
+/// lower left corner; those below it are negative.
 #[derive(Clone, Copy, PartialEq, Eq)]
 pub struct GridCell {
     pub z: u32,
@@ -21,8 +21,9 @@ pub struct GridCell {
 }
 
 impl GridCell {
-    /// The cell of the extent's grid whose tile is the picture of this box at this size. A tile has 256 by 256 pixels; each side
-    /// of its box lies within 2 millionths of the cell's side. Returns None iff no cell fits; at most one does.
+    /// The cell of the extent's grid whose tile is the picture of this box at this size. A tile has
+    /// 256 by 256 pixels; each side of its box lies within 2 millionths of the cell's side. Returns
+    /// None iff no cell fits; at most one does.
     pub fn of(extent: Extent, bbox: Extent, width: u32, height: u32) -> Option<Self>
         ensures found { IfSome result (λ cell. fits extent bbox width height cell ≡ true) }
         ensures near { IfSome result (λ cell. IsGridCell cell) }

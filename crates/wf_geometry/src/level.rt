@@ -16,7 +16,8 @@ pub struct Span {
     pub to: u32,
 }
 
-/// The pixels, of the first `most`, with this level, if it lies within the margin about 0: all or none.
+/// The pixels, of the first `most`, with this level, if it lies within the margin about 0: all or
+/// none.
 pub(crate) fn level_within(start: i128, margin: i128, most: u32) -> Span
     requires { IsArea margin }
     ensures { IsSpanOf (λ u. is_in_margin margin start) most result }
@@ -37,7 +38,8 @@ fn is_in_margin(margin: i128, level: i128) -> bool
     !is_less_area(level, opposite(margin)) && is_less_area(level, margin)
 }
 
-/// The pixels, of the first `most`, whose centre lies between two positions on an axis, both included.
+/// The pixels, of the first `most`, whose centre lies between two positions on an axis, both
+/// included.
 pub(crate) fn centres_between(low: i64, high: i64, most: u32) -> Span
     requires low { IsNear low }
     requires high { IsNear high }

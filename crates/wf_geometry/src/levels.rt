@@ -2,8 +2,9 @@
 
 use crate::level::Span;
 
-/// Numbers that change by constant steps over a picture: by `16 * across` from each column to the next, and by `16 * up` from each
-/// row to the next. `origin` is the number in the first column of the first row. `margin` is how far from 0 they may lie.
+/// Numbers that change by constant steps over a picture: by `16 * across` from each column to the
+/// next, and by `16 * up` from each row to the next. `origin` is the number in the first column of
+/// the first row. `margin` is how far from 0 they may lie.
 #[derive(Clone, Copy)]
 pub struct Levels {
     pub origin: i128,

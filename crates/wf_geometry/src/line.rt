@@ -18,8 +18,9 @@ use crate::operation::Segment;
 use crate::position::Position;
 use crate::steps::centres_below;
 
-/// The line of `width` pixels along the segment, as a strip of a picture of this size in pixels: it has exactly the pixels whose centre
-/// the line covers. Its levels don't fall from column to column, and are near enough to 0 for sums over a picture's rows.
+/// The line of `width` pixels along the segment, as a strip of a picture of this size in pixels: it
+/// has exactly the pixels whose centre the line covers. Its levels don't fall from column to
+/// column, and are near enough to 0 for sums over a picture's rows.
 pub fn strip_of(width: u8, segment: &Segment, wide: u32, high: u32) -> Strip
     ensures origin { nat_abs result.levels.origin ≤ 2 ^ 110 }
     ensures across { IsDistance result.levels.across }
@@ -78,7 +79,8 @@ fn rightward(width: u8, line: Segment, wide: u32, high: u32) -> Strip
     }
 }
 
-/// The line from its lower to its upper end, whose positions have their axes exchanged, as a strip of a picture of this size.
+/// The line from its lower to its upper end, whose positions have their axes exchanged, as a strip
+/// of a picture of this size.
 fn upward(width: u8, line: Segment, wide: u32, high: u32) -> Strip
     ensures origin { nat_abs result.levels.origin ≤ 2 ^ 110 }
     ensures across { IsDistance result.levels.across }
@@ -139,8 +141,8 @@ fn mirror(levels: Levels) -> Levels
     }
 }
 
-/// How far each pixel's centre lies above the line from `left` to `right`, times the line's x length; the margin is half the width
-/// of the line in the same measure.
+/// How far each pixel's centre lies above the line from `left` to `right`, times the line's x
+/// length; the margin is half the width of the line in the same measure.
 fn deviations(width: u8, left: Position, right: Position) -> Levels
     ensures origin { nat_abs result.origin ≤ 2 ^ 109 }
     ensures across { IsDistance result.across }
@@ -176,15 +178,16 @@ fn turned_deviations(width: u8, low: Position, high: Position) -> Levels
     }
 }
 
-/// The columns, of the first `most`, between the ends of the line from `left` to `right`: the same in each row. With the axes
-/// exchanged, the rows.
+/// The columns, of the first `most`, between the ends of the line from `left` to `right`: the same
+/// in each row. With the axes exchanged, the rows.
 fn span_along(left: Position, right: Position, most: u32) -> Span
     ensures { (v : ℕ) → IsSpanOf (λ u. is_along (centre (pos u) (pos v)) left right) most result }
 {
     centres_between(left.x(), right.x(), most)
 }
 
-/// Rows, of the first `most`, outside which the line from `left` to `right` covers nothing. With the axes exchanged, columns.
+/// Rows, of the first `most`, outside which the line from `left` to `right` covers nothing. With
+/// the axes exchanged, columns.
 fn rows_near(width: u8, left: Position, right: Position, most: u32) -> Span
     ensures within { result.to ≤ most }
     ensures below { (u v : ℕ) →

@@ -13,7 +13,8 @@ pub struct Segment {
 /// The shape that an operation paints.
 #[derive(Clone, Copy)]
 pub enum Shape<'a> {
-    /// The inside of these edges: the positions from which a ray to the right meets an odd number of them.
+    /// The inside of these edges: the positions from which a ray to the right meets an odd number
+    /// of them.
     Fill { edges: &'a [Segment] },
     /// A line of `width` pixels along each segment.
     Line { width: u8, segments: &'a [Segment] },

@@ -6,7 +6,8 @@ ghost use Rattle.wf_geometry.specs.Position.{IsPosition, middle, centre, turned}
 use crate::limits::{HALF_SIDE, PIXEL_SIDE};
 use std::marker::Model;
 
-/// A position in a view, in sixteenths of a pixel from its left side and its bottom. It may lie outside the view.
+/// A position in a view, in sixteenths of a pixel from its left side and its bottom. It may lie
+/// outside the view.
 #[derive(Clone, Copy)]
 pub struct Position {
     x: i64,

@@ -14,9 +14,10 @@ use crate::position::Position;
 use crate::steps::steps_below;
 use std::alloc::AllocError;
 
-/// Fills the list, cleared first, with the number of columns left of each edge that crosses the row, if at least one: a ray to the right
-/// from a column's centre meets as many edges as there are numbers above the column's. Returns Ok unless allocation fails; then the list has
-/// some of the numbers.
+/// Fills the list, cleared first, with the number of columns left of each edge that crosses the
+/// row, if at least one: a ray to the right from a column's centre meets as many edges as there are
+/// numbers above the column's. Returns Ok unless allocation fails; then the list has some of the
+/// numbers.
 pub fn find_reaches(
     edges: &[Segment],
     row: u32,
@@ -38,7 +39,8 @@ pub fn find_reaches(
     Ok(())
 }
 
-/// The number of leading columns of the row at this level from which a ray to the right meets the edge.
+/// The number of leading columns of the row at this level from which a ray to the right meets the
+/// edge.
 fn reach(level: i64, width: u32, edge: &Segment) -> u32
     requires { IsNear level }
     ensures within { result ≤ width }
@@ -63,7 +65,8 @@ fn is_between(level: i64, low: Position, high: Position) -> bool
     !is_less(level, low.y()) && is_less(level, high.y())
 }
 
-/// The number of leading columns of the row at this level that lie left of an edge from `low` up to `high`.
+/// The number of leading columns of the row at this level that lie left of an edge from `low` up to
+/// `high`.
 fn reach_of_rising(level: i64, width: u32, low: Position, high: Position) -> u32
     requires near { IsNear level }
     requires rising { is_beside (record { x = pos 0; y = level }) low high ≡ true }
@@ -81,7 +84,8 @@ fn step(low: Position, high: Position) -> i128
     product(PIXEL_SIDE, difference(high.y(), low.y()))
 }
 
-/// How far the first column at this level lies left of the edge, as a difference of the compared products.
+/// How far the first column at this level lies left of the edge, as a difference of the compared
+/// products.
 fn upper_bound(level: i64, low: Position, high: Position) -> i128
     requires { IsNear level }
     ensures { result ≡ difference (product (difference level low.y) (difference high.x low.x))

@@ -1,5 +1,5 @@
-//! Rows of a strip: where their pixels begin and end. The ends of a row are those of the row before, moved by a constant, so no row but
-//! the first takes a division.
+//! Rows of a strip: where their pixels begin and end. The ends of a row are those of the row
+//! before, moved by a constant, so no row but the first takes a division.
 ghost use Rattle.std.specs.Prelude.{◌≡◌, ◌+◌, ◌*◌, ◌^◌, ◌<◌, ◌≤◌, nat_abs, pos, ◌≤ℤ◌, IfSome, IfNone};
 ghost use Rattle.wf_geometry.specs.Near.{IsDistance, IsArea};
 ghost use Rattle.wf_geometry.specs.Exact.{plus, difference, product, opposite, number_of};
@@ -21,8 +21,9 @@ pub struct Quotient {
     pub rest: u64,
 }
 
-/// The ends of a row's pixels, as quotients by `step`: the whole part of an end counts the columns up to it. The lower end is `low`, the
-/// upper one lies `gap` after it, and both change by `change` from a row to the next one.
+/// The ends of a row's pixels, as quotients by `step`: the whole part of an end counts the columns
+/// up to it. The lower end is `low`, the upper one lies `gap` after it, and both change by `change`
+/// from a row to the next one.
 #[derive(Clone, Copy)]
 pub struct RowEnds {
     pub low: Quotient,
@@ -34,8 +35,9 @@ pub struct RowEnds {
 /// How many rows a leap passes.
 const LEAP_ROWS: i64 = 16;
 
-/// The ends of the pixels of a row whose level lies within the margin about 0, and how they change from row to row. None if levels don't
-/// change from column to column, or if 64 bits don't hold the quotients.
+/// The ends of the pixels of a row whose level lies within the margin about 0, and how they change
+/// from row to row. None if levels don't change from column to column, or if 64 bits don't hold the
+/// quotients.
 pub fn ends_in(levels: Levels, row: u32) -> Option<RowEnds>
     requires origin { nat_abs levels.origin ≤ 2 ^ 110 }
     requires across { IsDistance levels.across }
@@ -68,7 +70,8 @@ pub fn ends_in(levels: Levels, row: u32) -> Option<RowEnds>
     })
 }
 
-/// How an end of a row's pixels changes over 16 rows, as a quotient by `step`. None if 64 bits don't hold it.
+/// How an end of a row's pixels changes over 16 rows, as a quotient by `step`. None if 64 bits
+/// don't hold it.
 pub fn leap(levels: Levels, step: u64) -> Option<Quotient>
     requires up { IsDistance levels.up }
     requires step { 1 ≤ step }
@@ -109,7 +112,8 @@ pub fn row_within(levels: Levels, row: u32, most: u32) -> Span
     }
 }
 
-/// The pixels, of the first `most` of a row, whose level lies within the margin about 0, if levels rise from column to column.
+/// The pixels, of the first `most` of a row, whose level lies within the margin about 0, if levels
+/// rise from column to column.
 fn rising_within(levels: Levels, row: u32, most: u32) -> Span
     requires origin { nat_abs levels.origin ≤ 2 ^ 110 }
     requires across { IsDistance levels.across }

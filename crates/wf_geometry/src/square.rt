@@ -50,8 +50,8 @@ pub(crate) fn is_in_square(size: u8, position: Position, pixel: Pixel) -> bool
     is_in_span(size, position.x(), pixel.column) && is_in_span(size, position.y(), pixel.row)
 }
 
-/// The columns, of the first `most`, of a square of `size` pixels about a position on one axis, in sixteenths of a pixel; for the other
-/// axis, the rows.
+/// The columns, of the first `most`, of a square of `size` pixels about a position on one axis, in
+/// sixteenths of a pixel; for the other axis, the rows.
 pub fn span_about(size: u8, position: i64, most: u32) -> Span
     requires { IsNear position }
     ensures { IsSpanOf (λ u. is_in_span size position (pos u)) most result }

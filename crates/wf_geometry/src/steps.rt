@@ -1,5 +1,5 @@
-//! The number of multiples of a step below a bound. Every boundary of a shape in a row is computed by it: by a division, or from the
-//! row before by a sum.
+//! The number of multiples of a step below a bound. Every boundary of a shape in a row is computed
+//! by it: by a division, or from the row before by a sum.
 ghost use Rattle.std.specs.Prelude.{◌≡◌, ℕ, ◌+◌, ◌*◌, ◌/◌, ◌^◌, ◌<◌, ◌≤◌, nat_lt, nat_abs, pos, ◌≤ℤ◌, IfSome, IfNone};
 ghost use Rattle.std.specs.Int.{int_rem_euclid};
 ghost use Rattle.wf_geometry.specs.Exact.{plus, product, quotient, is_less, number_of};
@@ -8,10 +8,12 @@ ghost use Rattle.wf_geometry.specs.Position.{middle};
 use crate::limits::{HALF_SIDE, PIXEL_SIDE};
 use crate::row::Quotient;
 
-/// How far from 0 the whole part of a quotient may lie. The sum of a thousand, one for each row, is still far from what 64 bits hold.
+/// How far from 0 the whole part of a quotient may lie. The sum of a thousand, one for each row, is
+/// still far from what 64 bits hold.
 const FARTHEST: u128 = 1 << 50;
 
-/// The number of the first `most` pixels of an axis whose centre lies below the position, in sixteenths of a pixel.
+/// The number of the first `most` pixels of an axis whose centre lies below the position, in
+/// sixteenths of a pixel.
 pub fn centres_below(position: i64, most: u32) -> u32
     ensures within { result ≤ most }
     ensures below { (u : ℕ) → u < most → is_less (middle (pos u)) position ≡ nat_lt u result }
@@ -51,7 +53,8 @@ fn multiples_below(step: u128, bound: u128, most: u32) -> u32
     }
 }
 
-/// The quotient, by the processor's division of the least width that both numbers fit: a wider one takes longer.
+/// The quotient, by the processor's division of the least width that both numbers fit: a wider one
+/// takes longer.
 fn divide(number: u128, divisor: u128) -> u128
     requires { 1 ≤ divisor }
     ensures { result ≡ number / divisor }
@@ -65,7 +68,8 @@ fn divide(number: u128, divisor: u128) -> u128
     }
 }
 
-/// The number as a quotient by the divisor, rounded down, with its rest. None iff its whole part is more than `FARTHEST` away from 0.
+/// The number as a quotient by the divisor, rounded down, with its rest. None iff its whole part is
+/// more than `FARTHEST` away from 0.
 pub(crate) fn quotient(number: i128, divisor: u64) -> Option<Quotient>
     requires divisor { 1 ≤ divisor }
     requires number { nat_abs number ≤ 2 ^ 112 }
@@ -131,8 +135,8 @@ pub fn quotient_sum(a: Quotient, b: Quotient, divisor: u64) -> Quotient
     }
 }
 
-/// Whether a rest is below the divisor, by the sign of their difference. Nearly each row of a line asks, with an answer that no processor
-/// can foresee: from a sign compilers make no jump.
+/// Whether a rest is below the divisor, by the sign of their difference. Nearly each row of a line
+/// asks, with an answer that no processor can foresee: from a sign compilers make no jump.
 #[inline(always)]
 fn falls_short(rest: u64, divisor: u64) -> bool
     requires rest { rest ≤ 2 ^ 62 }
@@ -142,7 +146,8 @@ fn falls_short(rest: u64, divisor: u64) -> bool
     (rest as i64 - divisor as i64) < 0
 }
 
-/// The number of the first `most` multiples of the divisor, from 0 on, that aren't greater than the number.
+/// The number of the first `most` multiples of the divisor, from 0 on, that aren't greater than the
+/// number.
 #[inline(always)]
 pub fn multiples_up_to(number: Quotient, most: u32) -> u32
     requires { nat_abs number.whole ≤ 2 ^ 62 }

@@ -19,9 +19,10 @@ const TILE_SIDE: u64 = PIXEL_SIDE as u64 * TILE_PIXELS as u64;
 const SHARED_SIDE: i64 = PIXEL_SIDE * MOST_PIXELS as i64;
 
 impl View {
-    /// The view of a picture of this box at this size. If box and size are those of a tile of the map's grid, it is the view that
-    /// sixteen tiles share, and `corner` is where the tile is cut out of it: so neighbouring tiles match. Otherwise it is the
-    /// view of the box. The sides of the box are at least a thousandth of a unit.
+    /// The view of a picture of this box at this size. If box and size are those of a tile of the
+    /// map's grid, it is the view that sixteen tiles share, and `corner` is where the tile is cut
+    /// out of it: so neighbouring tiles match. Otherwise it is the view of the box. The sides of
+    /// the box are at least a thousandth of a unit.
     pub fn of(map: &MapDef, bbox: &Extent, width: u32, height: u32) -> Self
         requires width_least { 1 ≤ width }
         requires width_most { width ≤ most_pixels }
@@ -96,7 +97,8 @@ fn tile_axis(origin: Micro, width: u64, cells: u64, k: i64) -> Axis
     Axis::new(origin, TILE_SIDE * cells, width, tile_shift(k))
 }
 
-/// The distance from the grid's first cell to the group of four that this cell is in, in sixteenths of a pixel.
+/// The distance from the grid's first cell to the group of four that this cell is in, in sixteenths
+/// of a pixel.
 #[tactic(auto, unfolding(crate::specs::Tile::tile_shift, crate::specs::Exact::product, crate::specs::Exact::quotient))]
 fn tile_shift(k: i64) -> i64
     requires { nat_abs k ≤ 2 ^ 39 }

@@ -8,7 +8,8 @@ use crate::position::Position;
 use std::marker::Model;
 use wf_def::Point;
 
-/// The lower left pixel of a picture cut out of a view: columns from the left, rows from the bottom.
+/// The lower left pixel of a picture cut out of a view: columns from the left, rows from the
+/// bottom.
 #[derive(Clone, Copy, PartialEq, Eq)]
 pub struct Corner {
     pub column: u32,
@@ -77,8 +78,8 @@ impl View {
         self.height
     }
 
-    /// For a tile, its lower left pixel: the picture is the part of the view of 256 by 256 pixels that starts there. None if the
-    /// picture is the whole view.
+    /// For a tile, its lower left pixel: the picture is the part of the view of 256 by 256 pixels
+    /// that starts there. None if the picture is the whole view.
     pub fn corner(&self) -> Option<Corner>
         ensures value { result ≡ self.now.corner }
         ensures within { IsView self.now }

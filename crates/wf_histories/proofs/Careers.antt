@@ -1,4 +1,5 @@
--- The runs of one process are those of a career, of which the next one begins where the one before ended.
+-- The runs of one process are those of a career, of which the next one begins where the one before
+-- ended.
 use Rattle.std.proofs.Common.{◌≡◌, ℕ, zero, suc, true, false, List, [], ◌∷◌, ◌++◌, Option, refl, sym, ap, subst, ◌∙◌, append_assoc}
 use Rattle.std.proofs.lemmas.List.{map-append}
 use Rattle.wf_actor.specs.Farm.{item_of, items, steps_by}

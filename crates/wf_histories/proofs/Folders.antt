@@ -66,7 +66,8 @@ module _ {T : Type 0} (tapes : Tape T) (n i : ℕ) where
 
   -- ---- all of them
 
-  -- Runs of a career from these bytes, whose items are those of the processes' steps, and whose values are theirs.
+  -- Runs of a career from these bytes, whose items are those of the processes' steps, and whose
+  -- values are theirs.
   pub record AreCareer (bytes : List ℕ) (processes : List (NodeProcess tapes)) : Type 0 where
     pub ended : List (Ended T)
     pub now : Option (Run T)

@@ -1,4 +1,5 @@
--- What the next process reads: what the one before it left, or what starts made of that; at first, an empty tape.
+-- What the next process reads: what the one before it left, or what starts made of that; at first,
+-- an empty tape.
 use Rattle.std.proofs.Common.{◌≡◌, ℕ, ◌<◌, List, [], length, Some, refl, sym, ap, subst, ◌∙◌, inl, inr, arith, length-append}
 use Rattle.std.proofs.lemmas.Option.{same_Some}
 use Rattle.wf_ballot.specs.Field.{frame}

@@ -1,5 +1,5 @@
--- The premises about the processes of a farm can be met, one thing after the other: nothing has started, a process starts, it takes the next
--- act of its run, and it goes on in its next run.
+-- The premises about the processes of a farm can be met, one thing after the other: nothing has
+-- started, a process starts, it takes the next act of its run, and it goes on in its next run.
 use Rattle.std.specs.Prelude.{◌≡◌, ℕ, zero, suc, ◌<◌, ◌==◌, List, [], ◌∷◌, ◌++◌, length, slice_get, Some, if◌then◌else◌}
 use Rattle.wf_actor.specs.Farm.{AreCarried, ArePeersAmong, Step, items}
 use Rattle.wf_actor.specs.declared.actor.Actor.{Actor}

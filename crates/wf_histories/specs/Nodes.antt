@@ -16,21 +16,23 @@ use Rattle.wf_store.specs.Call.{Call}
 use Rattle.wf_tape.specs.declared.tape.Tape.{Ghosts as Tape}
 use Rattle.wf_histories.specs.Runs.{LivesOf, Made, made_of, steps_made, values_made}
 
--- Whatever durable state the old bytes of a tape stood for, the new ones stand for it: what a start that was cut off, or failed, makes of
--- them by writing them anew, shortened.
+-- Whatever durable state the old bytes of a tape stood for, the new ones stand for it: what a start
+-- that was cut off, or failed, makes of them by writing them anew, shortened.
 abbrev pub StandsAsBefore : List ℕ → List ℕ → Type 0
 StandsAsBefore old new = (stored : DurableState Definition) → StandsFor stored old → StandsFor stored new
 
--- the step within which the process of node i ended, if it was within one: what it was given then may have come from any node
+-- the step within which the process of node i ended, if it was within one: what it was given then
+-- may have come from any node
 abbrev pub cut_step : ℕ → End → List Step
 cut_step i Between = []
 cut_step i (Within input) = record { process = i; takes = input; origin = Peer i; outputs = [] } ∷ []
 cut_step i (Failed input) = []
 
 module _ {T : Type 0} (tapes : Tape T) where
-  -- One process of `wfarm node`: what it returned, and acts by which its runs came about. One that was killed, or lost its power, is what it
-  -- would have returned, and only the first of these acts were made: so many of its runs were over, and so many acts of the next one were
-  -- made. So it ended, and these bytes were left on its tape.
+  -- One process of `wfarm node`: what it returned, and acts by which its runs came about. One that
+  -- was killed, or lost its power, is what it would have returned, and only the first of these acts
+  -- were made: so many of its runs were over, and so many acts of the next one were made. So it
+  -- ended, and these bytes were left on its tape.
   pub record NodeProcess : Type 0 where
     pub line : NodeLine
     pub old : List Call
@@ -61,8 +63,9 @@ module _ {T : Type 0} (tapes : Tape T) where
   HasEndedBefore [] p = ⊤
   HasEndedBefore (next ∷ later) p = HasLeft (made_by p).last.run p.end p.left
 
-  -- They are processes of node i of n, one after the other: each read of the tape what the one before it left, or what starts that didn't
-  -- come to serve made of that; and the first one read such bytes of these.
+  -- They are processes of node i of n, one after the other: each read of the tape what the one
+  -- before it left, or what starts that didn't come to serve made of that; and the first one read
+  -- such bytes of these.
   abbrev pub AreOnFolder : (n i : ℕ) → List ℕ → List NodeProcess → Type 0
   AreOnFolder n i left [] = ⊤
   AreOnFolder n i left (p ∷ later) = IsProcessOf n i p × StandsAsBefore left (bytes_read p) × HasEndedBefore later p × AreOnFolder n i p.left later
@@ -82,9 +85,10 @@ module _ {T : Type 0} (tapes : Tape T) where
 
   -- ---- a farm
 
-  -- What n processes left that had ended, others went on from: those of each node on its folder, by these steps, in one order of time in
-  -- which what a node heard of a peer had been returned before, by whichever node. Connections carry only what was written to them. At first
-  -- nothing had started (`unstarted`), nothing was sent, and all tapes were empty.
+  -- What n processes left that had ended, others went on from: those of each node on its folder, by
+  -- these steps, in one order of time in which what a node heard of a peer had been returned
+  -- before, by whichever node. Connections carry only what was written to them. At first nothing
+  -- had started (`unstarted`), nothing was sent, and all tapes were empty.
   pub record AreNodeProcesses (n : ℕ) (before : ℕ → Career T) (sent : List Message) (folders : ℕ → List NodeProcess) (steps : List Step) : Type 0 where
     pub ended : (i : ℕ) → i < n → (before i).now ≡ None
     pub on_folders : (i : ℕ) → i < n → AreOnFolder n i (left (before i)) (folders i)

@@ -22,14 +22,16 @@ module _ {R : Type 0} (shelves : Tape R) where
 
 module _ {N R : Type 0} (tapes : Tape N) (shelves : Tape R) (n : ℕ) (before : ℕ → Career N) (earlier : List Item) (folders : ℕ → List (NodeProcess tapes)) (steps : List Step)
     (are : AreFarm tapes n before earlier folders steps) where
-  -- The lists from which the farm answers: what a node had published at some moment, and what a replica had learned at some moment, if all
-  -- that it ever heard was told by lists of nodes and of replicas of the farm.
+  -- The lists from which the farm answers: what a node had published at some moment, and what a
+  -- replica had learned at some moment, if all that it ever heard was told by lists of nodes and of
+  -- replicas of the farm.
   pub data IsList : List Definition → Type 0 where
     OfNode : (list : List Definition) (node : Node N) → IsEver tapes n before folders node → list ≡ node.parts.history → IsList list
     OfReplica : (list : List Definition) (served : HasServed shelves) (moment : ℕ) → AreReported n are.careers (received_by (follower_of served.hub)) → list ≡ learned_by shelves served moment → IsList list
 
-  -- There is one history, of which each of these lists is a beginning. Two that are equally long have one answer to a query of the map
-  -- service, and so have two that it asks for one map. No replica's list goes back.
+  -- There is one history, of which each of these lists is a beginning. Two that are equally long
+  -- have one answer to a query of the map service, and so have two that it asks for one map. No
+  -- replica's list goes back.
   pub record ListsAgree : Type 0 where
     pub history : List Definition
     pub each : (list : List Definition) → IsList list → IsBeginning list history

@@ -18,7 +18,8 @@ pub record TracedRun (T : Type 0) : Type 0 where
 abbrev pub first_acts : {T : Type 0} → ℕ → TracedRun T → TracedRun T
 first_acts made traced = record { run = record { first = traced.run.first; acts = take made traced.run.acts }; origins = take made traced.origins }
 
--- What a process has made of its runs: those that are over, the first one first, and the one that it is in.
+-- What a process has made of its runs: those that are over, the first one first, and the one that
+-- it is in.
 pub record Made (T : Type 0) : Type 0 where
   pub over : List (TracedRun T)
   pub last : TracedRun T
@@ -38,7 +39,8 @@ module _ {T : Type 0} (tapes : Tape T) where
   abbrev pub traced_by : (actor : Actor T tapes) → LifeOf actor → TracedRun T
   traced_by actor life = record { run = life.run; origins = life.origins }
 
-  -- What was made of these runs, when so many of them were over, and so many acts of the next one were made.
+  -- What was made of these runs, when so many of them were over, and so many acts of the next one
+  -- were made.
   unfoldable pub made_of : (ended : List (Actor T tapes × ℕ)) (now : Actor T tapes) → LivesOf ended now → (over made : ℕ) → Made T
   made_of [] now lives over made = record { over = []; last = first_acts made (traced_by now lives) }
   made_of (run ∷ ended) now lives zero made = record { over = []; last = first_acts made (traced_by run.0 lives.0) }

@@ -27,7 +27,8 @@ module _ {T : Type 0} (tapes : Tape T) where
 
   -- ---- one farm of processes
 
-  -- With what was before they are a farm of `wf_career`, whose processes held exactly the values that the nodes had.
+  -- With what was before they are a farm of `wf_career`, whose processes held exactly the values
+  -- that the nodes had.
   pub record AreFarm (n : ℕ) (before : ℕ → Career T) (earlier : List Item) (folders : ℕ → List (NodeProcess tapes)) (steps : List Step) : Type 0 where
     pub careers : ℕ → Career T
     pub farm : IsFarm tapes n careers (earlier ++ items steps)
@@ -60,13 +61,15 @@ module _ {T : Type 0} (tapes : Tape T) where
   NeverDiffer n before folders = (node other : Node T) → IsEver n before folders node → IsEver n before folders other → (s : ℕ) (c d : Definition) →
       definition_at node.parts.history s ≡ Some c → definition_at other.parts.history s ≡ Some d → c ≡ d
 
-  -- What a node had published at one moment is a beginning of what it had published at each later one, across restarts too.
+  -- What a node had published at one moment is a beginning of what it had published at each later
+  -- one, across restarts too.
   unfoldable pub NeverGoBack : ℕ → (ℕ → Career T) → (ℕ → List (NodeProcess tapes)) → Type 0
   NeverGoBack n before folders = (i moment later : ℕ) (node next : Node T) → moment ≤ later → IsThen n before folders i moment node → IsThen n before folders i later next →
       IsBeginning node.parts.history next.parts.history
 
-  -- Two nodes, or one at two moments, that receive equal requests to the map service respond with equal bytes, where they have published
-  -- equally many maps or are asked for one map; but one for which an allocation failed responds with 503.
+  -- Two nodes, or one at two moments, that receive equal requests to the map service respond with
+  -- equal bytes, where they have published equally many maps or are asked for one map; but one for
+  -- which an allocation failed responds with 503.
   unfoldable pub RespondEqually : ℕ → (ℕ → Career T) → (ℕ → List (NodeProcess tapes)) → Type 0
   RespondEqually n before folders = (node other : Node T) → IsEver n before folders node → IsEver n before folders other →
       (input query : List ℕ) (after other_after : Node T) (sent other_sent : Vec Message Global) (response another : Response) →
@@ -75,8 +78,9 @@ module _ {T : Type 0} (tapes : Tape T) where
       Responds tapes (Some input) other another other_sent other_after → another.status ≢ 503 →
       response_bytes another ≡ response_bytes response
 
-  -- A client was sent this whole response to what had come of its request, by a process whose node was one that was ever: `HasAnswered` of
-  -- `wf_loop` tells so of each client. No allocation failed (503).
+  -- A client was sent this whole response to what had come of its request, by a process whose node
+  -- was one that was ever: `HasAnswered` of `wf_loop` tells so of each client. No allocation failed
+  -- (503).
   pub record WasSent (n : ℕ) (before : ℕ → Career T) (folders : ℕ → List (NodeProcess tapes)) (came response : List ℕ) : Type 0 where
     pub process : Process T tapes
     pub after : Process T tapes
@@ -86,7 +90,8 @@ module _ {T : Type 0} (tapes : Tape T) where
     pub answers : status ≢ 503
     pub ever : IsEver n before folders process.actor.node
 
-  -- So two clients that ask the map service the same, of nodes that have published equally many maps or for one map, get equal bytes.
+  -- So two clients that ask the map service the same, of nodes that have published equally many
+  -- maps or for one map, get equal bytes.
   unfoldable pub GetEqually : ℕ → (ℕ → Career T) → (ℕ → List (NodeProcess tapes)) → Type 0
   GetEqually n before folders = (came query response another : List ℕ) (one : WasSent n before folders came response) (two : WasSent n before folders came another) →
       AsksMapService came query → AskedAlike query one.process.actor.node.parts.history two.process.actor.node.parts.history → another ≡ response

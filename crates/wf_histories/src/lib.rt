@@ -1,22 +1,29 @@
-//! The histories of a farm whose nodes are processes of `wfarm node`: what all of them ever publish and respond, across restarts.
+//! The histories of a farm whose nodes are processes of `wfarm node`: what all of them ever publish
+//! and respond, across restarts.
 //!
-//! **Model.** A process (`NodeProcess`, `specs/Nodes.antt`) is what `wfarm node` returned (`HasServed` of `wf_node_command`), with acts by
-//! which each of its runs came about (`specs/Runs.antt`); one that was killed made only the first of them. The processes of a node are on one
-//! folder, one after the other: each read of the tape what the one before it left.
+//! **Model.** A process (`NodeProcess`, `specs/Nodes.antt`) is what `wfarm node` returned
+//! (`HasServed` of `wf_node_command`), with acts by which each of its runs came about
+//! (`specs/Runs.antt`); one that was killed made only the first of them. The processes of a node
+//! are on one folder, one after the other: each read of the tape what the one before it left.
 //!
-//! **Promises**, over any kind of tape, of all values that the nodes ever had (`specs/Theorems.antt`, `specs/Replicas.antt`):
+//! **Promises**, over any kind of tape, of all values that the nodes ever had
+//! (`specs/Theorems.antt`, `specs/Replicas.antt`):
 //! - There are such acts, of each run that a process was ever in ([`processes_show_lives`]).
-//! - With what was before, such processes are a farm of `wf_career`, whose processes held exactly these values ([`nodes_are_one_farm`]).
-//! - So there is one history, of which each list that a node ever published is a beginning; no two have different definitions under one
-//!   sequence; no list loses a definition, across restarts too; and equal requests to the map service get equal bytes, a 503 for a failed
-//!   allocation aside ([`nodes_agree`]).
-//! - What replicas learn of such a farm is a beginning of that history, and they answer alike ([`replicas_are_of_the_farm`]).
+//! - With what was before, such processes are a farm of `wf_career`, whose processes held exactly
+//!   these values ([`nodes_are_one_farm`]).
+//! - So there is one history, of which each list that a node ever published is a beginning; no two
+//!   have different definitions under one sequence; no list loses a definition, across restarts
+//!   too; and equal requests to the map service get equal bytes, a 503 for a failed allocation
+//!   aside ([`nodes_agree`]).
+//! - What replicas learn of such a farm is a beginning of that history, and they answer alike
+//!   ([`replicas_are_of_the_farm`]).
 //!
-//! **Premises** (`AreNodeProcesses`). Of bytes: a process read of its tape what the one before it left, or what starts that didn't come to
-//! serve made of that; the first of a node, what an empty tape stands for, or what an earlier farm left that has ended (`wfarm init --from`).
-//! Of connections: there is an order of time in which what a node heard of a peer had been returned before. What a process leaves is said
-//! as `wf_career` says it, which a durable tape gives. All of it can be met, one thing after the other ([`node_processes_go_on`],
-//! `specs/Advance.antt`).
+//! **Premises** (`AreNodeProcesses`). Of bytes: a process read of its tape what the one before it
+//! left, or what starts that didn't come to serve made of that; the first of a node, what an empty
+//! tape stands for, or what an earlier farm left that has ended (`wfarm init --from`). Of
+//! connections: there is an order of time in which what a node heard of a peer had been returned
+//! before. What a process leaves is said as `wf_career` says it, which a durable tape gives. All of
+//! it can be met, one thing after the other ([`node_processes_go_on`], `specs/Advance.antt`).
 //!
 //! **Doesn't.** It opens no file and no socket, and no process of the program depends on it.
 #![tactic(auto)]

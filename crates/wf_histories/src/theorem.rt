@@ -11,24 +11,28 @@ use wf_journal::records_are_read_one_way;
 use wf_replica::{a_replica_never_goes_back, what_is_learned_is_served};
 use wf_tape::Tape;
 
-/// Of each run that a process was ever in, there are acts by which it came about, as its logs have them.
+/// Of each run that a process was ever in, there are acts by which it came about, as its logs have
+/// them.
 pub fn processes_show_lives<T: Tape>()
     ensures { ProcessesShowLives T.Tape }
 {}
 
-/// Processes of `wfarm node`, each node's one after the other on its folder, are a farm of `wf_career`, whether they returned, were killed or
-/// lost their power, and however often they opened their tapes anew.
+/// Processes of `wfarm node`, each node's one after the other on its folder, are a farm of
+/// `wf_career`, whether they returned, were killed or lost their power, and however often they
+/// opened their tapes anew.
 pub fn nodes_are_one_farm<T: Tape>()
     ensures { NodesAreOneFarm T.Tape }
 {
-    // A tape stands for one durable state. Within a process what was compared ties a run to the one before it.
+    // A tape stands for one durable state. Within a process what was compared ties a run to the one
+    // before it.
     records_are_read_one_way();
     a_compared_node_goes_on::<T>();
     runs_receive_their_own();
 }
 
-/// The headline of `wfarm node`: there is one history, of which each list that a node ever published is a beginning; no two differ under one
-/// sequence, none goes back, and equal requests get equal responses.
+/// The headline of `wfarm node`: there is one history, of which each list that a node ever
+/// published is a beginning; no two differ under one sequence, none goes back, and equal requests
+/// get equal responses.
 pub fn nodes_agree<T: Tape>()
     ensures { NodesAgree T.Tape }
 {
@@ -38,8 +42,9 @@ pub fn nodes_agree<T: Tape>()
     processes_respond_alike::<T>();
 }
 
-/// The premises can be met, one thing after the other: where nothing has started they hold, and they still do where a process starts on what
-/// the last one left, takes the next act of its run, by which it hears of a peer what was returned, or goes on in its next run.
+/// The premises can be met, one thing after the other: where nothing has started they hold, and
+/// they still do where a process starts on what the last one left, takes the next act of its run,
+/// by which it hears of a peer what was returned, or goes on in its next run.
 pub fn node_processes_go_on<T: Tape>()
     ensures nothing { NothingAdvances T.Tape }
     ensures start { StartAdvances T.Tape }
@@ -47,8 +52,9 @@ pub fn node_processes_go_on<T: Tape>()
     ensures run { RunAdvances T.Tape }
 {}
 
-/// What replicas of such a farm have learned, at any moments, are beginnings of its one history, and replicas answer alike, with one another
-/// and with the nodes, if all that they ever heard was told by lists of nodes and of replicas of the farm.
+/// What replicas of such a farm have learned, at any moments, are beginnings of its one history,
+/// and replicas answer alike, with one another and with the nodes, if all that they ever heard was
+/// told by lists of nodes and of replicas of the farm.
 pub fn replicas_are_of_the_farm<N: Tape, R: Tape>()
     ensures { ReplicasAgree N.Tape R.Tape }
 {

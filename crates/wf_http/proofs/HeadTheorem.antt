@@ -24,7 +24,8 @@ made m t fs = record { method = m; target = t; fields = fs }
 pub same_head : (m n t u : List ℕ) (fs gs : List (List ℕ × List ℕ)) → m ≡ n → t ≡ u → fs ≡ gs → made m t fs ≡ made n u gs
 same_head m n t u fs gs same_method same_target same_fields = rw (same_method, same_target, same_fields) refl
 
--- a head that the parser found in this many bytes, with this much room for fields, is within the limits
+-- a head that the parser found in this many bytes, with this much room for fields, is within the
+-- limits
 pub small : (bytes : List ℕ) (fields : List HeaderSpan) (spans : RequestSpans) → length bytes ≤ most_head_bytes → length fields ≡ most_fields
     → IsRequestOf bytes fields spans → Begins bytes (front_of bytes fields spans).head (front_of bytes fields spans).behind
 small bytes fields spans short room (h, at) = record {

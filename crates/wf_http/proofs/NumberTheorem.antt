@@ -83,7 +83,8 @@ same_by_size xs ys xs_are ys_are xs_begin ys_begin is (inr (inr short)) = let un
 
 -- ---- leading zeros
 
--- the digits left when leading zeros are removed: they don't begin with one, and are the same number
+-- the digits left when leading zeros are removed: they don't begin with one, and are the same
+-- number
 record IsLeft (digits left : List ℕ) : Type 0 where
   are_digits : AreDigits left
   no_zero : begins_with_zero left ≡ false

@@ -9,7 +9,8 @@ pub record IsRequestBody (rest : List ℕ) (bytes : ℕ) (body : List ℕ) : Typ
   pub whole : bytes ≤ length rest
   pub first : body ≡ take bytes rest
 
--- why no body is read: it is truncated, or an allocation failed, which needs a body of at least one byte
+-- why no body is read: it is truncated, or an allocation failed, which needs a body of at least one
+-- byte
 abbrev pub IsBodyFault : List ℕ → ℕ → RequestFault → Type 0
 IsBodyFault rest bytes (fault.Rejected r) = (r ≡ http_error.BadRequest) × (length rest < bytes)
 IsBodyFault rest bytes fault.NoRequest = ⊥

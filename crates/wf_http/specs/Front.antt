@@ -40,14 +40,15 @@ TakesFront old new front = (bytes : List ℕ) × Consumes old new bytes × IsFro
 abbrev pub HasNoHead : List ℕ → Type 0
 HasNoHead bytes = 0 < length bytes → HasNoRequest bytes
 
--- some bytes were taken from the front of what is left: at most as many as there is room for, and as the reader returns a call,
--- if known
+-- some bytes were taken from the front of what is left: at most as many as there is room for, and
+-- as the reader returns a call, if known
 abbrev pub TakesPiece : Option ℕ → ℕ → Option (List ℕ) → Option (List ℕ) → Type 0
 TakesPiece piece room old new =
     (bytes : List ℕ) × (length bytes ≤ room) × IfSome piece (λ most. length bytes ≤ most) × Consumes old new bytes
 
--- A head was looked for in what was taken from the front: at most as many bytes as a head may have, and no head was complete
--- before the last piece. A piece is at most as long as what the reader returns a call, if known.
+-- A head was looked for in what was taken from the front: at most as many bytes as a head may have,
+-- and no head was complete before the last piece. A piece is at most as long as what the reader
+-- returns a call, if known.
 pub record TakesHead (piece : Option ℕ) (old new : Option (List ℕ)) : Type 0 where
   pub before : List ℕ
   pub last : List ℕ
@@ -56,7 +57,8 @@ pub record TakesHead (piece : Option ℕ) (old new : Option (List ℕ)) : Type 0
   pub small : IfSome piece (λ most. length last ≤ most)
   pub taken : Consumes old new (before ++ last)
 
--- why a head is rejected: 400 if none is at the front of the input, 431 if none within the limits is
+-- why a head is rejected: 400 if none is at the front of the input, 431 if none within the limits
+-- is
 abbrev pub IsHeadError : List ℕ → HttpError → Type 0
 IsHeadError input http_error.BadRequest = HasNoRequest input
 IsHeadError input http_error.HeadTooLarge = HasNoSmallRequest input

@@ -1,4 +1,5 @@
--- The head of a request (RFC 9112, sections 3 and 5), by the grammar of the kit's head parser, and its limits.
+-- The head of a request (RFC 9112, sections 3 and 5), by the grammar of the kit's head parser, and
+-- its limits.
 use Rattle.std.specs.Prelude.{◌≡◌, ◌≤◌, ℕ, List, length, map}
 use Rattle.httparse.specs.Grammar.{RequestHead, ReadsRequest, print_request}
 use Rattle.httparse.specs.Spans.{name_and_value}

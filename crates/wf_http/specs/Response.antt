@@ -1,11 +1,13 @@
--- The bytes of a response (RFC 9112, sections 4, 5, 6.2 and 9.6; RFC 9110, sections 8.3 and 10.2.1).
+-- The bytes of a response (RFC 9112, sections 4, 5, 6.2 and 9.6; RFC 9110, sections 8.3 and
+-- 10.2.1).
 use Rattle.std.specs.Prelude.{◌≡◌, ◌≤◌, ◌-◌, ◌^◌, ℕ, min, List, [], ◌++◌, length, take, decimal, codes, unwrap_or, Option, Some, None}
 use Rattle.std.specs.Io.KnownBytes.{Appends}
 use Rattle.http.specs.StatusCode.{code_digits, reason_phrase}
 use Rattle.wf_http.specs.Method.{method_name}
 use Rattle.wf_http.specs.declared.http_error.Allowed.{Allowed}
 
--- a response: the status, the media type of the body, the allowed method if the request's was another, and the body
+-- a response: the status, the media type of the body, the allowed method if the request's was
+-- another, and the body
 pub record Response : Type 0 where
   pub status : ℕ
   pub media : List ℕ

@@ -1,4 +1,5 @@
--- How writing breaks off: a call that fails is the last one. This holds of each writer, also of one whose bytes aren't known.
+-- How writing breaks off: a call that fails is the last one. This holds of each writer, also of one
+-- whose bytes aren't known.
 use Rattle.std.specs.Prelude.{◌≡◌, ◌≤◌, ℕ, Bool, true, false, List, length, take}
 use Rattle.std.specs.Io.KnownBytes.{Appends}
 use Rattle.wf_stream.specs.Effects.{EndsByFailing, Rises}
@@ -6,7 +7,8 @@ use Rattle.wf_stream.specs.declared.stream.Sink.{Ghosts as Sink}
 use Rattle.wf_http.specs.Response.{IsCount, WritesPart}
 
 module _ {K : Type 0} (sinks : Sink K) where
-  -- this many first bytes were written without a failure; then a call failed, and no call came after it
+  -- this many first bytes were written without a failure; then a call failed, and no call came
+  -- after it
   pub record BreaksOff (bytes : List ℕ) (old new : K) (count : ℕ) : Type 0 where
     pub part : ℕ
     pub within : part ≤ length bytes

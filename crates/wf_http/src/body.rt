@@ -53,9 +53,9 @@ fn read_missing<S: Source>(
     }
 }
 
-/// Reads a body of `bytes` bytes, of which those in `behind` were read with the head. Bytes after the body may be among them, and
-/// are ignored; no further ones are read: if all of the body came with the head, nothing is read. An empty body allocates nothing
-/// either.
+/// Reads a body of `bytes` bytes, of which those in `behind` were read with the head. Bytes after
+/// the body may be among them, and are ignored; no further ones are read: if all of the body came
+/// with the head, nothing is read. An empty body allocates nothing either.
 #[tactic(auto, using(crate::proofs::BodyTheorem::nothing_taken))]
 pub fn read_body<S: Source>(
     alloc: Global,

@@ -46,8 +46,8 @@ fn check_reported(first: Option<&[u8]>) -> Option<HttpError>
     }
 }
 
-// Whether all lengths are digits, and the same number as the first. Numbers are compared by their digits without leading zeros,
-// so they may have any length.
+// Whether all lengths are digits, and the same number as the first. Numbers are compared by their
+// digits without leading zeros, so they may have any length.
 #[tactic(auto, using(crate::proofs::NumberTheorem::numbers_agree))]
 fn are_one_number(fields: &Fields<'_>, first: &[u8]) -> bool
     requires { first_of (lengths_of fields.now) ≡ Some first.now }
@@ -111,9 +111,9 @@ fn number_in(first: Option<&[u8]>) -> usize
     }
 }
 
-/// The length of the body that the fields announce, or the rejection by the first check that fails: of the body's coding (501),
-/// and whether its length is given (411), is one whole number (400) and is within the limit (413) (RFC 9112, section 6; RFC 9110,
-/// section 8.6).
+/// The length of the body that the fields announce, or the rejection by the first check that fails:
+/// of the body's coding (501), and whether its length is given (411), is one whole number (400) and
+/// is within the limit (413) (RFC 9112, section 6; RFC 9110, section 8.6).
 #[tactic(auto, using(crate::proofs::CheckTheorem::size_passed), unfolding(crate::specs::Checks::body_length))]
 pub fn body_length(fields: &Fields<'_>) -> Result<usize, HttpError>
     ensures { result ≡ body_length fields.now }

@@ -46,8 +46,8 @@ fn is_named(bytes: &[u8], span: &HeaderSpan, name: &[u8]) -> bool
     bytes_in(bytes, span.name).eq_ignore_ascii_case(name)
 }
 
-// Whether a value is digits, and the same number as these. Numbers are compared by their digits without leading zeros, so they may
-// have any length.
+// Whether a value is digits, and the same number as these. Numbers are compared by their digits
+// without leading zeros, so they may have any length.
 fn is_number(first: &[u8], value: &[u8]) -> bool
     ensures { result ≡ is_number first.now value.now }
 {
@@ -117,7 +117,8 @@ impl<'b> Fields<'b> {
         self.find_value(name)
     }
 
-    /// Whether the value of each field of that name is one or more decimal digits, and the same number as this one.
+    /// Whether the value of each field of that name is one or more decimal digits, and the same
+    /// number as this one.
     pub fn are_number(&self, name: &[u8], first: &[u8]) -> bool
         ensures { result ≡ list_all (is_number first.now) (values name.now self.now) }
     {

@@ -118,8 +118,9 @@ impl Model for Front {
 }
 
 impl Front {
-    /// Reads from the front of the input until a head is complete, and no further: at most 8,192 bytes, in at most that many
-    /// calls, since each call returns a byte, the end or an error. Allocates nothing.
+    /// Reads from the front of the input until a head is complete, and no further: at most 8,192
+    /// bytes, in at most that many calls, since each call returns a byte, the end or an error.
+    /// Allocates nothing.
     #[tactic(auto, using(crate::proofs::HeadTheorem::fault_at_end, crate::proofs::HeadTheorem::nothing_more, crate::proofs::HeadTheorem::fault_at_limit, crate::proofs::HeadTheorem::taken_at_limit, wf_stream::specs::KnownTheorems::piece_length))]
     pub fn read<S: Source>(source: &mut S) -> Result<Self, RequestFault>
         ensures ok { IfOk result (TakesFront (S.left source.old) (S.left source.new)) }

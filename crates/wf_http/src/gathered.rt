@@ -9,8 +9,8 @@ use wf_stream::Sink;
 /// The size of the buffer: more than the lines before the body of any response of this server.
 const ROOM: usize = 512;
 
-/// A writer into its own buffer, whose contents are then written in one piece. Allocates nothing; a write that exceeds the buffer
-/// fails.
+/// A writer into its own buffer, whose contents are then written in one piece. Allocates nothing; a
+/// write that exceeds the buffer fails.
 #[derive(Drop)]
 pub(crate) struct Gathered {
     bytes: ArrayVec<u8, ROOM>,

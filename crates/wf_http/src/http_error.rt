@@ -10,8 +10,8 @@ pub enum Allowed {
 /// Why a request is rejected, each with its status (RFC 9110, section 15; RFC 6585, section 5).
 #[derive(Clone, Copy, PartialEq, Eq)]
 pub enum HttpError {
-    /// 400: no head can be parsed or it is incomplete, the target doesn't begin with `/`, the body's length isn't one whole
-    /// number, or the body is truncated.
+    /// 400: no head can be parsed or it is incomplete, the target doesn't begin with `/`, the
+    /// body's length isn't one whole number, or the body is truncated.
     BadRequest,
     /// 404: there is no resource at the path.
     NotFound,

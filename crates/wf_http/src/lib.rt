@@ -1,27 +1,30 @@
 //! Requests and responses of HTTP, over any reader and writer (RFC 9110, RFC 9112).
 //!
-//! Readers and writers are [`wf_stream::Source`] and [`wf_stream::Sink`], which count their failed calls and report their bytes
-//! if known.
-//! - [`Front`] is the head of a request (its method, target and fields) with the bytes read after it; a target is a path
-//!   and a query (`target`). `check` has the checks on a head that hold for any resource, and the length of the body that its
-//!   fields announce; [`read_body`] reads a body.
+//! Readers and writers are [`wf_stream::Source`] and [`wf_stream::Sink`], which count their failed
+//! calls and report their bytes if known.
+//! - [`Front`] is the head of a request (its method, target and fields) with the bytes read after
+//!   it; a target is a path and a query (`target`). `check` has the checks on a head that hold for
+//!   any resource, and the length of the body that its fields announce; [`read_body`] reads a body.
 //! - [`Response`] is a response, which writes itself.
 //! - [`append`] appends to bytes stored inline.
 //!
-//! **Model.** What is read of a head is in `specs/Front.antt`, of a body in `specs/Body.antt`; the checks and the length of a body
-//! are in `specs/Checks.antt`. A response is its status, media type, allowed method and body (`specs/Response.antt`).
+//! **Model.** What is read of a head is in `specs/Front.antt`, of a body in `specs/Body.antt`; the
+//! checks and the length of a body are in `specs/Checks.antt`. A response is its status, media
+//! type, allowed method and body (`specs/Response.antt`).
 //!
 //! **Promises.**
-//! - [`Front::read`]: the head is the one at the front of the input, and no read is made once it is complete; a rejection is
-//!   for an input that has no such head; a failed read is reported iff one has failed.
-//! - [`read_body`]: the body is the bytes that follow, and no further ones are read; a rejection is for a truncated body.
-//! - [`Response::write`]: exactly the bytes of the response are written, or a prefix of them if the writer failed; the
-//!   failed write is the last call (`specs/WriteEnd.antt`).
+//! - [`Front::read`]: the head is the one at the front of the input, and no read is made once it is
+//!   complete; a rejection is for an input that has no such head; a failed read is reported iff one
+//!   has failed.
+//! - [`read_body`]: the body is the bytes that follow, and no further ones are read; a rejection is
+//!   for a truncated body.
+//! - [`Response::write`]: exactly the bytes of the response are written, or a prefix of them if the
+//!   writer failed; the failed write is the last call (`specs/WriteEnd.antt`).
 //!
 //! Only a body allocates.
 //!
-//! **Doesn't.** It doesn't know which resources there are, nor their methods (wf_edge), nor promise that a reader ever returns its
-//! next byte.
+//! **Doesn't.** It doesn't know which resources there are, nor their methods (wf_edge), nor promise
+//! that a reader ever returns its next byte.
 #![tactic(auto)]
 
 mod body;

@@ -204,8 +204,9 @@ impl<'b> Response<'b> {
         }
     }
 
-    /// Writes the response without allocating, its head and its body in one call where the writer takes both, and returns its number
-    /// of bytes. If the writer fails, a prefix of the response is written, and the failed call is the last.
+    /// Writes the response without allocating, its head and its body in one call where the writer
+    /// takes both, and returns its number of bytes. If the writer fails, a prefix of the response
+    /// is written, and the failed call is the last.
     pub fn write<K: Sink>(&self, sink: &mut K) -> Result<u64, CutShort>
         ensures whole { OnOk result
             (Appends (K.written sink.old) (K.written sink.new) (response_bytes self.now)) }

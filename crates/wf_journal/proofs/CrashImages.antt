@@ -110,7 +110,8 @@ not_bad_anywhere Memory content good = tt
 
 -- ---- adding
 
--- a prefix of the content with the record's bytes, that begins with the content, is the content followed by a prefix of them
+-- a prefix of the content with the record's bytes, that begins with the content, is the content
+-- followed by a prefix of them
 added_front : (content spelled image : List ℕ) → IsBeginning image (content ++ spelled) → IsBeginning content image → (front : List ℕ) × (after : List ℕ) × (image ≡ content ++ front) × (spelled ≡ front ++ after)
 added_front content spelled image within behind =
     let regrouped : content ++ spelled ≡ content ++ (behind.0 ++ within.0) =

@@ -1,4 +1,5 @@
--- The records of bytes: there is exactly one longest list of them, an appended record is one more, and part of a record is none.
+-- The records of bytes: there is exactly one longest list of them, an appended record is one more,
+-- and part of a record is none.
 use Rattle.std.proofs.Common.{◌≡◌, ◌⊎◌, ℕ, ◌+◌, ◌^◌, ◌<◌, ◌≤◌, List, [], ◌∷◌, ◌++◌, ◌-◌, length, map, take, drop, get_or, refl, sym, ap, subst, ◌∙◌, append_assoc, length-append, length-drop, arith, inl, inr}
 use Rattle.std.proofs.lemmas.List.{append-nil, map-append, take_at, drop_at, take_more, take-append-drop}
 use Rattle.wf_def.specs.Definition.{Definition}
@@ -57,7 +58,8 @@ one_reading one_map bytes (q ∷ xs) (r ∷ ys) rest_x rest_y x none_x y none_y 
 pub reads_only : OneTextOneMap → (bytes : List ℕ) (records others : List (Record Definition)) → AreRecords bytes records → ReadsAs bytes others → records ≡ others
 reads_only one_map bytes records others are reads = one_reading one_map bytes records others [] reads.0 are none_begins_nothing reads.1.splits reads.1.longest
 
--- A prefix of a record begins with no record: what follows the cut would follow the whole record too.
+-- A prefix of a record begins with no record: what follows the cut would follow the whole record
+-- too.
 pub cut_begins_none : OneTextOneMap → (r : Record Definition) (front : List ℕ) (byte : ℕ) (after : List ℕ) → Encodes r (front ++ byte ∷ after) → BeginsWithNone front
 cut_begins_none one_map r front byte after spells q spelled behind spells_q e =
     let longer : spelled ++ (behind ++ byte ∷ after) ≡ (front ++ byte ∷ after) ++ [] =
@@ -93,7 +95,8 @@ one_more_taken {X} view content new xs i x within is are is_record spelled =
       spelled = spelled ∙ ap (λ (t : List ℕ). t ++ spelling (view x)) are.spelled ∙ sym (spellings-push (map view (take i xs)) (view x)) ∙ ap spellings (sym records);
     }
 
--- Whole records followed by a prefix of one more read as the same records, or as one more if the prefix is the whole record.
+-- Whole records followed by a prefix of one more read as the same records, or as one more if the
+-- prefix is the whole record.
 pub cut_reads : OneTextOneMap → (content : List ℕ) (records : List (Record Definition)) (r : Record Definition) (front after : List ℕ) → AreRecords content records → Encodes r (front ++ after) →
     ReadsAs (content ++ front) records ⊎ ReadsAs (content ++ front) (records ++ r ∷ [])
 cut_reads one_map content records r front [] are spells =

@@ -13,7 +13,8 @@ use Rattle.wf_journal.proofs.CrashImages.{cut_shorter, same_or_more}
 
 -- ---- appending
 
--- Inside an append and the sync after it a crash leaves what it could before, or a prefix of what is there at the end.
+-- Inside an append and the sync after it a crash leaves what it could before, or a prefix of what
+-- is there at the end.
 pub inside_written : (a b c : ℕ) (content bytes new : List ℕ) (old mid : List ℕ → Type 0) (first second third : ℕ → List ℕ → Type 0) → new ≡ content ++ bytes → LeavesOldOrCut new old mid →
     Elapses a b first second → Elapses b c second third → LeavesOldOrNew old mid (second a) → LeavesNoOther mid (third b) → LeavesOldOrCut (content ++ bytes) old (third a)
 inside_written a b c content bytes new old mid first second third is cut one two in_first in_second =

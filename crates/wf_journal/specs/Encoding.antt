@@ -16,7 +16,8 @@ use Rattle.wf_journal.specs.Record.{texts, definition_of, IsRecord}
 abbrev pub header_length : ℕ
 header_length = frames.header_length
 
--- the format of records: each version has each kind, with the same layout but for the most bytes of a text
+-- the format of records: each version has each kind, with the same layout but for the most bytes of
+-- a text
 abbrev pub format : Format
 format = record {
   is_read = λ version. is_some (version_of_byte version);

@@ -1,4 +1,5 @@
--- Theorems about the encodings of a record: they have one length, and the one that is written is one of them.
+-- Theorems about the encodings of a record: they have one length, and the one that is written is
+-- one of them.
 use Rattle.std.proofs.Common.{◌≡◌, ℕ, ◌+◌, ◌≤◌, List, [], ◌∷◌, length, ap, arith}
 use Rattle.std.specs.Prelude.{IfSome}
 use Rattle.wf_ballot.specs.Field.{frame}

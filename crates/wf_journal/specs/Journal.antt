@@ -16,7 +16,8 @@ pub record Journal (T : Type 0) : Type 0 where
   pub halted : Bool
   pub failed : Option (Record Definition)
 
--- the model of a tape that was read: the tape, the bytes that were read, and how many of them are the records'
+-- the model of a tape that was read: the tape, the bytes that were read, and how many of them are
+-- the records'
 pub record Found (T : Type 0) : Type 0 where
   pub tape : T
   pub bytes : List ℕ

@@ -44,7 +44,8 @@ pub record HasText (d : Definition) : Type 0 where
   pub within : IsWithinLimits d
   pub short : length (canon d) ≤ most_canon_bytes
 
--- A record's numbers are in their ranges, rounds and sequences from 1 on, and P holds of its definition.
+-- A record's numbers are in their ranges, rounds and sequences from 1 on, and P holds of its
+-- definition.
 abbrev pub IsRecordOf : {V : Type 0} → (V → Type 0) → model.Record V → Type 0
 IsRecordOf P r = IsRowOf P (row r)
 

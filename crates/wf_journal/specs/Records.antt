@@ -1,4 +1,5 @@
--- The records of bytes: the longest list of whole records that the bytes begin with. What follows them is nothing, torn or bad.
+-- The records of bytes: the longest list of whole records that the bytes begin with. What follows
+-- them is nothing, torn or bad.
 use Rattle.std.specs.Prelude.{◌≡◌, ℕ, ◌+◌, ◌⊎◌, List, [], ◌∷◌, ◌++◌, length}
 use Rattle.wf_model.specs.DurableState.{Record}
 use Rattle.wf_def.specs.Definition.{Definition}
@@ -45,8 +46,8 @@ unfoldable pub length_of : List (Record Definition) → ℕ
 length_of [] = 0
 length_of (r ∷ records) = length (spelling r) + length_of records
 
--- Part of a record, at least one byte: its version, its kind and its length have no error as far as they are there, and its bytes
--- end too early. The length is checked once its four bytes are there.
+-- Part of a record, at least one byte: its version, its kind and its length have no error as far as
+-- they are there, and its bytes end too early. The length is checked once its four bytes are there.
 abbrev pub IsTorn : List ℕ → Type 0
 IsTorn [] = ⊥
 IsTorn (byte ∷ bytes) = IsUnfinished format (byte ∷ bytes)

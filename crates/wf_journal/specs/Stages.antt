@@ -37,8 +37,8 @@ ReadsBody view (Err NotCanonical) read = IsSomeAnd read (λ r. IsSomeAnd (end_de
 ReadsBody view (Err Memory) read = Unit {0}
 ReadsBody view (Err fault) read = ⊥
 
--- The frame's error, or else the record of its body, and the length of the whole. What is read doesn't depend on how long a text
--- may be.
+-- The frame's error, or else the record of its body, and the length of the whole. What is read
+-- doesn't depend on how long a text may be.
 abbrev pub IsValidated : {X : Type 0} → (X → Record Definition) → Result (X × ℕ) RecordFault → Result Found FrameFault → Type 0
 IsValidated view result split = MatchResult split
     (λ frame. ((most : ℕ) → ReadsBody (λ x. view x.0) result (read_row (kinds most) frame.1 frame.2)) × IfOk result (λ x. x.1 ≡ header_length + length frame.2))

@@ -19,7 +19,8 @@ version_of_byte byte = find (λ version. byte == version_byte version) all_versi
 abbrev pub version_written : Version
 version_written = Two
 
--- the most bytes of a record's text: canonical texts were shorter when the first version was written
+-- the most bytes of a record's text: canonical texts were shorter when the first version was
+-- written
 abbrev pub most_text : Version → ℕ
 most_text One = 32768
 most_text Two = most_canon_bytes

@@ -35,7 +35,8 @@ impl FrameFormat for RecordFormat {
     ghost is_format = { records_have_a_format };
 }
 
-/// The lengths that a body can have, for a kind's byte, where a text has at most `most` bytes; None if there is no such kind.
+/// The lengths that a body can have, for a kind's byte, where a text has at most `most` bytes; None
+/// if there is no such kind.
 #[tactic(auto, unfolding(wf_frame::specs::Row::layout_of))]
 fn lengths(most: usize, kind: u8) -> Option<Lengths>
     requires { most ≤ most_canon_bytes }

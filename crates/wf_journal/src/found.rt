@@ -19,8 +19,9 @@ use std::marker::Model;
 use wf_canon::one_text_one_map;
 use wf_tape::{Tape, TapeFault};
 
-/// A tape that was read and isn't a journal's yet: its records are known, and nothing is changed on it. So a caller that rejects
-/// the records gets the tape back as it was. Model: the tape, the bytes that were read, and how many of them are the records'.
+/// A tape that was read and isn't a journal's yet: its records are known, and nothing is changed on
+/// it. So a caller that rejects the records gets the tape back as it was. Model: the tape, the
+/// bytes that were read, and how many of them are the records'.
 #[derive(Drop)]
 pub struct Found<T: Tape> {
     tape: T,
@@ -40,8 +41,9 @@ impl<T: Tape> Model for Found<T> {
 }
 
 impl<T: Tape> Found<T> {
-    /// Reads the tape: its records are the longest list that its content begins with, the oldest first. The tape is unchanged; an
-    /// error returns it. A tape that won't fail still won't, and doesn't.
+    /// Reads the tape: its records are the longest list that its content begins with, the oldest
+    /// first. The tape is unchanged; an error returns it. A tape that won't fail still won't, and
+    /// doesn't.
     #[tactic(auto, using(crate::proofs::Lists::length_of_read))]
     pub fn read(alloc: Global, tape: T) -> Result<(Found<T>, Vec<Record>), (T, OpenFault)>
         ensures records { IfOk result (λ x. HasRead x.0.bytes (map view x.1.items) x.0.front) }
@@ -71,9 +73,10 @@ impl<T: Tape> Found<T> {
         }
     }
 
-    /// The journal of the tape. A torn record after the whole ones is removed, and what is kept is synced; a doubtful tape is
-    /// replaced by it, so that no bytes stay unsynced that an earlier failed sync left. One call of the tape. An error returns the
-    /// tape, unchanged unless the tape itself failed. A tape that won't fail still won't, and doesn't.
+    /// The journal of the tape. A torn record after the whole ones is removed, and what is kept is
+    /// synced; a doubtful tape is replaced by it, so that no bytes stay unsynced that an earlier
+    /// failed sync left. One call of the tape. An error returns the tape, unchanged unless the tape
+    /// itself failed. A tape that won't fail still won't, and doesn't.
     pub fn settle(self) -> Result<Journal<T>, (T, OpenFault)>
         ensures running { IfOk result (λ journal. journal.halted ≡ false) }
         ensures synced { T.durable → (records : _) → HasRead self.bytes records self.front →
@@ -122,8 +125,8 @@ impl<T: Tape> Found<T> {
     }
 }
 
-/// Keeps the first bytes of the content, and syncs them. A doubtful tape is replaced by them, since a sync of it may leave bytes
-/// unsynced.
+/// Keeps the first bytes of the content, and syncs them. A doubtful tape is replaced by them, since
+/// a sync of it may leave bytes unsynced.
 fn settle<T: Tape>(tape: &mut T, bytes: &[u8], front: usize) -> Result<(), TapeFault>
     requires within { front ≤ length bytes.now }
     ensures ok { T.durable →

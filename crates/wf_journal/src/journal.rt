@@ -21,8 +21,9 @@ use std::mem::replace;
 use wf_canon::one_text_one_map;
 use wf_tape::{MemoryTape, Tape, TapeFault};
 
-/// The records of a node on its tape. Model: the tape, whether the journal is halted, and the record that it keeps of a failure of the
-/// tape; if it isn't halted, a durable tape holds only whole records, all of them synced, and a sync of the tape can be relied on.
+/// The records of a node on its tape. Model: the tape, whether the journal is halted, and the
+/// record that it keeps of a failure of the tape; if it isn't halted, a durable tape holds only
+/// whole records, all of them synced, and a sync of the tape can be relied on.
 #[derive(Drop)]
 pub struct Journal<T: Tape> {
     pub(crate) tape: T,
@@ -43,9 +44,10 @@ impl<T: Tape> Model for Journal<T> {
 }
 
 impl<T: Tape> Journal<T> {
-    /// The journal of the tape, and its records, the oldest first. A torn record after the whole ones is removed, and what is
-    /// kept is synced. An error returns the tape, unchanged unless the tape itself failed. A crash at each moment inside the call
-    /// leaves what reads as something that a crash could have left before it. A tape that won't fail still won't, and doesn't.
+    /// The journal of the tape, and its records, the oldest first. A torn record after the whole
+    /// ones is removed, and what is kept is synced. An error returns the tape, unchanged unless the
+    /// tape itself failed. A crash at each moment inside the call leaves what reads as something
+    /// that a crash could have left before it. A tape that won't fail still won't, and doesn't.
     #[tactic(auto, using(crate::proofs::CrashImages::followed_on, crate::proofs::CrashImages::unchanged_on, crate::proofs::CrashImages::why_failed_on, crate::proofs::CrashImages::not_bad_anywhere))]
     pub fn open(alloc: Global, tape: T) -> Result<(Journal<T>, Vec<Record>), (T, OpenFault)>
         ensures running { IfOk result (λ x. x.0.halted ≡ false) }
@@ -81,7 +83,8 @@ impl<T: Tape> Journal<T> {
         }
     }
 
-    /// The journal of a tape that holds only whole records, all of them synced, and whose syncs can be relied on.
+    /// The journal of a tape that holds only whole records, all of them synced, and whose syncs can
+    /// be relied on.
     pub(crate) fn over(tape: T) -> Journal<T>
         requires settled { T.durable → TapeIsSettled T.Tape tape }
         requires sure { T.doubtful tape ≡ false }
@@ -94,9 +97,11 @@ impl<T: Tape> Journal<T> {
         }
     }
 
-    /// Adds a record: after Ok it is on the tape and synced. After a failure of the tape the journal is halted until it is opened
-    /// again, since a prefix of the record's bytes may be on the tape, after what was there. A crash at each moment inside the call
-    /// leaves what reads as the records from before, or with the new one. A tape that won't fail still won't, and doesn't.
+    /// Adds a record: after Ok it is on the tape and synced. After a failure of the tape the
+    /// journal is halted until it is opened again, since a prefix of the record's bytes may be on
+    /// the tape, after what was there. A crash at each moment inside the call leaves what reads as
+    /// the records from before, or with the new one. A tape that won't fail still won't, and
+    /// doesn't.
     #[tactic(auto, using(crate::proofs::CrashImages::same_kept, crate::proofs::CrashImages::now_more, crate::proofs::CrashImages::settled_more, crate::proofs::CrashImages::settled_same))]
     pub fn add(&mut self, alloc: Global, entry: &Record) -> Result<(), AddFault>
         requires { self.old.halted ≡ false }
@@ -145,7 +150,8 @@ impl<T: Tape> Journal<T> {
         self.halted
     }
 
-    /// Keeps the record that couldn't be added, since the tape failed: it may be on the tape, whole, and nobody was told of it.
+    /// Keeps the record that couldn't be added, since the tape failed: it may be on the tape,
+    /// whole, and nobody was told of it.
     pub fn keep_failed(&mut self, entry: Option<Record>)
         ensures { self.new ≡ record self.old { failed = option_map view entry } }
     {
@@ -159,7 +165,8 @@ impl<T: Tape> Journal<T> {
         self.failed.as_ref()
     }
 
-    /// The tape. Unless the journal is halted, a durable one holds only whole records, all of them synced.
+    /// The tape. Unless the journal is halted, a durable one holds only whole records, all of them
+    /// synced.
     pub fn tape(&self) -> &T
         ensures value { result.now ≡ self.now.tape }
         ensures settled { T.durable → self.now.halted ≡ false → TapeIsSettled T.Tape self.now.tape }

@@ -6,7 +6,8 @@ pub enum OpenFault {
     /// P1: the tape's device failed.
     #[error("P1: the tape failed")]
     TapeFailed,
-    /// P2: what follows the whole records, at this byte offset, is neither a record nor a prefix of one.
+    /// P2: what follows the whole records, at this byte offset, is neither a record nor a prefix of
+    /// one.
     #[error("P2: a bad record at {0}")]
     BadRecord(usize),
     /// P3: allocation failed.

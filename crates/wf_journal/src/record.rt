@@ -18,7 +18,8 @@ pub enum Record {
     Tried(Round),
     /// The node promised the ballot at the slot: it rejects lower ballots there.
     Promised(Slot, Ballot),
-    /// The node voted for the definition at the slot and the ballot, and so promised the ballot too.
+    /// The node voted for the definition at the slot and the ballot, and so promised the ballot
+    /// too.
     Accepted(Slot, Ballot, Canon),
     /// The definition is published at the slot.
     Published(Slot, Canon),
@@ -55,8 +56,8 @@ impl Record {
         HEADER_BYTES + (fields.len() + text.len())
     }
 
-    /// The byte of the record's kind, and the canonical text at the end of its body, empty if there is none. The fields before that
-    /// are appended to `fields`, which is empty.
+    /// The byte of the record's kind, and the canonical text at the end of its body, empty if there
+    /// is none. The fields before that are appended to `fields`, which is empty.
     #[tactic(auto, unfolding(wf_frame::specs::Row::row_bytes))]
     pub(crate) fn put_fields<'a>(&'a self, fields: &mut FieldBytes) -> (u8, &'a [u8])
         requires { fields.old.items ≡ [] }

@@ -11,8 +11,8 @@ use crate::open_error::OpenFault;
 use crate::record::Record;
 use std::alloc::Global;
 
-/// The records of the bytes, the oldest first, and their length in bytes. What follows them is nothing or a torn record; anything
-/// else is a bad record.
+/// The records of the bytes, the oldest first, and their length in bytes. What follows them is
+/// nothing or a torn record; anything else is a bad record.
 #[tactic(auto, using(crate::proofs::Lists::takes_one, crate::proofs::Lists::takes_less, crate::proofs::Lists::all_read, crate::proofs::Lists::bad_there, crate::proofs::Lists::none_begins_nothing, crate::proofs::Lists::rest_within))]
 pub fn read_records(alloc: Global, bytes: &[u8]) -> Result<(Vec<Record>, usize), OpenFault>
     ensures ok { IfOk result (λ x. HasRead bytes.now (map view x.0.items) x.1) }

@@ -15,10 +15,11 @@ use std::alloc::Global;
 use wf_tape::{Tape, TapeFault};
 
 impl<T: Tape> Journal<T> {
-    /// Replaces all records by these, in one call of the tape: after Ok it holds exactly them, synced, each as it is written, whatever
-    /// version it was read in. After a failure of the tape the journal is halted until it is opened again, since the tape holds the
-    /// records from before or these. A crash at each moment inside the call leaves one of the two as well. A tape that won't fail
-    /// still won't, and doesn't.
+    /// Replaces all records by these, in one call of the tape: after Ok it holds exactly them,
+    /// synced, each as it is written, whatever version it was read in. After a failure of the tape
+    /// the journal is halted until it is opened again, since the tape holds the records from before
+    /// or these. A crash at each moment inside the call leaves one of the two as well. A tape that
+    /// won't fail still won't, and doesn't.
     #[tactic(auto, using(crate::proofs::CrashImages::holds_written, crate::proofs::CrashImages::follows_replaced, crate::proofs::CrashImages::follows_failed, crate::proofs::CrashImages::follows_unchanged, crate::proofs::CrashImages::failed_content, crate::proofs::CrashImages::failed_images, crate::proofs::CrashImages::unchanged_images, crate::proofs::CrashImages::settled_written, crate::proofs::CrashImages::settled_same))]
     pub fn rewrite(&mut self, alloc: Global, records: &[Record]) -> Result<(), AddFault>
         requires { self.old.halted ≡ false }
@@ -57,10 +58,12 @@ impl<T: Tape> Journal<T> {
         }
     }
 
-    /// The journal of a tape on which these records replace whatever it held, in one call of it: it holds exactly them, synced, each as
-    /// it is written. Nothing is read of the tape, and it may be doubtful. An error returns the tape: P3 if allocation failed, and
-    /// then it is unchanged; P1 if the tape failed, and then it holds what it held, or these records. A crash at each moment inside
-    /// the call leaves one of the two as well. A tape that won't fail still won't, and doesn't.
+    /// The journal of a tape on which these records replace whatever it held, in one call of it: it
+    /// holds exactly them, synced, each as it is written. Nothing is read of the tape, and it may
+    /// be doubtful. An error returns the tape: P3 if allocation failed, and then it is unchanged;
+    /// P1 if the tape failed, and then it holds what it held, or these records. A crash at each
+    /// moment inside the call leaves one of the two as well. A tape that won't fail still won't,
+    /// and doesn't.
     pub fn begin_with(
         alloc: Global,
         tape: T,

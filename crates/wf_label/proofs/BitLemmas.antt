@@ -1,4 +1,5 @@
--- The bits of a label: which pixels are in one, and how the bits of a row, a character and a text come together.
+-- The bits of a label: which pixels are in one, and how the bits of a row, a character and a text
+-- come together.
 use Rattle.std.proofs.Common.{◌≡◌, ℕ, zero, suc, ◌+◌, ◌*◌, ◌/◌, ◌%◌, ◌<◌, ◌≤◌, ◌==◌, Bool, true, false, ◌&&◌, ◌||◌, List, length, get_or, Option, Some, None, ℤ, pos, nat_abs, inl, inr, refl, sym, ap, ◌∙◌, arith}
 use Rattle.std.specs.Prelude.{nat_le, nat_lt, slice_get}
 use Rattle.std.proofs.lemmas.Bool.{cases_lt, cases_order, ne_eqb}

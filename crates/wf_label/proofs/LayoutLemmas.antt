@@ -121,7 +121,8 @@ nowhere : PlacedValue
 nowhere = record { left = pos 0; bottom = pos 0; scale = 1; buffer = 0; force = false; color = record { r = 0; g = 0; b = 0 }; text = [] }
 
 module _ (view : ViewValue) (labels : List PlacedValue) (first second : List Bool) (is : IsPlacedSet view labels first) (also : IsPlacedSet view labels second) where
-  -- two placed sets agree on the first labels: whether a label is placed depends on those before it alone
+  -- two placed sets agree on the first labels: whether a label is placed depends on those before it
+  -- alone
   same_front : (i : ℕ) → i ≤ length labels → take i first ≡ take i second
   same_front zero within = refl
   same_front (suc i) within =

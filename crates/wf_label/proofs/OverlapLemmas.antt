@@ -1,4 +1,5 @@
--- Boxes overlap exactly where they share a pixel: the greater of their left sides with the greater of their bottom sides is one.
+-- Boxes overlap exactly where they share a pixel: the greater of their left sides with the greater
+-- of their bottom sides is one.
 use Rattle.std.proofs.Common.{◌≡◌, Bool, true, false, ℤ, refl, arith}
 use Rattle.std.proofs.lemmas.Bool.{and_from, and_parts}
 use Rattle.std.proofs.lemmas.Int.{ints}

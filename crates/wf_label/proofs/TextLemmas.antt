@@ -1,4 +1,5 @@
--- A feature's values are texts: a piece between two semicolons of a text in UTF-8 is UTF-8, and no longer than the whole.
+-- A feature's values are texts: a piece between two semicolons of a text in UTF-8 is UTF-8, and no
+-- longer than the whole.
 use Rattle.std.proofs.Common.{◌≡◌, ◌≢◌, ℕ, zero, suc, ◌+◌, ◌*◌, ◌<◌, ◌≤◌, ◌==◌, Bool, true, false, List, [], ◌∷◌, ◌++◌, length, get_or, Option, Some, None, option_and_then, inl, inr, refl, sym, ap, subst, ◌∙◌, arith}
 use Rattle.std.specs.Prelude.{nat_le}
 use Rattle.std.specs.Cmp.{first_so, second_so}

@@ -10,7 +10,8 @@ use Rattle.wf_label.specs.Limit.{cell_width}
 use Rattle.wf_label.specs.Placed.{PlacedValue}
 use Rattle.wf_label.specs.declared.placed.PixelBox.{PixelBox}
 
--- the pixels that the function names by column and row, rows counted upward, got the colour, and every other has its old one
+-- the pixels that the function names by column and row, rows counted upward, got the colour, and
+-- every other has its old one
 pub record IsColored (shown : ℕ → ℕ → Bool) (color : Color) (old new : PixmapValue) : Type 0 where
   pub width : new.width ≡ old.width
   pub height : new.height ≡ old.height
@@ -37,7 +38,8 @@ IsCutBefore most cut side = (pixel : ℕ) → pixel < most → nat_lt pixel cut 
 
 -- ---- bits of labels
 
--- the bit that a pixel is in on one axis, where it doesn't lie before the first: bits are squares of the scale's size
+-- the bit that a pixel is in on one axis, where it doesn't lie before the first: bits are squares
+-- of the scale's size
 unfoldable pub bit_at : ℕ → ℤ → ℕ → Option ℕ
 bit_at scale first pixel = option_map (λ n. n / scale) (steps first (pos pixel))
 
@@ -46,8 +48,8 @@ is_bit bits None up = false
 is_bit bits (Some across) None = false
 is_bit bits (Some across) (Some up) = bits across up
 
--- the pixel lies in one of the bits of a label that the function names, columns of bits counted from its left and rows from its
--- bottom
+-- the pixel lies in one of the bits of a label that the function names, columns of bits counted
+-- from its left and rows from its bottom
 unfoldable pub is_in_bits : PlacedValue → (ℕ → ℕ → Bool) → ℕ → ℕ → Bool
 is_in_bits label bits column row = is_bit bits (bit_at label.scale label.left column) (bit_at label.scale label.bottom row)
 

@@ -3,7 +3,8 @@ use Rattle.std.specs.Prelude.{ℕ, ◌/◌, ◌%◌, ◌==◌, List, [], ◌∷�
 use Rattle.std.specs.Char.{to_ascii_uppercase}
 use Rattle.std.specs.List.{find}
 
--- a character, and five octal digits: the rows from the top, of each row the highest bit on the left
+-- a character, and five octal digits: the rows from the top, of each row the highest bit on the
+-- left
 abbrev pub glyph_table : List (ℕ × ℕ)
 glyph_table =
     (65, 0o25755)  -- A

@@ -24,15 +24,16 @@ has_bit row column =
 unfoldable pub row_up : List ℕ → ℕ → ℕ
 row_up rows up = if nat_le 1 up && nat_le up glyph_height then slice_index rows (glyph_height - up) else 0
 
--- the character inks the bit of its cell in this column, and this many rows up; after the end of the text there is none
+-- the character inks the bit of its cell in this column, and this many rows up; after the end of
+-- the text there is none
 abbrev pub inks_bit : Option ℕ → ℕ → ℕ → Bool
 inks_bit None column up = false
 inks_bit (Some c) column up = has_bit (row_up (glyph c) up) column
 
 -- ---- one label
 
--- the text inks the pixel that lies `right` columns to the right of its first and `up` rows above: each bit is a square of the
--- scale's size
+-- the text inks the pixel that lies `right` columns to the right of its first and `up` rows above:
+-- each bit is a square of the scale's size
 unfoldable pub inks_at : ℕ → List ℕ → ℕ → ℕ → Bool
 inks_at scale text right up =
     inks_bit (slice_get (chars text) (right / (cell_width * scale))) (right % (cell_width * scale) / scale) (up / scale)

@@ -23,7 +23,8 @@ text_of layer feature = unwrap_or (attribute layer.items feature.items layer.lab
 
 -- ---- where its box is
 
--- the first column of a box `width` pixels wide: it ends before the anchor's column, has it in its middle, or begins after it
+-- the first column of a box `width` pixels wide: it ends before the anchor's column, has it in its
+-- middle, or begins after it
 abbrev pub left_of : LabelPosition → ℤ → ℕ → ℤ
 left_of UpperLeft column width = difference column (pos width)
 left_of CenterLeft column width = difference column (pos width)
@@ -35,7 +36,8 @@ left_of UpperRight column width = plus column (pos 1)
 left_of CenterRight column width = plus column (pos 1)
 left_of LowerRight column width = plus column (pos 1)
 
--- the first row of a box `height` pixels high: it begins above the anchor's row, has it in its middle, or ends below it
+-- the first row of a box `height` pixels high: it begins above the anchor's row, has it in its
+-- middle, or ends below it
 abbrev pub bottom_of : LabelPosition → ℤ → ℕ → ℤ
 bottom_of UpperLeft row height = plus row (pos 1)
 bottom_of UpperCenter row height = plus row (pos 1)

@@ -5,13 +5,14 @@ use Rattle.wf_geometry.specs.View.{ViewValue}
 use Rattle.wf_label.specs.PixelBox.{box_of, is_whole_in, meets}
 use Rattle.wf_label.specs.Placed.{PlacedValue}
 
--- the label may be placed after those of `before`: its box lies whole in the view, and either it is forced or its widened box has
--- no pixel in common with a box of theirs
+-- the label may be placed after those of `before`: its box lies whole in the view, and either it is
+-- forced or its widened box has no pixel in common with a box of theirs
 unfoldable pub stands : ViewValue → List PlacedValue → PlacedValue → Bool
 stands view before label = is_whole_in view (box_of label) && (label.force || not (list_any (meets label) before))
 
--- A set of labels, as a mark for each label in label order: true for its members. It is the placed set where each label is a
--- member iff it may be placed after the members among the labels before it.
+-- A set of labels, as a mark for each label in label order: true for its members. It is the placed
+-- set where each label is a member iff it may be placed after the members among the labels before
+-- it.
 pub record IsPlacedSet (view : ViewValue) (labels : List PlacedValue) (members : List Bool) : Type 0 where
   pub size : length members ≡ length labels
   pub each : (i : ℕ) (d : PlacedValue) → i < length labels →

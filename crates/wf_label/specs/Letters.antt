@@ -11,9 +11,10 @@ use Rattle.wf_label.specs.Limit.{cell_width, glyph_height, glyph_width}
 use Rattle.wf_label.specs.Placed.{PlacedValue}
 use Rattle.wf_label.specs.Taken.{is_taken}
 
--- The pixel lies in the square of a set bit: of the character at this index of the text (`index`), in this one of its glyph's
--- rows, counted from the top (`line`), at this one of the row's bits, counted from the left (`across`). The glyph leaves the last
--- column and the lowest row of the character's cell free.
+-- The pixel lies in the square of a set bit: of the character at this index of the text (`index`),
+-- in this one of its glyph's rows, counted from the top (`line`), at this one of the row's bits,
+-- counted from the left (`across`). The glyph leaves the last column and the lowest row of the
+-- character's cell free.
 pub record IsInSetBit (label : PlacedValue) (column row : ℕ) : Type 0 where
   pub index : ℕ
   pub character : ℕ

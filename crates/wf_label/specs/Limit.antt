@@ -1,4 +1,5 @@
--- The sizes of letters, each once, with its unit. The constants of the code are proved equal to them.
+-- The sizes of letters, each once, with its unit. The constants of the code are proved equal to
+-- them.
 use Rattle.std.specs.Prelude.{ℕ}
 
 -- the width and height of a character's cell, in bits

@@ -10,7 +10,8 @@ use Rattle.wf_label.specs.Label.{candidates}
 use Rattle.wf_label.specs.Placed.{PlacedValue}
 use Rattle.wf_label.specs.Walk.{CandidateValue, candidate_of}
 
--- A label with its three sort keys: its priority, the index of its layer in the list, and the index of its feature in that layer.
+-- A label with its three sort keys: its priority, the index of its layer in the list, and the index
+-- of its feature in that layer.
 pub record RankedLabel : Type 0 where
   pub priority : ℕ
   pub layer : ℕ
@@ -32,14 +33,16 @@ abbrev pub ranked_labels : ViewValue → ℕ → Option (List ℕ × LayerDefini
 ranked_labels view number None = []
 ranked_labels view number (Some entry) = filter_map (ranked_label view number entry.1) (enumerate_from 0 entry.1.features)
 
--- all labels of the listed layers, layer by layer, from the first to the last; a layer is listed by its index in the map
+-- all labels of the listed layers, layer by layer, from the first to the last; a layer is listed by
+-- its index in the map
 unfoldable pub all_labels : Definition → List ℕ → ViewValue → List RankedLabel
 all_labels definition layers view =
     flat_map (λ listed. ranked_labels view listed.0 (slice_get definition.layers listed.1)) (enumerate_from 0 layers)
 
 -- ---- sorted
 
--- the higher priority first; within a priority, the layer that is listed later; within a layer, the earlier feature
+-- the higher priority first; within a priority, the layer that is listed later; within a layer, the
+-- earlier feature
 abbrev pub label_order : RankedLabel → RankedLabel → Ordering
 label_order a b = ordering_then (nat_cmp b.priority a.priority) (ordering_then (nat_cmp b.layer a.layer) (nat_cmp a.feature b.feature))
 

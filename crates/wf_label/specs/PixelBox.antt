@@ -33,7 +33,8 @@ widen by b = record {
   top = plus b.top (pos by);
 }
 
--- on one axis, what goes from `a` to before `b` and what goes from `c` to before `d` have a pixel in common
+-- on one axis, what goes from `a` to before `b` and what goes from `c` to before `d` have a pixel
+-- in common
 unfoldable pub spans_overlap : ℤ → ℤ → ℤ → ℤ → Bool
 spans_overlap a b c d = is_less a d && is_less c b
 

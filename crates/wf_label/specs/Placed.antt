@@ -5,9 +5,9 @@ use Rattle.wf_def.specs.declared.choice.LabelSize.{LabelSize}
 use Rattle.wf_def.specs.declared.choice.LabelSize.TheVariants.{Tiny, Small, Medium, Large, Giant}
 use Rattle.wf_label.specs.declared.placed.Placed.{Placed}
 
--- The first column and row of its box, columns from the left of the view and rows from its bottom; how many pixels wide and high
--- a bit of its letters is; how many pixels around it are to be free; whether it is placed even where it overlaps another; its
--- colour, and its text in UTF-8.
+-- The first column and row of its box, columns from the left of the view and rows from its bottom;
+-- how many pixels wide and high a bit of its letters is; how many pixels around it are to be free;
+-- whether it is placed even where it overlaps another; its colour, and its text in UTF-8.
 pub record PlacedValue : Type 0 where
   pub left : ℤ
   pub bottom : ℤ

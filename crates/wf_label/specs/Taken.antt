@@ -31,7 +31,8 @@ is_marked marks index = bit_at (slice_index marks (index / 64)) (index % 64) == 
 abbrev pub words_for : ℕ → ℕ
 words_for area = area / 64 + 1
 
--- the pixels that the labels take are marked, and no others; a bit a pixel, row by row from the bottom
+-- the pixels that the labels take are marked, and no others; a bit a pixel, row by row from the
+-- bottom
 pub record IsTaken (view : ViewValue) (placed : List PlacedValue) (marks : List ℕ) : Type 0 where
   pub size : length marks ≡ words_for (view.width * view.height)
   pub shown : All (LiesInView view) placed

@@ -13,8 +13,9 @@ use crate::placed::{PixelBox, Placed};
 use crate::scale::scale_of;
 use wf_paint::Pixmap;
 
-/// Draws the letters of the labels over the picture of their view: each pixel that a letter inks gets the colour of the first
-/// label that inks it, and no other pixel changes. It allocates nothing.
+/// Draws the letters of the labels over the picture of their view: each pixel that a letter inks
+/// gets the colour of the first label that inks it, and no other pixel changes. It allocates
+/// nothing.
 pub fn draw_labels(pixmap: &mut Pixmap, labels: &[Placed])
     ensures { IsInked (placed_values labels.now) pixmap.old pixmap.new }
 {

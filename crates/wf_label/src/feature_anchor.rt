@@ -7,7 +7,8 @@ ghost use Rattle.wf_label.specs.Anchor.{IsAnchor, IsBounds, anchor_of, part_anch
 use wf_def::{Part, Point};
 use wf_geometry::{PIXEL_SIDE, Position, View};
 
-/// The box around some positions, in sixteenths of a pixel: the least and the greatest on each axis.
+/// The box around some positions, in sixteenths of a pixel: the least and the greatest on each
+/// axis.
 #[derive(Clone, Copy, PartialEq, Eq)]
 pub struct Bounds {
     pub left: i64,
@@ -16,15 +17,16 @@ pub struct Bounds {
     pub top: i64,
 }
 
-/// The pixel beside which a feature's label is placed: its column from the left of the view and its row from the bottom. It may
-/// lie outside the view.
+/// The pixel beside which a feature's label is placed: its column from the left of the view and its
+/// row from the bottom. It may lie outside the view.
 #[derive(Clone, Copy, PartialEq, Eq)]
 pub struct Anchor {
     pub column: i64,
     pub row: i64,
 }
 
-/// The pixel in the middle of the box around the points of the first part, as the view shows them; none where there is no point.
+/// The pixel in the middle of the box around the points of the first part, as the view shows them;
+/// none where there is no point.
 pub(crate) fn anchor_of(view: &View, parts: &[Part]) -> Option<Anchor>
     ensures value { result ≡ anchor_of view.now parts.now }
     ensures within { IfSome result IsAnchor }
@@ -35,7 +37,8 @@ pub(crate) fn anchor_of(view: &View, parts: &[Part]) -> Option<Anchor>
     }
 }
 
-/// The pixel in the middle of the box around the points of a part, as the view shows them; none where there is no point.
+/// The pixel in the middle of the box around the points of a part, as the view shows them; none
+/// where there is no point.
 fn part_anchor(view: &View, points: &[Point]) -> Option<Anchor>
     ensures value { result ≡ part_anchor view.now points.now }
     ensures within { IfSome result IsAnchor }

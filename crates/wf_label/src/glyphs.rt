@@ -6,7 +6,8 @@ ghost use Rattle.wf_label.specs.Glyph.{glyph, glyph_entry, rows};
 
 use crate::limits::GLYPH_HEIGHT;
 
-/// The characters that have a glyph, each with five octal digits: the rows from the top, of each row the highest bit on the left.
+/// The characters that have a glyph, each with five octal digits: the rows from the top, of each
+/// row the highest bit on the left.
 const GLYPHS: [(char, u16); 39] = [
     ('A', 0o25755),
     ('B', 0o65656),
@@ -52,8 +53,8 @@ const GLYPHS: [(char, u16); 39] = [
 /// How a character without a glyph looks: each bit is set.
 const FILLED: u16 = 0o77777;
 
-/// The five rows of a character's glyph from the top, each three bits, the highest on the left. `a` to `z` look as `A` to `Z`; a
-/// character without a glyph is filled. It allocates nothing.
+/// The five rows of a character's glyph from the top, each three bits, the highest on the left. `a`
+/// to `z` look as `A` to `Z`; a character without a glyph is filled. It allocates nothing.
 #[tactic(auto, unfolding(crate::specs::Glyph::glyph))]
 pub fn glyph(c: char) -> [u8; GLYPH_HEIGHT]
     ensures { result ≡ glyph c }

@@ -16,7 +16,8 @@ pub(crate) fn row_up(rows: [u8; GLYPH_HEIGHT], up: u8) -> u8
     }
 }
 
-/// Whether the row has the bit of this column of its cell set: the first columns of a cell hold the bits, the highest first.
+/// Whether the row has the bit of this column of its cell set: the first columns of a cell hold the
+/// bits, the highest first.
 #[tactic(auto, unfolding(crate::specs::Ink::has_bit))]
 pub(crate) fn has_bit(row: u8, column: u8) -> bool
     ensures { result ≡ has_bit row column }

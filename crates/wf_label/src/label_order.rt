@@ -23,9 +23,10 @@ pub(crate) struct Candidate<'a> {
     pub(crate) label: Placed<'a>,
 }
 
-/// The labels of the map's layers at these indices, placed or not, in label order (MapServer mapfile reference, LABEL PRIORITY):
-/// the higher priority first; within a priority the layer that is listed later first; within a layer the features in their
-/// order. Positions are in pixels of the view. Allocation failure is the only error.
+/// The labels of the map's layers at these indices, placed or not, in label order (MapServer
+/// mapfile reference, LABEL PRIORITY): the higher priority first; within a priority the layer that
+/// is listed later first; within a layer the features in their order. Positions are in pixels of
+/// the view. Allocation failure is the only error.
 #[tactic(auto, unfolding(crate::specs::Label::candidates))]
 pub fn candidates<'a>(
     alloc: Global,
@@ -63,7 +64,8 @@ fn push_priority<'a>(
     Ok(())
 }
 
-/// The labels in the order of one walk: the layer that is listed later first; within a layer the features in their order.
+/// The labels in the order of one walk: the layer that is listed later first; within a layer the
+/// features in their order.
 #[tactic(auto, unfolding(crate::specs::Walk::walk))]
 fn walk<'a>(
     alloc: Global,

@@ -15,9 +15,10 @@ use std::alloc::{AllocError, Global};
 use wf_def::MapDef;
 use wf_geometry::View;
 
-/// The placed labels of the map's layers at these indices, in label order (MapServer mapfile reference, LABEL FORCE, BUFFER):
-/// those whose box lies whole in the view and that are forced, or whose box widened by the buffer has no pixel in common with the
-/// box of a label placed before. Allocation failure is the only error.
+/// The placed labels of the map's layers at these indices, in label order (MapServer mapfile
+/// reference, LABEL FORCE, BUFFER): those whose box lies whole in the view and that are forced, or
+/// whose box widened by the buffer has no pixel in common with the box of a label placed before.
+/// Allocation failure is the only error.
 pub fn place<'a>(
     alloc: Global,
     map: &'a MapDef,

@@ -9,7 +9,8 @@ use crate::placed::PixelBox;
 use wf_geometry::View;
 use wf_paint::ones;
 
-/// The columns and rows of a view that a box covers: `left` to before `right`, `bottom` to before `top`.
+/// The columns and rows of a view that a box covers: `left` to before `right`, `bottom` to before
+/// `top`.
 #[derive(Clone, Copy)]
 struct CoveredBox {
     left: usize,
@@ -41,8 +42,8 @@ fn block_of(view: &View, pixel_box: &PixelBox) -> CoveredBox
     }
 }
 
-/// Marks the pixels of the view that lie in the box. `marks` has a bit a pixel, row by row from the bottom, 64 in each word from the
-/// lowest on; a marked pixel's is set.
+/// Marks the pixels of the view that lie in the box. `marks` has a bit a pixel, row by row from the
+/// bottom, 64 in each word from the lowest on; a marked pixel's is set.
 pub(crate) fn mark(marks: &mut [u64], view: &View, pixel_box: &PixelBox)
     requires { length marks.old ≡ words_for (view.now.width * view.now.height) }
     ensures { (column row : ℕ) → column < view.now.width →

@@ -10,8 +10,8 @@ use crate::limits::{CELL_HEIGHT, CELL_WIDTH};
 use crate::scale::scale_of;
 use wf_def::{Feature, LabelSize, Layer};
 
-/// The text of a feature's label (MapServer mapfile reference, LABELITEM, TEXT): the feature's value under the layer's LABELITEM
-/// where there is one, else the feature's own text.
+/// The text of a feature's label (MapServer mapfile reference, LABELITEM, TEXT): the feature's
+/// value under the layer's LABELITEM where there is one, else the feature's own text.
 #[tactic(auto, unfolding(crate::specs::Label::text_of))]
 pub(crate) fn text_of<'a>(layer: &Layer, feature: &'a Feature) -> &'a str
     ensures value { result.now ≡ text_of layer.now feature.now }

@@ -9,7 +9,8 @@ use Rattle.wf_model.specs.Table.{store, on_chosen}
 use Rattle.wf_learner.specs.declared.history.Learned.{Learned}
 use Rattle.wf_learner.specs.declared.history.Learned.TheVariants.{Published, Known, Missing}
 
--- Its definitions, sequence 1 first, and whether there is room for one more. Only contracts about memory use the second.
+-- Its definitions, sequence 1 first, and whether there is room for one more. Only contracts about
+-- memory use the second.
 pub record History : Type 0 where
   pub definitions : List Definition
   pub has_room : Bool
@@ -48,8 +49,8 @@ asked Published = []
 asked Known = []
 asked (Missing s) = model.Ask s ∷ []
 
--- The table's transition of a Chosen, at a node with the old history, whatever its other state and the test of equal definitions:
--- it leaves the new history, and asks for the slot that is missing.
+-- The table's transition of a Chosen, at a node with the old history, whatever its other state and
+-- the test of equal definitions: it leaves the new history, and asks for the slot that is missing.
 pub record IsChosenTransition (old : List Definition) (s : ℕ) (d : Definition) (new : List Definition) (learned : Learned) : Type 0 where
   pub history : (same : Definition → Definition → Bool) (stored : DurableState Definition) (volatile : VolatileState Definition) → stored.history ≡ old →
       (store stored (on_chosen same stored volatile s d).entry).history ≡ new

@@ -21,8 +21,8 @@ pub enum Learned {
 /// The most definitions that answer one Ask.
 pub const MOST_REPORTS: u16 = 8;
 
-/// The map definitions that a node published, one for each update sequence from 1 on. Sequence 0 is the empty map. Nothing is
-/// ever removed from it or changed in it.
+/// The map definitions that a node published, one for each update sequence from 1 on. Sequence 0 is
+/// the empty map. Nothing is ever removed from it or changed in it.
 pub struct History {
     // The first is that of slot 1.
     definitions: Vec<Canon>,
@@ -73,7 +73,8 @@ impl History {
         })
     }
 
-    /// The last published sequence, which is the number of published definitions; 0 if there is none.
+    /// The last published sequence, which is the number of published definitions; 0 if there is
+    /// none.
     pub fn published(&self) -> Seq
         ensures value { result ≡ length self.now.definitions }
         ensures in_range { IsSequence result }
@@ -119,8 +120,8 @@ impl History {
         self.definitions.get(number as usize - 1)
     }
 
-    /// Chosen with the definition that is published at the slot, if there is one: the answer to a Prepare or an Accept of a
-    /// published slot. Allocation can fail only for a published slot.
+    /// Chosen with the definition that is published at the slot, if there is one: the answer to a
+    /// Prepare or an Accept of a published slot. Allocation can fail only for a published slot.
     #[tactic(auto, using(crate::proofs::Reported::reported_published, crate::proofs::Reported::reported_unpublished, crate::proofs::Reported::is_published))]
     pub fn chosen_message(&self, slot: Slot) -> Result<Option<Message>, AllocError>
         ensures transition { IfOk result (λ message.
@@ -133,8 +134,8 @@ impl History {
         }
     }
 
-    /// Answers `Ask(slot)`: Chosen for each published slot from this one on, at most eight. Allocation can fail only if there is
-    /// something to send.
+    /// Answers `Ask(slot)`: Chosen for each published slot from this one on, at most eight.
+    /// Allocation can fail only if there is something to send.
     pub fn answer_ask(&self, alloc: Global, slot: Slot) -> Result<Vec<Message>, AllocError>
         ensures transition { IfOk result (λ messages.
             map view_message messages.items ≡ reports_from self.now.definitions slot most_reports) }
@@ -154,7 +155,8 @@ impl History {
             map view_message messages.old.items ++ reports self.now.definitions number) }
         ensures memory { OnErr result (number ≤ length self.now.definitions) }
     {
-        // The list is no longer than there are slots: a number that isn't a slot's has no definition.
+        // The list is no longer than there are slots: a number that isn't a slot's has no
+        // definition.
         let _ = &self.definitions;
         let Some(slot) = Slot::new(number) else {
             return Ok(());
@@ -165,8 +167,9 @@ impl History {
         Ok(())
     }
 
-    /// Learns that the definition is chosen at the slot. It is published if the slot is the next; otherwise nothing changes, and
-    /// the result says why. Allocation can fail only for the next slot, and only if there is no room; an error changes nothing.
+    /// Learns that the definition is chosen at the slot. It is published if the slot is the next;
+    /// otherwise nothing changes, and the result says why. Allocation can fail only for the next
+    /// slot, and only if there is no room; an error changes nothing.
     pub fn learn(&mut self, slot: Slot, canon: Canon) -> Result<Learned, AllocError>
         ensures learned { IfOk result (λ learned. learned ≡ learned_at self.old.definitions slot) }
         ensures grown { OnOk result

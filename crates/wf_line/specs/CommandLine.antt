@@ -127,7 +127,8 @@ required_serve_shape = record (new_shape (codes "serve")) { rules = nodes_rule �
 abbrev pub serve_shape : Shape
 serve_shape = record (new_shape (codes "serve")) { rules = nodes_rule ∷ port_rule ∷ requests_rule ∷ cache_rule ∷ state_rule ∷ log_rule ∷ [] }
 
--- The program's command, as data for the parser: it takes one of eight commands, or asks for the version or help.
+-- The program's command, as data for the parser: it takes one of eight commands, or asks for the
+-- version or help.
 abbrev pub program : App
 program = record {
   top = record (new_shape (codes "wfarm")) {
@@ -288,16 +289,18 @@ Asks (Some named) lines.Run = named.0 ≡ codes "run"
 Asks (Some named) lines.Wire = named.0 ≡ codes "wire"
 Asks (Some named) (lines.Serve service) = (named.0 ≡ codes "serve") × IsServeOf named.1 (lines.Serve service)
 
--- why arguments are rejected: if the parser accepts them and they ask for a line, an allocation failed
+-- why arguments are rejected: if the parser accepts them and they ask for a line, an allocation
+-- failed
 abbrev pub IsWhyLineRejected : List Text → ErrorKind → Type 0
 IsWhyLineRejected words kind = takes program words ≡ true → (line : Line) → Asks (subcommand_of program words) line → kind ≡ OutOfMemory
 
--- The kinds of error by which the parser rejects arguments, of which one comes: help and the version are among them. None if it
--- accepts them.
+-- The kinds of error by which the parser rejects arguments, of which one comes: help and the
+-- version are among them. None if it accepts them.
 unfoldable pub rejections : List Text → List ErrorKind
 rejections words = fault_of program words
 
--- the kind of a rejection: an allocation failed; the parser's; or a value out of range, if the parser accepts the arguments
+-- the kind of a rejection: an allocation failed; the parser's; or a value out of range, if the
+-- parser accepts the arguments
 abbrev pub IsLineRejection : List Text → ErrorKind → Type 0
 IsLineRejection words kind = (kind ≡ OutOfMemory) ⊎ (IsAmong kind (rejections words) ⊎ ((rejections words ≡ []) × (kind ≡ ValueValidation)))
 
@@ -306,18 +309,21 @@ abbrev pub is_plain : Text → Bool
 is_plain [] = true
 is_plain (first ∷ rest) = not (first == 45)
 
--- The parser accepts `caps`, an argument that spells an update sequence and any argument as the query, neither with a leading
--- hyphen. They ask for exactly the line of that number and that query.
+-- The parser accepts `caps`, an argument that spells an update sequence and any argument as the
+-- query, neither with a leading hyphen. They ask for exactly the line of that number and that
+-- query.
 abbrev pub PlainCapsIsAsked : Type 0
 PlainCapsIsAsked = (word query : Text) (line : Line) → is_plain word ≡ true → is_plain query ≡ true → IsCapsLine word query line
     → (takes program (codes "caps" ∷ word ∷ query ∷ []) ≡ true) × Asks (subcommand_of program (codes "caps" ∷ word ∷ query ∷ [])) line
 
--- The parser accepts `draw` and any argument without a leading hyphen as the query. They ask for exactly the line of that query.
+-- The parser accepts `draw` and any argument without a leading hyphen as the query. They ask for
+-- exactly the line of that query.
 abbrev pub PlainDrawIsAsked : Type 0
 PlainDrawIsAsked = (query : Text) (line : Line) → is_plain query ≡ true → IsDrawLine query line
     → (takes program (codes "draw" ∷ query ∷ []) ≡ true) × Asks (subcommand_of program (codes "draw" ∷ query ∷ [])) line
 
--- The parser accepts `tape` and any argument without a leading hyphen as the file. They ask for exactly the line of that file, without a map.
+-- The parser accepts `tape` and any argument without a leading hyphen as the file. They ask for
+-- exactly the line of that file, without a map.
 abbrev pub PlainTapeIsAsked : Type 0
 PlainTapeIsAsked = (file : Text) (line : Line) → is_plain file ≡ true → IsTapeLine file None line
     → (takes program (codes "tape" ∷ file ∷ []) ≡ true) × Asks (subcommand_of program (codes "tape" ∷ file ∷ [])) line

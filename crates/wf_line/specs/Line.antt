@@ -28,7 +28,8 @@ IsOfInput lines.Run = ⊤
 IsOfInput lines.Wire = ⊤
 IsOfInput (lines.Serve service) = ⊥
 
--- The argument spells an update sequence: decimal digits, with an optional plus, of a number in range.
+-- The argument spells an update sequence: decimal digits, with an optional plus, of a number in
+-- range.
 pub record SpellsSequence (word : List ℕ) (seq : ℕ) : Type 0 where
   pub digits : IsNumeral 10 (without_leading_plus word)
   pub number : seq ≡ digits_value 10 (without_leading_plus word)

@@ -47,7 +47,8 @@ init_shape = command_shape (codes "init")
     (text_rule (codes "state") true ∷ text_rule (codes "farm") true ∷ id_rule ∷ nodes_rule ∷ text_rule (codes "from") false
     ∷ flag_rule (codes "replace") ∷ [])
 
--- `node`, with the arguments that it wants, with the addresses that it may have too, with its numbers, and whole
+-- `node`, with the arguments that it wants, with the addresses that it may have too, with its
+-- numbers, and whole
 abbrev pub node_shape_start : Shape
 node_shape_start = command_shape (codes "node") (text_rule (codes "state") true ∷ text_rule (codes "peers") true ∷ text_rule (codes "http") true ∷ [])
 

@@ -78,14 +78,17 @@ AsksProcess (Some named) (processes.Node (commands.Node line)) = (named.0 ≡ co
 AsksProcess (Some named) (processes.Node (commands.Clear line)) = (named.0 ≡ codes "clear") × IsClearLineOf named.1 line
 AsksProcess (Some named) (processes.Replica line) = (named.0 ≡ codes "replica") × IsReplicaLineOf named.1 line
 
--- why arguments are rejected: if the parser accepts them and they ask for a command, an allocation failed
+-- why arguments are rejected: if the parser accepts them and they ask for a command, an allocation
+-- failed
 abbrev pub IsWhyProcessRejected : List Text → ErrorKind → Type 0
 IsWhyProcessRejected words kind = takes process_program words ≡ true → (command : ProcessCommand) → AsksProcess (subcommand_of process_program words) command → kind ≡ OutOfMemory
 
--- The kinds of error by which the parser rejects arguments, of which one comes: help is among them. None if it accepts them.
+-- The kinds of error by which the parser rejects arguments, of which one comes: help is among them.
+-- None if it accepts them.
 unfoldable pub process_rejections : List Text → List ErrorKind
 process_rejections words = fault_of process_program words
 
--- the kind of a rejection: an allocation failed; the parser's; or a value out of range, if the parser accepts the arguments
+-- the kind of a rejection: an allocation failed; the parser's; or a value out of range, if the
+-- parser accepts the arguments
 abbrev pub IsProcessRejection : List Text → ErrorKind → Type 0
 IsProcessRejection words kind = (kind ≡ OutOfMemory) ⊎ (IsAmong kind (process_rejections words) ⊎ ((process_rejections words ≡ []) × (kind ≡ ValueValidation)))

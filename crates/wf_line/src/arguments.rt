@@ -440,7 +440,8 @@ fn rejection(alloc: Global) -> Result<Error, AllocError>
         ErrorKind::ValueValidation,
         "a command is missing, or a value is out of range",
     );
-    // Parsing no arguments drops the command. A drop here would need a proof for all of its parts again.
+    // Parsing no arguments drops the command. A drop here would need a proof for all of its parts
+    // again.
     let _ = command.try_get_matches_from(NO_WORDS.as_slice());
     rejection
 }
@@ -619,10 +620,11 @@ fn line_of<'a>(matches: &ArgMatches<'a>) -> Option<Line<'a>>
     }
 }
 
-/// Parses the arguments of a command line, without the program's name. An error's text is for the user.
+/// Parses the arguments of a command line, without the program's name. An error's text is for the
+/// user.
 ///
-/// The line that is asked for is defined by `clap`'s rules for the program's command. [`plain_words_are_taken`], about arguments
-/// without a leading hyphen, follows from them.
+/// The line that is asked for is defined by `clap`'s rules for the program's command.
+/// [`plain_words_are_taken`], about arguments without a leading hyphen, follows from them.
 #[tactic(auto, using(crate::proofs::Named::asked_in_range))]
 pub fn line<'a, S: AsStr>(alloc: Global, words: &'a [S]) -> Result<Line<'a>, Error>
     ensures range { IfOk result IsInRange }
@@ -637,16 +639,17 @@ pub fn line<'a, S: AsStr>(alloc: Global, words: &'a [S]) -> Result<Line<'a>, Err
     let matches = command(alloc)?.try_get_matches_from(words)?;
     let asked = line_of(&matches);
     drop(matches);
-    // The parser has checked that there is a line, but clap's contract doesn't cover a subcommand's values.
+    // The parser has checked that there is a line, but clap's contract doesn't cover a subcommand's
+    // values.
     match asked {
         Some(line) => Ok(line),
         None => Err(rejection(alloc)?),
     }
 }
 
-/// `caps` with an update sequence and a query, `draw` with a query, `tape` with a file, and `canon`, `check`, `run` and `wire` alone ask
-/// for these lines, if no argument begins with a hyphen; `check --format json` asks for that format. A theorem: the call does
-/// nothing.
+/// `caps` with an update sequence and a query, `draw` with a query, `tape` with a file, and
+/// `canon`, `check`, `run` and `wire` alone ask for these lines, if no argument begins with a
+/// hyphen; `check --format json` asks for that format. A theorem: the call does nothing.
 pub fn plain_words_are_taken()
     ensures caps { PlainCapsIsAsked }
     ensures draw { PlainDrawIsAsked }

@@ -1,14 +1,17 @@
 //! The command line of the program `wfarm`.
 //!
-//! [`line`] parses the arguments to a [`Line`], the command with its numbers and texts. It promises the line that
-//! the arguments ask for by the rules of `clap` (`Asks` of `specs/CommandLine.antt`), with each number in its range
-//! (`specs/Line.antt`). Arguments that ask for a line are rejected only if an allocation fails, and others by the parser's kind of
-//! error. Theorem: [`plain_words_are_taken`], plain arguments are taken as they are.
+//! [`line`] parses the arguments to a [`Line`], the command with its numbers and texts. It promises
+//! the line that the arguments ask for by the rules of `clap` (`Asks` of `specs/CommandLine.antt`),
+//! with each number in its range (`specs/Line.antt`). Arguments that ask for a line are rejected
+//! only if an allocation fails, and others by the parser's kind of error. Theorem:
+//! [`plain_words_are_taken`], plain arguments are taken as they are.
 //!
-//! [`process_command`] does so for the command lines about processes of a farm, `init`, `node`, `clear` and `replica`
-//! (`specs/ProcessCommandLine.antt`); [`names_process_command`] says which these are.
+//! [`process_command`] does so for the command lines about processes of a farm, `init`, `node`,
+//! `clear` and `replica` (`specs/ProcessCommandLine.antt`); [`names_process_command`] says which
+//! these are.
 //!
-//! Not here: what a command does (wf_commands), and the text that is printed for a rejected command line.
+//! Not here: what a command does (wf_commands), and the text that is printed for a rejected command
+//! line.
 #![tactic(auto)]
 
 mod arguments;

@@ -13,7 +13,8 @@ pub struct InitLine<'a> {
     pub nodes: u8,
     /// The file of the tape to begin with; an empty tape if there is none.
     pub from: Option<&'a str>,
-    /// Whether the folder joins in the place of a lost one: it doesn't vote before a replacement was agreed to.
+    /// Whether the folder joins in the place of a lost one: it doesn't vote before a replacement
+    /// was agreed to.
     pub replaces: bool,
 }
 

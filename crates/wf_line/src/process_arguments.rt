@@ -60,7 +60,8 @@ fn rejection(alloc: Global) -> Result<Error, AllocError>
         ErrorKind::ValueValidation,
         "a command is missing, or a value is out of range",
     );
-    // Parsing no arguments drops the command. A drop here would need a proof for all of its parts again.
+    // Parsing no arguments drops the command. A drop here would need a proof for all of its parts
+    // again.
     let _ = command.try_get_matches_from(NO_WORDS.as_slice());
     rejection
 }
@@ -120,8 +121,9 @@ fn command_of<'a>(matches: &ArgMatches<'a>) -> Option<ProcessCommand<'a>>
     }
 }
 
-/// Whether these are arguments, without the program's name, of `init`, `node`, `clear` or `replica`, or ask for the help of one: then
-/// [`process_command`] parses them, else [`crate::arguments::line`].
+/// Whether these are arguments, without the program's name, of `init`, `node`, `clear` or
+/// `replica`, or ask for the help of one: then [`process_command`] parses them, else
+/// [`crate::arguments::line`].
 pub fn names_process_command<S: AsStr>(words: &[S]) -> bool
     ensures { result ≡ names_process_command (map S.text words.now) }
 {
@@ -162,7 +164,8 @@ fn is_process_command(word: &str) -> bool
     }
 }
 
-/// Parses the arguments of `init`, `node`, `clear` or `replica`, without the program's name. An error's text is for the user.
+/// Parses the arguments of `init`, `node`, `clear` or `replica`, without the program's name. An
+/// error's text is for the user.
 #[tactic(auto, using(crate::proofs::ProcessNamed::command_in_range))]
 pub fn process_command<'a, S: AsStr>(
     alloc: Global,
@@ -181,7 +184,8 @@ pub fn process_command<'a, S: AsStr>(
     let matches = program(alloc)?.try_get_matches_from(words)?;
     let asked = command_of(&matches);
     drop(matches);
-    // The parser has checked that there is a command, but clap's contract doesn't cover a subcommand's values.
+    // The parser has checked that there is a command, but clap's contract doesn't cover a
+    // subcommand's values.
     match asked {
         Some(command) => Ok(command),
         None => Err(rejection(alloc)?),

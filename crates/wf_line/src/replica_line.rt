@@ -7,7 +7,8 @@ pub struct ReplicaLine<'a> {
     pub state: &'a str,
     /// The farm's name.
     pub farm: &'a str,
-    /// The addresses of the readers' ports that it asks, of nodes or of other replicas, with commas between them.
+    /// The addresses of the readers' ports that it asks, of nodes or of other replicas, with commas
+    /// between them.
     pub peers: &'a str,
     /// Where clients come.
     pub http: &'a str,

@@ -12,7 +12,8 @@ use Rattle.wf_link.specs.declared.receiver.Arrival.{Arrival}
 abbrev pub came_out : Arrival → List (Message Definition)
 came_out arrival = map view arrival.messages.items
 
--- These bytes have arrived: they are the encodings of the messages, followed by what the inbox keeps, which begins with none.
+-- These bytes have arrived: they are the encodings of the messages, followed by what the inbox
+-- keeps, which begins with none.
 pub record HasReceived (bytes : List ℕ) (arrival : Arrival) : Type 0 where
   pub rest : List ℕ
   pub keeps : arrival.inbox ≡ Open rest

@@ -49,7 +49,8 @@ module _ {K S : Type 0} (sinks : Sink K) (sources : Source S) where
   abbrev pub IsCalm : K → K → S → S → Type 0
   IsCalm sink sink_after source source_after = (sinks.failures sink_after ≡ sinks.failures sink) × (sources.failures source_after ≡ sources.failures source)
 
-  -- A write failed, a read failed, the reader ended before as many bytes came, or what came isn't like that.
+  -- A write failed, a read failed, the reader ended before as many bytes came, or what came isn't
+  -- like that.
   abbrev pub IsLost : ℕ → (List ℕ → Type 0) → K → K → S → S → Type 0
   IsLost size is sink sink_after source source_after = Rises (sinks.failures sink) (sinks.failures sink_after)
       ⊎ (Rises (sources.failures source) (sources.failures source_after)

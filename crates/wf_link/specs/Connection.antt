@@ -23,7 +23,8 @@ pub record HasCrossed {K S : Type 0} (sinks : Sink K) (sources : Source S) (sent
   pub source_after : S
   pub came : ComesOut sent (sources.left source) (sources.left source_after) arrived
 
--- Such bytes didn't cross: a call of one of the ends failed, the reader ended before as many came, or others came.
+-- Such bytes didn't cross: a call of one of the ends failed, the reader ended before as many came,
+-- or others came.
 pub record WasLost {K S : Type 0} (sinks : Sink K) (sources : Source S) (size : ℕ) (is : List ℕ → Type 0) : Type 0 where
   pub sink : K
   pub sink_after : K

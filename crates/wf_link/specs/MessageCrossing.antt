@@ -1,4 +1,5 @@
--- What crosses a connection: the bytes that are written to one end, and the messages that come out at the other.
+-- What crosses a connection: the bytes that are written to one end, and the messages that come out
+-- at the other.
 use Rattle.std.specs.Prelude.{◌≡◌, ◌-◌, ◌++◌, ℕ, List, [], ◌∷◌, length, min, take, Option, Some}
 use Rattle.std.specs.Io.KnownBytes.{Appends, Consumes}
 use Rattle.wf_codec.specs.Encoding.{spelling}
@@ -10,15 +11,16 @@ use Rattle.wf_mail.specs.Stream.{Reads}
 abbrev pub AppendsPart : Option (List ℕ) → Option (List ℕ) → List ℕ → Type 0
 AppendsPart old new bytes = (count : ℕ) × Appends old new (take count bytes)
 
--- Bytes of this length were taken from the reader's, and they are the encodings of these messages, followed by a rest that begins with
--- none and has no error.
+-- Bytes of this length were taken from the reader's, and they are the encodings of these messages,
+-- followed by a rest that begins with none and has no error.
 pub record ComeOut (size : ℕ) (left left_after : Option (List ℕ)) (messages : List (Message Definition)) (rest : List ℕ) : Type 0 where
   pub bytes : List ℕ
   pub as_long : length bytes ≡ size
   pub taken : Consumes left left_after bytes
   pub reads : Reads bytes messages rest
 
--- As many bytes as the message's encoding has came out, and they are the encoding of the message that arrived, and nothing else.
+-- As many bytes as the message's encoding has came out, and they are the encoding of the message
+-- that arrived, and nothing else.
 abbrev pub ComesOut : Message Definition → Option (List ℕ) → Option (List ℕ) → Message Definition → Type 0
 ComesOut sent left left_after arrived = ComeOut (length (spelling sent)) left left_after (arrived ∷ []) []
 

@@ -22,11 +22,13 @@ use wf_stream::{Sink, Source, Stream};
 /// The time after which a read or a write fails, in seconds.
 const WAIT_SECONDS: u64 = 10;
 
-/// The most connections of others that are closed while the own one is waited for: as many as may wait at a listener.
+/// The most connections of others that are closed while the own one is waited for: as many as may
+/// wait at a listener.
 const MOST_OTHERS: u32 = 128;
 
-/// Lets each message cross a TCP connection of this machine to itself. It is opened for the first message, and after one that was
-/// cut off or lost; all others cross it one after the other. Model: whether it is open.
+/// Lets each message cross a TCP connection of this machine to itself. It is opened for the first
+/// message, and after one that was cut off or lost; all others cross it one after the other. Model:
+/// whether it is open.
 #[derive(Drop)]
 pub struct Connection<'r, R: Net> {
     rt: &'r R,
@@ -59,7 +61,8 @@ impl<'r, R: Net> Connection<'r, R> {
         Connection { rt, ends: None }
     }
 
-    /// The ends of the open connection, or of a new one; the connection is closed then. Err: it was closed, and no new one opens.
+    /// The ends of the open connection, or of a new one; the connection is closed then. Err: it was
+    /// closed, and no new one opens.
     fn ends(&mut self) -> Result<EndsOf<R>, CarrierFault>
         ensures closed { self.new ≡ false }
         ensures unopened { OnErr result (self.old ≡ false) }
@@ -75,8 +78,9 @@ impl<'r, R: Net> Connection<'r, R> {
 }
 
 impl<'r, R: Net> Carrier for Connection<'r, R> {
-    /// Brings the message over the connection. Err: `Memory` if an allocation failed; `Lost` if no connection opens, a write or a read
-    /// failed, or what came isn't one message. The connection is closed then.
+    /// Brings the message over the connection. Err: `Memory` if an allocation failed; `Lost` if no
+    /// connection opens, a write or a read failed, or what came isn't one message. The connection
+    /// is closed then.
     fn carry(&mut self, alloc: Global, message: &Message) -> Result<Message, CarrierFault>
         // It isn't faithful.
         ensures same { ⊥ → IfOk result (λ brought. brought ≡ message.now) }
@@ -89,7 +93,8 @@ impl<'r, R: Net> Carrier for Connection<'r, R> {
         ensures lost { result ≡ Err faults.Lost → (self.old ≡ false) ⊎
             WasLost ⟦<Stream<R::Stream> as Sink>⟧ ⟦<Stream<R::Stream> as Source>⟧
             (length (spelling (view message.now))) IsOneMessage }
-        // The next message crosses the same connection, but what is left of a failure isn't used again.
+        // The next message crosses the same connection, but what is left of a failure isn't used
+        // again.
         ensures kept { OnOk result (self.new ≡ true) }
         ensures closed { OnErr result (self.new ≡ false) }
     {
@@ -108,8 +113,9 @@ impl<'r, R: Net> Carrier for Connection<'r, R> {
         }
     }
 
-    /// Sends the first bytes of the message over the connection, and closes it. Err: `Memory` if an allocation failed; `Lost` if no
-    /// connection opens, a write or a read failed, or other bytes came than were sent.
+    /// Sends the first bytes of the message over the connection, and closes it. Err: `Memory` if an
+    /// allocation failed; `Lost` if no connection opens, a write or a read failed, or other bytes
+    /// came than were sent.
     fn cut(&mut self, alloc: Global, message: &Message, bytes: usize) -> Result<(), CarrierFault>
         // It isn't faithful.
         ensures memory { ⊥ → IfErr result (λ fault. fault ≡ faults.Memory) }

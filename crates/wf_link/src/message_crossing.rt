@@ -15,12 +15,13 @@ use wf_codec::{Message, encode};
 use wf_farm::CarrierFault;
 use wf_stream::{Sink, Source, write_all};
 
-/// The most bytes of a piece: a socket's buffers hold them, so a piece can be written before any of it is read.
+/// The most bytes of a piece: a socket's buffers hold them, so a piece can be written before any of
+/// it is read.
 pub const PIECE_BYTES: usize = 4_096;
 
-/// Writes the message's encoding in pieces, reads as many bytes after each, and returns the message that they are. Err: `Memory` if
-/// an allocation failed; `Lost` if a read or write failed, the reader ended, or its bytes aren't exactly one message. A prefix of
-/// the encoding is written then.
+/// Writes the message's encoding in pieces, reads as many bytes after each, and returns the message
+/// that they are. Err: `Memory` if an allocation failed; `Lost` if a read or write failed, the
+/// reader ended, or its bytes aren't exactly one message. A prefix of the encoding is written then.
 #[tactic(auto, using(crate::proofs::Crossed::none_written))]
 pub fn cross<K: Sink, S: Source>(
     alloc: Global,
@@ -53,9 +54,10 @@ pub fn cross<K: Sink, S: Source>(
     }
 }
 
-/// Writes the first bytes of the message in pieces, at most `count` and at most all but the last, and reads as many bytes after
-/// each piece. Ok: no message came out. Err: `Memory` if an allocation failed; `Lost` if a read or write failed, the reader ended,
-/// or a message or an error came out. A prefix of the bytes is written then.
+/// Writes the first bytes of the message in pieces, at most `count` and at most all but the last,
+/// and reads as many bytes after each piece. Ok: no message came out. Err: `Memory` if an
+/// allocation failed; `Lost` if a read or write failed, the reader ended, or a message or an error
+/// came out. A prefix of the bytes is written then.
 #[tactic(auto, using(crate::proofs::Crossed::none_written))]
 pub fn cut_off<K: Sink, S: Source>(
     alloc: Global,
@@ -108,7 +110,8 @@ fn front(bytes: &[u8], count: usize) -> &[u8]
     bytes.split_at(count.min(bytes.len().saturating_sub(1))).0
 }
 
-/// Writes the bytes in pieces, and reads as many after each. Ok: what has arrived. Err: a prefix of the bytes is written.
+/// Writes the bytes in pieces, and reads as many after each. Ok: what has arrived. Err: a prefix of
+/// the bytes is written.
 #[tactic(auto, using(crate::proofs::Arrived::first_arrived))]
 fn pass_all<K: Sink, S: Source>(
     alloc: Global,

@@ -34,8 +34,8 @@ pub fn nothing(alloc: Global) -> Arrival
     }
 }
 
-/// Reads `count` bytes into the arrival, as they come. Err: an allocation failed; or a read failed, the reader ended, or the bytes
-/// aren't messages.
+/// Reads `count` bytes into the arrival, as they come. Err: an allocation failed; or a read failed,
+/// the reader ended, or the bytes aren't messages.
 pub fn receive<S: Source>(
     alloc: Global,
     count: usize,

@@ -1,5 +1,5 @@
--- The listing of a tape's bytes: a line for each of their records, with the offset of its first byte, and a line for what follows
--- them.
+-- The listing of a tape's bytes: a line for each of their records, with the offset of its first
+-- byte, and a line for what follows them.
 use Rattle.std.specs.Prelude.{◌≡◌, ◌+◌, ◌++◌, ℕ, nat_lt, Bool, true, false, List, [], ◌∷◌, length, codes, decimal, String, if◌then◌else◌}
 use Rattle.std.specs.String.{string_bytes}
 use Rattle.wf_ballot.specs.Ballot.{Ballot, ballot_text}
@@ -15,7 +15,8 @@ use Rattle.wf_listing.specs.declared.line.Rest.TheVariants as rests
 abbrev pub Prints : {A : Type 0} → String A → String A → List ℕ → Type 0
 Prints old new text = string_bytes new ≡ string_bytes old ++ text
 
--- the line of each kind of record: its offset, its kind and its fields, of a definition the number of bytes of its canonical text
+-- the line of each kind of record: its offset, its kind and its fields, of a definition the number
+-- of bytes of its canonical text
 abbrev pub tried_line : ℕ → ℕ → List ℕ
 tried_line offset round = decimal offset ++ codes " tried " ++ decimal round ++ codes "\n"
 

@@ -21,7 +21,8 @@ unfoldable pub published_in : ℕ → List (Record Definition) → Option Defini
 published_in sequence [] = None
 published_in sequence (r ∷ records) = first_or (published_by sequence r) (published_in sequence records)
 
--- The text is that of the map that the bytes have as published under the sequence; none if they have none.
+-- The text is that of the map that the bytes have as published under the sequence; none if they
+-- have none.
 pub record IsMapTextAt (bytes : List ℕ) (sequence : ℕ) (text : Option (Vec ℕ Global)) : Type 0 where
   -- all the whole records that the bytes begin with, and the bytes after them
   pub records : List (Record Definition)

@@ -2,7 +2,8 @@
 use Rattle.std.specs.Prelude.{◌⊎◌, ◌<◌, ℕ, List, length, Option, IfSome}
 use Rattle.wf_stream.specs.Effects.{Rises}
 
--- the most bytes of a tape: a node that opens makes at most 1,048,576 reads of 8,192 bytes, the last of which finds the end
+-- the most bytes of a tape: a node that opens makes at most 1,048,576 reads of 8,192 bytes, the
+-- last of which finds the end
 abbrev pub most_tape_bytes : ℕ
 most_tape_bytes = 8589926400
 

@@ -1,15 +1,18 @@
-//! What a tape holds, as text for an operator: one line for each record and one for what follows them.
+//! What a tape holds, as text for an operator: one line for each record and one for what follows
+//! them.
 //!
-//! [`list`] lists the bytes of a tape, whatever wrote them: it reads them as a node does when it opens, and changes nothing.
-//! [`read_tape`] reads such bytes from any reader, and [`text_of_map`] returns the text of a map that is published on it.
+//! [`list`] lists the bytes of a tape, whatever wrote them: it reads them as a node does when it
+//! opens, and changes nothing. [`read_tape`] reads such bytes from any reader, and [`text_of_map`]
+//! returns the text of a map that is published on it.
 //!
-//! Promises: the text is exactly the listing of the bytes (`specs/Listing.antt`). Its lines are those of the whole records that
-//! the bytes begin with, in order, each with the byte offset at which it begins; the last line says whether nothing follows them, a
-//! torn record, or bytes that are neither. Bytes have one listing ([`bytes_have_one_listing`]). A tape is read to its end or not
-//! at all.
+//! Promises: the text is exactly the listing of the bytes (`specs/Listing.antt`). Its lines are
+//! those of the whole records that the bytes begin with, in order, each with the byte offset at
+//! which it begins; the last line says whether nothing follows them, a torn record, or bytes that
+//! are neither. Bytes have one listing ([`bytes_have_one_listing`]). A tape is read to its end or
+//! not at all.
 //!
-//! Not here: what the records mean together, and which record may follow which: a tape of whole records may still be one that no
-//! node opens.
+//! Not here: what the records mean together, and which record may follow which: a tape of whole
+//! records may still be one that no node opens.
 #![tactic(auto)]
 
 mod fault;

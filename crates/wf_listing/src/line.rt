@@ -77,7 +77,8 @@ fn push_published(
     writeln!(out, "{offset} published {slot} text {length}")
 }
 
-/// Appends the line of what follows the records: it begins at a byte offset and has that many bytes.
+/// Appends the line of what follows the records: it begins at a byte offset and has that many
+/// bytes.
 pub(crate) fn push_rest(
     out: &mut String,
     offset: usize,

@@ -10,8 +10,8 @@ use crate::record_search::find;
 use std::alloc::{AllocError, Global};
 use wf_journal::Record;
 
-/// The listing of a tape's bytes: a line for each whole record, the oldest first, and a line for what follows them. Each line
-/// begins with a byte offset. The only error is allocation failure.
+/// The listing of a tape's bytes: a line for each whole record, the oldest first, and a line for
+/// what follows them. Each line begins with a byte offset. The only error is allocation failure.
 ///
 /// ```text
 /// 0 tried 2
@@ -21,9 +21,9 @@ use wf_journal::Record;
 /// 372 torn record, 5 bytes
 /// ```
 ///
-/// After its kind a record has its sequence, or the round that was tried; `text` is the number of bytes of a definition's canonical
-/// text. The last line is `end`, `torn record` or `P2 bad record`: nothing follows the records, the beginning of one, or bytes that
-/// are neither.
+/// After its kind a record has its sequence, or the round that was tried; `text` is the number of
+/// bytes of a definition's canonical text. The last line is `end`, `torn record` or
+/// `P2 bad record`: nothing follows the records, the beginning of one, or bytes that are neither.
 pub fn list(alloc: Global, bytes: &[u8]) -> Result<String, AllocError>
     ensures { IfOk result (λ text. IsListing bytes.now (string_bytes text)) }
 {
@@ -62,8 +62,8 @@ fn push_all(
     )
 }
 
-/// Appends the lines of records that stand one after the other, the first of them at offset 0, and returns the offset of what
-/// follows them.
+/// Appends the lines of records that stand one after the other, the first of them at offset 0, and
+/// returns the offset of what follows them.
 fn push_records(out: &mut String, records: &[Record]) -> Result<usize, AllocError>
     requires { length_of (map view records.now) < 2 ^ 64 }
     ensures end { IfOk result (λ end. end ≡ length_of (map view records.now)) }

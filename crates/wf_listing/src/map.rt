@@ -10,8 +10,9 @@ use std::alloc::{AllocError, Global};
 use wf_canon::Canon;
 use wf_journal::Record;
 
-/// The canonical text of the map that a tape's bytes have as published under a sequence, by the first such record; a node's tape has
-/// one at most. None if there is none among the whole records that the bytes begin with. The only error is allocation failure.
+/// The canonical text of the map that a tape's bytes have as published under a sequence, by the
+/// first such record; a node's tape has one at most. None if there is none among the whole records
+/// that the bytes begin with. The only error is allocation failure.
 pub fn text_of_map(
     alloc: Global,
     bytes: &[u8],

@@ -31,7 +31,8 @@ fn before(alloc: Global, bytes: &[u8], offset: usize) -> Result<Vec<Record>, All
     ensures found { IfOk result (λ records. AreFound bytes.now (map view records.items) true) }
     ensures size { IfOk result (λ records. length_of (map view records.items) < 2 ^ 64) }
 {
-    // Bytes are read as one list of records at most, so these are all that stand before the bad ones, and none of these is bad.
+    // Bytes are read as one list of records at most, so these are all that stand before the bad
+    // ones, and none of these is bad.
     records_are_read_one_way();
     match read(alloc, bytes.split_at(offset).0) {
         Ok(records) => Ok(records),

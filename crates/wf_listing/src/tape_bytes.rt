@@ -10,8 +10,8 @@ use wf_stream::{Source, read_up_to};
 /// The most bytes of a tape: as many as a node reads when it opens.
 pub const MOST_TAPE_BYTES: usize = 8_589_926_400;
 
-/// Reads the bytes of a tape to their end. Returns `Failed` if a read fails or there are more than [`MOST_TAPE_BYTES`], `Memory` if
-/// an allocation fails; some of the bytes are read then.
+/// Reads the bytes of a tape to their end. Returns `Failed` if a read fails or there are more than
+/// [`MOST_TAPE_BYTES`], `Memory` if an allocation fails; some of the bytes are read then.
 pub fn read_tape<S: Source>(alloc: Global, source: &mut S) -> Result<Vec<u8>, TapeReadFault>
     ensures whole { IfOk result (λ bytes.
         IfSome (S.left source.old) (λ known. bytes.items ≡ known)) }

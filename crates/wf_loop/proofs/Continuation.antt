@@ -326,7 +326,8 @@ module _ {T : Type 0} (tapes : Tape T) where
   pub same_voter : (before after : Voter T tapes) → after ≡ before → Continues tapes before after
   same_voter before after same = subst (λ (v : Voter T tapes). Continues tapes before v) (sym same) (still before)
 
-  -- one that acts, or is at least neither suspended nor outvoted and doesn't join, goes on as its process does
+  -- one that acts, or is at least neither suspended nor outvoted and doesn't join, goes on as its
+  -- process does
   pub awake : (before after : Voter T tapes) → ¬ (before.gate ≡ gates.Suspended) → before.is_outvoted ≡ false → before.joins ≡ false → after.is_outvoted ≡ before.is_outvoted → after.joins ≡ before.joins → after.kept ≡ before.kept
       → StaysInRun tapes before.process after.process → ((known : List (Option Heard)) → AreHeardFrom known before.process.actor.given.items → AreHeardFrom known after.process.actor.given.items)
       → Continues tapes before after
@@ -375,8 +376,8 @@ module _ {T : Type 0} (tapes : Tape T) where
         (subst (λ (runs : List (Actor T tapes × ℕ)). AreRunsHeardFrom tapes before.kept runs) (sym (received_from peer before.process result after.process receives).ended) is.ended);
   }
 
-  -- one that takes in a message: it isn't suspended; the message asks for what is published if the node is outvoted, and says what is if it
-  -- joins
+  -- one that takes in a message: it isn't suspended; the message asks for what is published if the
+  -- node is outvoted, and says what is if it joins
   pub taking : {U : Type 0} (before after : Voter T tapes) (peer : ℕ) (result : Option (Result U NodeFault)) → before.gate ≡ gates.Open → after.is_outvoted ≡ before.is_outvoted → after.joins ≡ before.joins → after.kept ≡ before.kept
       → (before.is_outvoted ≡ true → is_ask_first (arrived_at before.process peer) ≡ true) → (before.joins ≡ true → is_chosen_first (arrived_at before.process peer) ≡ true)
       → IsNextHeard before.kept peer (arrived_at before.process peer)

@@ -21,9 +21,10 @@ IsUnsent outcome.ReadFailed old new = new ≡ old
 IsUnsent outcome.NoRequest old new = new ≡ old
 
 module _ {T : Type 0} (tapes : Tape T) where
-  -- The process was asked by the bytes that came, and what was written is the response of `wf_edge` to these by its node as it stood, or a
-  -- beginning of it where memory failed. What the node sent by it, the process logged as returned, nothing was given to the node,
-  -- and the process is that of this node in this run.
+  -- The process was asked by the bytes that came, and what was written is the response of `wf_edge`
+  -- to these by its node as it stood, or a beginning of it where memory failed. What the node sent
+  -- by it, the process logged as returned, nothing was given to the node, and the process is that
+  -- of this node in this run.
   pub record IsAnswer (before : Process T tapes) (came response : List ℕ) (outcome : Outcome) (after : Process T tapes) : Type 0 where
     pub outputs : Vec Message Global
     pub is_outcome : IsOutcome tapes (Some came) (Some []) (Some response) before.actor.node outputs after.actor.node outcome
@@ -44,8 +45,8 @@ module _ {T : Type 0} (tapes : Tape T) where
     pub joins : after.joins ≡ before.joins
     pub kept : after.kept ≡ before.kept
 
-  -- In order, each client that was answered: the process before it and after it, and the client with what had come of its request and with
-  -- the whole response.
+  -- In order, each client that was answered: the process before it and after it, and the client
+  -- with what had come of its request and with the whole response.
   unfoldable pub AreAnswered : List (Voter T tapes × ℕ) → List (Client × ℕ) → List (Voter T tapes × ℕ) → Type 0
   AreAnswered [] [] [] = ⊤
   AreAnswered [] [] (after ∷ afters) = ⊥

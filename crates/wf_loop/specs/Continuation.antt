@@ -17,8 +17,8 @@ use Rattle.wf_peer.specs.Told.{HearAll, IsHeardOf, IsHeardText}
 use Rattle.wf_peer.specs.declared.heard.Heard.{Heard}
 use Rattle.wf_tape.specs.declared.tape.Tape.{Ghosts as Tape}
 
--- One run goes on: the tape from which the node was opened, the node as it was opened, and its number stay; what was given to it, and what
--- it returned, only grow.
+-- One run goes on: the tape from which the node was opened, the node as it was opened, and its
+-- number stay; what was given to it, and what it returned, only grow.
 pub record IsLater {T : Type 0} (tapes : Tape T) (before after : Actor T tapes) : Type 0 where
   pub number : after.node.id ≡ before.node.id
   pub read_from : after.read_from.items ≡ before.read_from.items
@@ -89,8 +89,8 @@ unfoldable pub AreRunsHeardFrom : {T : Type 0} (tapes : Tape T) → List (Option
 AreRunsHeardFrom tapes known [] = Unit {0}
 AreRunsHeardFrom tapes known (run ∷ runs) = AreHeardFrom known run.0.given.items × AreRunsHeardFrom tapes known runs
 
--- The file `heard` has all that the voter takes it to have, and that is the round and the promise of each message of a peer that the node
--- was ever given.
+-- The file `heard` has all that the voter takes it to have, and that is the round and the promise
+-- of each message of a peer that the node was ever given.
 pub record IsHeardKept {T : Type 0} {tapes : Tape T} (heard : Option (List ℕ)) (voter : Voter T tapes) : Type 0 where
   pub known : List (Option Heard)
   pub text : IsHeardText heard known
@@ -100,9 +100,10 @@ pub record IsHeardKept {T : Type 0} {tapes : Tape T} (heard : Option (List ℕ))
 
 -- ---- a turn and its parts
 
--- The process goes on in its run. Nothing of a suspended node changes. Whether it is outvoted stays, and one that is was given no message
--- but those that ask for what is published. Whether it joins stays, and one that does was given no message but those that say what is
--- published. Whatever the file `heard` has, it is enough if it was before.
+-- The process goes on in its run. Nothing of a suspended node changes. Whether it is outvoted
+-- stays, and one that is was given no message but those that ask for what is published. Whether it
+-- joins stays, and one that does was given no message but those that say what is published.
+-- Whatever the file `heard` has, it is enough if it was before.
 pub record Continues {T : Type 0} (tapes : Tape T) (before after : Voter T tapes) : Type 0 where
   pub process : StaysInRun tapes before.process after.process
   pub suspended : before.gate ≡ gates.Suspended → StaysSuspended before after
@@ -112,7 +113,8 @@ pub record Continues {T : Type 0} (tapes : Tape T) (before after : Voter T tapes
   pub learnt : before.joins ≡ true → besides_chosen after.process.actor.given.items ≡ besides_chosen before.process.actor.given.items
   pub kept : (heard : Option (List ℕ)) → IsHeardKept heard before → IsHeardKept heard after
 
--- It goes on so, while its folder is written to: the starts that it counts stay, and what the file `heard` has is enough if it was before.
+-- It goes on so, while its folder is written to: the starts that it counts stay, and what the file
+-- `heard` has is enough if it was before.
 pub record ContinuesIn {T : Type 0} (tapes : Tape T) (stood : Stand) (before : Voter T tapes) (stands : Stand) (after : Voter T tapes) : Type 0 where
   pub process : StaysInRun tapes before.process after.process
   pub suspended : before.gate ≡ gates.Suspended → StaysSuspended before after
@@ -124,7 +126,8 @@ pub record ContinuesIn {T : Type 0} (tapes : Tape T) (stood : Stand) (before : V
   pub begun : stands.begun ≡ stood.begun
   pub kept : IsHeardKept stood.heard before → IsHeardKept stands.heard after
 
--- The process goes on in its run, and is given nothing; whether it is outvoted or joins, and what the file `heard` has, stay.
+-- The process goes on in its run, and is given nothing; whether it is outvoted or joins, and what
+-- the file `heard` has, stay.
 pub record HasOnlyServed {T : Type 0} (tapes : Tape T) (before after : Voter T tapes) : Type 0 where
   pub process : StaysInRun tapes before.process after.process
   pub outvoted : after.is_outvoted ≡ before.is_outvoted
@@ -132,8 +135,9 @@ pub record HasOnlyServed {T : Type 0} (tapes : Tape T) (before after : Voter T t
   pub given : after.process.actor.given.items ≡ before.process.actor.given.items
   pub kept : after.kept ≡ before.kept
 
--- One run follows another: the tape of the first one's node had failed, and the other one's node, which was just opened, is the node that it
--- was. That was compared: it has stored what the first one had, or that and the record of the step within which its tape failed.
+-- One run follows another: the tape of the first one's node had failed, and the other one's node,
+-- which was just opened, is the node that it was. That was compared: it has stored what the first
+-- one had, or that and the record of the step within which its tape failed.
 pub record IsNextRun {T : Type 0} (tapes : Tape T) (run next : Actor T tapes) : Type 0 where
   pub halted : run.node.halted ≡ true
   pub number : next.node.id ≡ run.node.id
@@ -141,8 +145,9 @@ pub record IsNextRun {T : Type 0} (tapes : Tape T) (run next : Actor T tapes) : 
   pub began : next.began.items ≡ (next.node, 0) ∷ []
   pub stored : HasStoredAs run.node next.node
 
--- From that moment of a run on these are all runs of its process, those that have ended and the one that it is in: the first is that run at
--- a later moment, and each other one follows the one before it.
+-- From that moment of a run on these are all runs of its process, those that have ended and the one
+-- that it is in: the first is that run at a later moment, and each other one follows the one before
+-- it.
 abbrev pub AreRunsFrom : {T : Type 0} (tapes : Tape T) → Actor T tapes → List (Actor T tapes × ℕ) → Actor T tapes → Type 0
 AreRunsFrom tapes actor [] now = IsLater tapes actor now
 AreRunsFrom {T} tapes actor (run ∷ ended) now = IsLater tapes actor run.0 × (next : Actor T tapes) × IsNextRun tapes run.0 next × AreRunsFrom tapes next ended now

@@ -2,8 +2,8 @@
 use Rattle.std.specs.Prelude.{◌≡◌, ◌⊎◌, ℕ, ◌+◌, List, Option, Some, Result, Ok, Err}
 use Rattle.wf_store.specs.Call.{Call}
 
--- How many starts the file `farm` counts, as its process wrote it last, the calls of the folder before the node ran, and the bytes of the
--- file `heard`; None: it isn't there.
+-- How many starts the file `farm` counts, as its process wrote it last, the calls of the folder
+-- before the node ran, and the bytes of the file `heard`; None: it isn't there.
 pub record Stand : Type 0 where
   pub starts : ℕ
   pub begun : List Call

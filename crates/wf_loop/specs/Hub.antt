@@ -25,7 +25,8 @@ process_of hub = hub.voter.process
 abbrev pub kept_of : {T N C L : Type 0} {tapes : Tape T} {connections : Connection C} → Hub T N C L tapes connections → List (Option Heard)
 kept_of hub = hub.voter.kept
 
--- the round and the promise of each message of a peer that the node was given are in the file `heard`, which has these bytes
+-- the round and the promise of each message of a peer that the node was given are in the file
+-- `heard`, which has these bytes
 abbrev pub IsHeardFirst : {T N C L : Type 0} {tapes : Tape T} {connections : Connection C} → Option (List ℕ) → Hub T N C L tapes connections → Type 0
 IsHeardFirst heard hub = IsHeardKept heard hub.voter
 
@@ -48,7 +49,8 @@ IsSuspended hub = hub.voter.gate ≡ gates.Suspended
 abbrev pub IsOutvoted : {T N C L : Type 0} {tapes : Tape T} {connections : Connection C} → Hub T N C L tapes connections → Type 0
 IsOutvoted hub = hub.voter.is_outvoted ≡ true
 
--- The node was given no message but those that ask for what is published, and no client was answered.
+-- The node was given no message but those that ask for what is published, and no client was
+-- answered.
 pub record OnlyAnswersAsks {T N C L : Type 0} {tapes : Tape T} {connections : Connection C} (before after : Hub T N C L tapes connections) : Type 0 where
   pub given : besides_asks after.voter.process.actor.given.items ≡ besides_asks before.voter.process.actor.given.items
   pub answered : after.clients.before.items ≡ before.clients.before.items
@@ -57,7 +59,8 @@ pub record OnlyAnswersAsks {T N C L : Type 0} {tapes : Tape T} {connections : Co
 abbrev pub IsJoiner : {T N C L : Type 0} {tapes : Tape T} {connections : Connection C} → Hub T N C L tapes connections → Type 0
 IsJoiner hub = hub.voter.joins ≡ true
 
--- It still joins; the node was given no message but those that say what is published, and no client was answered.
+-- It still joins; the node was given no message but those that say what is published, and no client
+-- was answered.
 pub record OnlyLearns {T N C L : Type 0} {tapes : Tape T} {connections : Connection C} (before after : Hub T N C L tapes connections) : Type 0 where
   pub joins : IsJoiner after
   pub given : besides_chosen after.voter.process.actor.given.items ≡ besides_chosen before.voter.process.actor.given.items
@@ -67,7 +70,8 @@ pub record OnlyLearns {T N C L : Type 0} {tapes : Tape T} {connections : Connect
 abbrev pub IsOver : {T N C L : Type 0} {tapes : Tape T} {connections : Connection C} → Hub T N C L tapes connections → Type 0
 IsOver hub = hub.parts.mesh.is_over ≡ true
 
--- Each client that was answered was sent the response of a process that had lived, as it was just before, to what had come of the request.
+-- Each client that was answered was sent the response of a process that had lived, as it was just
+-- before, to what had come of the request.
 abbrev pub HasAnswered : {T N C L : Type 0} (tapes : Tape T) {connections : Connection C} → Hub T N C L tapes connections → Type 0
 HasAnswered tapes hub = ∥ AreAnswered tapes hub.clients.before.items (responses_of hub.clients.visitors) hub.clients.after.items ∥₁
 

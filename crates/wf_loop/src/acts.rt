@@ -1,4 +1,5 @@
-//! What is done to a process: by each of these its run goes on, and nothing of a suspended node changes.
+//! What is done to a process: by each of these its run goes on, and nothing of a suspended node
+//! changes.
 ghost use Rattle.std.specs.Prelude.{◌≡◌, ◌++◌, ◌∷◌, [], ℕ, List, Option, IsTrue, false, true};
 ghost use Rattle.wf_actor.specs.Process.{arrived_at};
 ghost use Rattle.wf_loop.specs.Continuation.{Continues, IsNextRun, IsHeardKept, IsNextHeard, KeepsEarlier, is_ask, is_ask_first, is_chosen, is_chosen_first};
@@ -24,15 +25,17 @@ impl<T: Tape> Voter<T> {
         self.learns() && !self.joins
     }
 
-    /// Whether it asks its peers for definitions, by which they learn that it is there: also where it is outvoted or joins.
+    /// Whether it asks its peers for definitions, by which they learn that it is there: also where
+    /// it is outvoted or joins.
     fn asks(&self) -> bool
         ensures { IsTrue result → self.now.gate ≡ Gate.Open }
     {
         self.gate == Gate::Open
     }
 
-    /// Whether the node is given the first message that has arrived from a peer: each if it acts, one that asks for what is published if it is
-    /// outvoted, and one that says what is published if it joins.
+    /// Whether the node is given the first message that has arrived from a peer: each if it acts,
+    /// one that asks for what is published if it is outvoted, and one that says what is published
+    /// if it joins.
     pub(crate) fn takes_next(&self, peer: NodeId) -> bool
         ensures gate { IsTrue result → self.now.gate ≡ Gate.Open }
         ensures asks { IsTrue result → self.now.is_outvoted ≡ true →
@@ -57,7 +60,8 @@ impl<T: Tape> Voter<T> {
         self.gate == Gate::Open && !self.is_outvoted
     }
 
-    /// Whether clients are answered: not before it acts, not once it is suspended or outvoted, and not while it joins.
+    /// Whether clients are answered: not before it acts, not once it is suspended or outvoted, and
+    /// not while it joins.
     pub(crate) fn answers(&self) -> bool
         ensures awake { IsTrue result → ¬ (self.now.gate ≡ Gate.Suspended) }
         ensures agrees { IsTrue result → self.now.is_outvoted ≡ false }
@@ -119,7 +123,8 @@ pub(crate) fn handle_own<T: Tape>(alloc: Global, voter: &mut Voter<T>) -> bool
     }
 }
 
-/// Whether the round and the promise that the first message tells which has arrived from a peer are in the folder.
+/// Whether the round and the promise that the first message tells which has arrived from a peer are
+/// in the folder.
 pub(crate) fn is_heard_next<T: Tape>(voter: &Voter<T>, peer: NodeId) -> bool
     ensures { IsTrue result → IsNextHeard voter.now.kept peer (arrived_at voter.now.process peer) }
 {
@@ -163,7 +168,8 @@ fn is_chosen(message: &Message) -> bool
     matches!(message, Message::Chosen(_, _))
 }
 
-/// Delivers the first message that has arrived from a peer, if the node is given it, and what it tells of the peer is in the folder.
+/// Delivers the first message that has arrived from a peer, if the node is given it, and what it
+/// tells of the peer is in the folder.
 pub(crate) fn handle<T: Tape>(alloc: Global, voter: &mut Voter<T>, peer: NodeId)
     ensures { Continues T.Tape voter.old voter.new }
 {
@@ -181,7 +187,8 @@ pub(crate) fn ask<T: Tape>(alloc: Global, voter: &mut Voter<T>, peer: NodeId)
     }
 }
 
-/// Takes bytes that came from a peer. Returns how many messages they complete; None if they aren't messages.
+/// Takes bytes that came from a peer. Returns how many messages they complete; None if they aren't
+/// messages.
 pub(crate) fn receive<T: Tape>(voter: &mut Voter<T>, peer: NodeId, piece: &[u8]) -> Option<usize>
     ensures { Continues T.Tape voter.old voter.new }
 {
@@ -220,7 +227,8 @@ pub(crate) fn write<T: Tape, S: Sink>(
     voter.process.write_to(peer, sink)
 }
 
-/// Begins the process's next run, after which what it was is one of those that have ended. It doesn't act before its peers have answered.
+/// Begins the process's next run, after which what it was is one of those that have ended. It
+/// doesn't act before its peers have answered.
 pub(crate) fn begin_run<T: Tape + Drop>(voter: &mut Voter<T>, next: Process<T>)
     requires ended { next.ended.items ≡
         voter.old.process.ended.items ++ (voter.old.process.actor, 0) ∷ [] }

@@ -52,8 +52,9 @@ impl<N: Network> Mesh<N> {
         None
     }
 
-    /// Whether a peer's history differs, and those that agree with this node's and are heard, itself counted, are no majority. The log has
-    /// when that begins and ends, and the connections begin anew then, so that each peer is greeted with it before anything else comes.
+    /// Whether a peer's history differs, and those that agree with this node's and are heard,
+    /// itself counted, are no majority. The log has when that begins and ends, and the connections
+    /// begin anew then, so that each peer is greeted with it before anything else comes.
     pub(crate) fn judge_histories<R: Clock + Eprint>(
         &mut self,
         log: &Log<'_, R>,
@@ -87,8 +88,9 @@ impl<N: Network> Mesh<N> {
         count
     }
 
-    /// Whether what comes from a peer may be taken in. Of one in dispute only where each other one in dispute is known to differ from this
-    /// node, or to have that one's history: a node that has what is common to two histories learns from neither.
+    /// Whether what comes from a peer may be taken in. Of one in dispute only where each other one
+    /// in dispute is known to differ from this node, or to have that one's history: a node that has
+    /// what is common to two histories learns from neither.
     pub(crate) fn is_trusted(&self, peer: usize) -> bool {
         match self.states.get(peer) {
             Some(state) => !state.is_in_dispute() || !self.is_another_in_dispute(state.reached),
@@ -106,8 +108,8 @@ impl<N: Network> Mesh<N> {
         false
     }
 
-    /// Whether to connect to a peer anew, so that the histories are compared: while one differs, with a peer that isn't known to agree and
-    /// has published as much as this node, each second.
+    /// Whether to connect to a peer anew, so that the histories are compared: while one differs,
+    /// with a peer that isn't known to agree and has published as much as this node, each second.
     pub(crate) fn is_to_be_compared(&self, index: usize, published: u16, time: u64) -> bool {
         if self.differing().is_none() {
             return false;

@@ -13,8 +13,8 @@ use wf_sockets::Network;
 use wf_tape::Tape;
 use wf_visitors::{Context, Visitors};
 
-/// The clients of a node. A clause sees logs that only proofs read: for each client that was answered, in order, the process before and
-/// after it.
+/// The clients of a node. A clause sees logs that only proofs read: for each client that was
+/// answered, in order, the process before and after it.
 #[derive(Drop)]
 pub struct Clients<T: Tape, N: Network> {
     pub(crate) visitors: Visitors<N>,
@@ -84,8 +84,8 @@ impl<T: Tape + Drop, N: Network> Clients<T, N> {
         self.visitors.tick(time);
     }
 
-    /// Answers the next request, if it is whole. Returns its slot, whose turn is to follow: the client is yet to take the response, or
-    /// to send the rest.
+    /// Answers the next request, if it is whole. Returns its slot, whose turn is to follow: the
+    /// client is yet to take the response, or to send the rest.
     #[tactic(auto, using(crate::proofs::Continuation::still))]
     pub(crate) fn answer_next<R: Clock + Eprint + AllocGlobal>(
         &mut self,

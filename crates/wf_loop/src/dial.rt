@@ -167,8 +167,8 @@ impl<C: Connection + Drop> Dial<C> {
         self.due = Alarm::after(now, self.backoff.wait());
     }
 
-    /// Whether it takes too long: to open, to be replied to, or, once it is open, until something comes on it. What comes on the peer's own
-    /// connection says nothing of this one.
+    /// Whether it takes too long: to open, to be replied to, or, once it is open, until something
+    /// comes on it. What comes on the peer's own connection says nothing of this one.
     pub(crate) fn is_late(&self, now: u64) -> bool {
         if self.stream.is_none() {
             return false;

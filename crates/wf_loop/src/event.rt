@@ -112,8 +112,8 @@ pub enum NodeEvent {
         address: SocketAddr,
         sequence: u16,
     },
-    /// The history of this peer differs, and those that agree with this node and are heard are no majority: it answers no client, and
-    /// doesn't vote.
+    /// The history of this peer differs, and those that agree with this node and are heard are no
+    /// majority: it answers no client, and doesn't vote.
     Outvoted {
         peer: usize,
         address: SocketAddr,

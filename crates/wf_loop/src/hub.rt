@@ -10,15 +10,17 @@ use wf_peer::PeerProgress;
 use wf_sockets::{Network, SystemNetwork};
 use wf_tape::Tape;
 
-/// A process that answers clients, whether it acts, whether a majority has another history, whether its folder joins, what the folder has of
-/// what was heard, how many maps it rejected, and which pictures it answered with.
+/// A process that answers clients, whether it acts, whether a majority has another history, whether
+/// its folder joins, what the folder has of what was heard, how many maps it rejected, and which
+/// pictures it answered with.
 #[derive(Drop)]
 pub struct Voter<T: Tape> {
     pub(crate) process: Process<T>,
     pub(crate) gate: Gate,
     // whether a peer's history differs, and those that agree with this node are no majority
     pub(crate) is_outvoted: bool,
-    // whether its folder joins in the place of a lost one: it learns what is published, and does nothing else
+    // whether its folder joins in the place of a lost one: it learns what is published, and does
+    // nothing else
     pub(crate) joins: bool,
     // what the file `heard` has: a message of a peer counts once its round and promise are there
     pub(crate) kept: PeerProgress,
@@ -26,8 +28,9 @@ pub struct Voter<T: Tape> {
     pub(crate) pictures: PictureCounts,
 }
 
-/// A node, the connections to and from its peers, its clients, and who only reads, over a network. A clause sees its process, and logs
-/// that only proofs read: each client that was answered, with the process before and after it.
+/// A node, the connections to and from its peers, its clients, and who only reads, over a network.
+/// A clause sees its process, and logs that only proofs read: each client that was answered, with
+/// the process before and after it.
 #[derive(Drop)]
 pub struct Hub<T: Tape, N: Network = SystemNetwork> {
     pub(crate) parts: HubParts<N>,

@@ -83,7 +83,8 @@ impl<C: Connection + Drop> Inbound<C> {
         self.greet(alloc, own)
     }
 
-    /// Greets the peer that was let in again, unless an earlier greeting still waits. What can't be written is written by a later turn.
+    /// Greets the peer that was let in again, unless an earlier greeting still waits. What can't be
+    /// written is written by a later turn.
     pub(crate) fn greet_again(&mut self, alloc: Global, own: &Greeting) {
         if self.from.is_some() && self.reply.is_taken() {
             let _ = self.greet(alloc, own);

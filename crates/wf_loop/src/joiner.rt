@@ -31,7 +31,8 @@ impl Joiner {
         self.joining.replacement
     }
 
-    /// Once an operator has begun its replacement under this count. None: the count isn't higher than the one before.
+    /// Once an operator has begun its replacement under this count. None: the count isn't higher
+    /// than the one before.
     pub(crate) fn begin(&self, count: u32) -> Option<Joiner> {
         match self.joining.begin(count) {
             Some(joining) => Some(Joiner { joining }),
@@ -39,8 +40,9 @@ impl Joiner {
         }
     }
 
-    /// Once a peer has said that it takes the folder of this replacement for the node's: that it agreed to it, and, where half of all had
-    /// before, how far it is; `answer` is None where the peer doesn't vote. None: that doesn't count, and changes nothing.
+    /// Once a peer has said that it takes the folder of this replacement for the node's: that it
+    /// agreed to it, and, where half of all had before, how far it is; `answer` is None where the
+    /// peer doesn't vote. None: that doesn't count, and changes nothing.
     pub(crate) fn hear(
         &self,
         peer: NodeId,

@@ -42,7 +42,8 @@ const PIECE_BYTES: usize = 65_536;
 /// The most sequences without a digest that a turn leaves.
 const MOST_LACKING: u16 = 8;
 
-/// For how long the answer of a peer is waited for after a start, with no connection to it and with one, in milliseconds.
+/// For how long the answer of a peer is waited for after a start, with no connection to it and with
+/// one, in milliseconds.
 const UNCONNECTED_START: u64 = 1_000;
 
 const LONGEST_START: u64 = 3_000;
@@ -65,7 +66,8 @@ pub(crate) struct Mesh<N: Network> {
     pub(crate) states: Vec<PeerState>,
     pub(crate) notes: Notes,
     pub(crate) catch_up: CatchUp,
-    // the replacements of nodes that peers have told of, those with which the node began too, and when something new came
+    // the replacements of nodes that peers have told of, those with which the node began too, and
+    // when something new came
     pub(crate) learned: Replacements,
     pub(crate) learned_at: Option<u64>,
     // what is to be written about replacements
@@ -169,20 +171,23 @@ impl<N: Network> Mesh<N> {
         })
     }
 
-    /// A turn begins, in which so many sockets are ready. Where it could wait for one, and none is, there is time for the digests.
+    /// A turn begins, in which so many sockets are ready. Where it could wait for one, and none is,
+    /// there is time for the digests.
     pub(crate) fn begin_turn(&mut self, could_wait: bool, ready: usize) {
         self.is_busy = false;
         self.is_idle = could_wait && ready == 0;
     }
 
-    /// Extends the digests to the history if there is time for it, or if too many lack. What needs one sooner extends them itself.
+    /// Extends the digests to the history if there is time for it, or if too many lack. What needs
+    /// one sooner extends them itself.
     pub(crate) fn extend_digests(&mut self, history: &History) {
         if self.is_idle || self.notes.lacks_more_than(history, MOST_LACKING) {
             self.notes.extend(history);
         }
     }
 
-    /// Whether digests are to be made once nothing comes: some lack, and it wasn't just tried in vain.
+    /// Whether digests are to be made once nothing comes: some lack, and it wasn't just tried in
+    /// vain.
     pub(crate) fn wants_digests(&self, history: &History) -> bool {
         !self.is_idle && self.notes.lacks_more_than(history, 0)
     }
@@ -194,7 +199,8 @@ impl<N: Network> Mesh<N> {
         self.plan.start.at(&reach_of(process.node()))
     }
 
-    /// This node's greeting now, with the replacements with which it began. None: an allocation failed.
+    /// This node's greeting now, with the replacements with which it began. None: an allocation
+    /// failed.
     pub(crate) fn greeting<T: Tape + Drop>(&mut self, voter: &Voter<T>) -> Option<Greeting>
         ensures progress { IfSome result (λ said.
             IsGreetedWith self.old.plan.start voter.now.process.actor.node said.progress) }
@@ -210,8 +216,8 @@ impl<N: Network> Mesh<N> {
         self.notes.greeting(progress, state_of(voter), told)
     }
 
-    /// Writes what was heard of the peers to the node's folder, if more was heard than it has. Where that fails, the node acts no more
-    /// until it succeeds.
+    /// Writes what was heard of the peers to the node's folder, if more was heard than it has.
+    /// Where that fails, the node acts no more until it succeeds.
     #[tactic(auto, using(crate::proofs::Continuation::twice_in, crate::proofs::Continuation::on_in))]
     pub(crate) fn save<R: Clock + Eprint + AllocGlobal, T: Tape + Drop, F: NodeFolder<T>>(
         &mut self,
@@ -292,8 +298,8 @@ impl<N: Network> Mesh<N> {
         }
     }
 
-    /// Whether the node may act: each peer has answered since it started, or closed the connection, or a second passed without one, or three
-    /// with one.
+    /// Whether the node may act: each peer has answered since it started, or closed the connection,
+    /// or a second passed without one, or three with one.
     pub(crate) fn has_waited(&mut self, time: u64) -> bool {
         let Some(began) = self.began else {
             return true;
@@ -328,7 +334,8 @@ impl<N: Network> Mesh<N> {
         }
     }
 
-    /// Who suspended the node, if its folder doesn't say so yet, and that was just found or is to be tried again.
+    /// Who suspended the node, if its folder doesn't say so yet, and that was just found or is to
+    /// be tried again.
     pub(crate) fn unkept_suspension(&mut self, is_due: bool) -> Option<Suspension> {
         let is_new = mem::replace(&mut self.is_suspension_new, false);
         if self.is_suspension_kept || !(is_new || is_due) {
@@ -384,7 +391,8 @@ impl<N: Network> Mesh<N> {
         }
     }
 
-    /// Notes which peers are heard, how many messages to them were posted and dropped, and how many bytes were written.
+    /// Notes which peers are heard, how many messages to them were posted and dropped, and how many
+    /// bytes were written.
     pub(crate) fn note_states<T: Tape + Drop>(&mut self, process: &Process<T>, time: u64) {
         for index in 0..self.states.len() {
             let is_heard = self.is_heard(index, time);

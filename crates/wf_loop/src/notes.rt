@@ -14,7 +14,8 @@ use wf_peer::{Greeting, NodeState, Own, PeerProgress, PeerRejection, Progress, a
 use wf_rejoin::Replacements;
 use wf_tape::Tape;
 
-/// What a node tells its peers of replacements: those that are known, and, where there are any, the highest sequence at which it has a vote.
+/// What a node tells its peers of replacements: those that are known, and, where there are any, the
+/// highest sequence at which it has a vote.
 #[derive(Clone, Copy)]
 pub(crate) struct Told {
     pub(crate) replacements: Replacements,
@@ -42,7 +43,8 @@ impl Notes {
         })
     }
 
-    /// What the message that has arrived from a peer tells of it: that is kept. Returns whether the peer may send it.
+    /// What the message that has arrived from a peer tells of it: that is kept. Returns whether the
+    /// peer may send it.
     pub(crate) fn hear<T: Tape>(&mut self, process: &Process<T>, peer: NodeId) -> bool {
         let Some(message) = process.next_message(peer) else {
             return true;
@@ -148,8 +150,9 @@ impl Notes {
         })
     }
 
-    /// Whether a peer that greets so is let in; that is kept, and so is of what it is accused. A greeting of an older start may still be on
-    /// its way when a later one was let in, so that accuses nobody.
+    /// Whether a peer that greets so is let in; that is kept, and so is of what it is accused. A
+    /// greeting of an older start may still be on its way when a later one was let in, so that
+    /// accuses nobody.
     pub(crate) fn admit(
         &mut self,
         replacements: &Replacements,

@@ -20,8 +20,8 @@ use wf_store::{FileName, FolderFault};
 use wf_tape::Tape;
 use wf_visitors::{Context, Log};
 
-/// For how long a node that votes goes on under what it knew of replacements when it began, once it was told of more, in milliseconds: not
-/// all nodes are to end within one second.
+/// For how long a node that votes goes on under what it knew of replacements when it began, once it
+/// was told of more, in milliseconds: not all nodes are to end within one second.
 const NOTING_MILLIS: u64 = 30_000;
 
 /// What is to be written to the folder about replacements before the node goes by it.
@@ -54,8 +54,9 @@ impl Order {
 }
 
 impl<N: Network> Mesh<N> {
-    /// Takes in what the greeting of a peer that is let in says of replacements. Of one that replies to this node's greeting, a folder that
-    /// joins hears whether the peer has agreed to it, and how far the peer is.
+    /// Takes in what the greeting of a peer that is let in says of replacements. Of one that
+    /// replies to this node's greeting, a folder that joins hears whether the peer has agreed to
+    /// it, and how far the peer is.
     pub(crate) fn hear_of_replacements(&mut self, is_reply: bool, greeting: &Greeting, time: u64) {
         let latest = news_of(&self.learned, greeting);
         if latest != self.learned {
@@ -67,8 +68,8 @@ impl<N: Network> Mesh<N> {
         }
     }
 
-    /// What a folder that joins takes in of a peer's reply to its greeting: nothing before it began with its own replacement among those that
-    /// it knows of.
+    /// What a folder that joins takes in of a peer's reply to its greeting: nothing before it began
+    /// with its own replacement among those that it knows of.
     fn hear_as_joiner(&mut self, greeting: &Greeting) {
         let Some(joiner) = &self.plan.joining else {
             return;
@@ -86,8 +87,9 @@ impl<N: Network> Mesh<N> {
         }
     }
 
-    /// Writes what is to be written about replacements, and goes by it then. What only the next start goes by ends this one: nothing more is
-    /// sent or taken in. Where it can't be written, the node acts no more until it can.
+    /// Writes what is to be written about replacements, and goes by it then. What only the next
+    /// start goes by ends this one: nothing more is sent or taken in. Where it can't be written,
+    /// the node acts no more until it can.
     #[tactic(auto, using(crate::proofs::Continuation::still_in, crate::proofs::Continuation::kept_in, crate::proofs::Continuation::gated_in))]
     pub(crate) fn obey<R: Clock + Eprint + AllocGlobal, T: Tape + Drop, F: NodeFolder<T>>(
         &mut self,
@@ -122,8 +124,8 @@ impl<N: Network> Mesh<N> {
         }
     }
 
-    /// Notes what is to be written now: what was learned, if it is time to, or that the folder has joined, once it may vote by what its file
-    /// `joins` says.
+    /// Notes what is to be written now: what was learned, if it is time to, or that the folder has
+    /// joined, once it may vote by what its file `joins` says.
     fn note_due<T: Tape + Drop>(&mut self, process: &Process<T>, time: u64) {
         if self.order.is_some() || self.is_over {
             return;
@@ -175,7 +177,8 @@ impl<N: Network> Mesh<N> {
         }
     }
 
-    /// The folder that joins is so far. Once half of all nodes have agreed, each is to say on a new connection how far it is.
+    /// The folder that joins is so far. Once half of all nodes have agreed, each is to say on a new
+    /// connection how far it is.
     fn take_joiner(&mut self, next: &Joiner, time: u64) {
         let had_half = match &self.plan.joining {
             Some(joiner) => joiner.has_half(),

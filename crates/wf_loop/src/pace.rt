@@ -24,7 +24,8 @@ use wf_visitors::Context;
 /// The time between two ticks, in milliseconds.
 pub(crate) const TICK_MILLIS: u64 = 100;
 
-/// The time after which the folder says how far the node is, in milliseconds: a second at most, with what a turn takes.
+/// The time after which the folder says how far the node is, in milliseconds: a second at most,
+/// with what a turn takes.
 const KEEPING_MILLIS: u64 = 800;
 
 /// The least time between two attempts to open a failed tape again, in milliseconds.
@@ -241,7 +242,8 @@ impl Pace {
         is_back
     }
 
-    /// Once the tape has failed: writes that, and ends the connections with peers, to which the node has nothing more to say.
+    /// Once the tape has failed: writes that, and ends the connections with peers, to which the
+    /// node has nothing more to say.
     fn watch_tape<R: Clock + Eprint, T: Tape + Drop, N: Network>(
         &mut self,
         context: &Context<'_, '_, R, N>,
@@ -282,7 +284,8 @@ impl Pace {
     }
 }
 
-/// Accepts the connections of peers, ends those on which nothing comes, and connects to peers: nothing unless it has connections with them.
+/// Accepts the connections of peers, ends those on which nothing comes, and connects to peers:
+/// nothing unless it has connections with them.
 #[tactic(auto, using(crate::proofs::Continuation::still_in, crate::proofs::Continuation::twice_in, crate::proofs::Continuation::on_in))]
 fn link<R: Net + Clock + Eprint + AllocGlobal, T: Tape + Drop, F: NodeFolder<T>, N: Network>(
     context: &Context<'_, '_, R, N>,

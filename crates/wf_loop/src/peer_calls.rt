@@ -57,8 +57,8 @@ impl<N: Network> Mesh<N> {
         }
     }
 
-    /// Opens the connection to a peer, whose reply has come. One that is open already brings the peer's greeting again, by which the
-    /// connection is known to stand.
+    /// Opens the connection to a peer, whose reply has come. One that is open already brings the
+    /// peer's greeting again, by which the connection is known to stand.
     #[tactic(auto, using(crate::proofs::Continuation::still_in, crate::proofs::Continuation::on_in, crate::proofs::Continuation::twice_in))]
     fn open<R: Clock + Eprint + AllocGlobal, T: Tape + Drop, F: NodeFolder<T>>(
         &mut self,
@@ -103,8 +103,8 @@ impl<N: Network> Mesh<N> {
         }
     }
 
-    /// A peer has greeted again. It is heard by its messages; by this only once it has the last sequence, since it asks nobody any more
-    /// then.
+    /// A peer has greeted again. It is heard by its messages; by this only once it has the last
+    /// sequence, since it asks nobody any more then.
     fn note_heard_again(&mut self, index: usize, reply: &GreetingReply, time: u64) {
         let GreetingReply::Greeting(greeting) = reply else {
             return;
@@ -148,8 +148,8 @@ impl<N: Network> Mesh<N> {
         }
     }
 
-    /// A peer doesn't let this node in. One that remembers more of the node than it has suspends it: nothing leaves it from now on. Of one
-    /// whose history differs that is noted.
+    /// A peer doesn't let this node in. One that remembers more of the node than it has suspends
+    /// it: nothing leaves it from now on. Of one whose history differs that is noted.
     #[tactic(auto, using(crate::proofs::Continuation::still))]
     fn take_rejection<R: Clock + Eprint, T: Tape + Drop>(
         &mut self,
@@ -240,7 +240,8 @@ impl<N: Network> Mesh<N> {
         }
     }
 
-    /// Connects to a node, if it is a peer, there is no connection and it is time to; ends one that takes too long, or is to be compared.
+    /// Connects to a node, if it is a peer, there is no connection and it is time to; ends one that
+    /// takes too long, or is to be compared.
     #[tactic(auto, using(crate::proofs::Continuation::still))]
     fn connect_to<R: Net + Clock + Eprint + AllocGlobal, T: Tape + Drop>(
         &mut self,
@@ -263,7 +264,8 @@ impl<N: Network> Mesh<N> {
         self.connect_if_due(context, voter, index);
     }
 
-    /// Why the connection to a node ends, and another is to begin, if so: it takes too long, or the histories are to be compared.
+    /// Why the connection to a node ends, and another is to begin, if so: it takes too long, or the
+    /// histories are to be compared.
     fn why_anew(&self, index: usize, published: u16, time: u64) -> Option<PeerEnd> {
         if self.is_late(index, time) {
             Some(PeerEnd::Silent)
@@ -320,7 +322,8 @@ impl<N: Network> Mesh<N> {
         }
     }
 
-    /// Asks a peer for the definitions that the node lacks, if it is time to: nobody once the tape has failed.
+    /// Asks a peer for the definitions that the node lacks, if it is time to: nobody once the tape
+    /// has failed.
     #[tactic(auto, using(crate::proofs::Continuation::still))]
     fn ask_next<T: Tape + Drop>(&mut self, alloc: Global, voter: &mut Voter<T>, time: u64)
         ensures { Continues T.Tape voter.old voter.new }
@@ -363,8 +366,9 @@ impl<N: Network> Mesh<N> {
         }
     }
 
-    /// Greets each peer again on the connection from it: by this it learns that the connection stands, and once the last sequence is
-    /// published, when nobody asks any more, that the node is there.
+    /// Greets each peer again on the connection from it: by this it learns that the connection
+    /// stands, and once the last sequence is published, when nobody asks any more, that the node is
+    /// there.
     pub(crate) fn greet_again<R: Clock + Eprint + AllocGlobal, T: Tape + Drop>(
         &mut self,
         context: &Context<'_, '_, R, N>,
@@ -381,7 +385,8 @@ impl<N: Network> Mesh<N> {
         }
     }
 
-    /// Asks for what the node lacks, writes what waits for the peers, and extends the digests if there is time.
+    /// Asks for what the node lacks, writes what waits for the peers, and extends the digests if
+    /// there is time.
     #[tactic(auto, using(crate::proofs::Continuation::still, crate::proofs::Continuation::twice))]
     pub(crate) fn go_on<R: Clock + Eprint + AllocGlobal, T: Tape + Drop>(
         &mut self,

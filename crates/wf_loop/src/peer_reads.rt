@@ -151,7 +151,8 @@ impl<N: Network> Mesh<N> {
         ended
     }
 
-    /// Reads what came on a connection, a bounded number of pieces, each to the front of the buffer. Some: it has ended.
+    /// Reads what came on a connection, a bounded number of pieces, each to the front of the
+    /// buffer. Some: it has ended.
     #[tactic(auto, using(crate::proofs::Continuation::still_in, crate::proofs::Continuation::on_in, crate::proofs::Continuation::twice_in))]
     fn read_pieces<R: Clock + Eprint + AllocGlobal, T: Tape + Drop, F: NodeFolder<T>>(
         &mut self,
@@ -175,7 +176,8 @@ impl<N: Network> Mesh<N> {
         None
     }
 
-    /// Takes in what came in one piece. Err: nothing more is to be read now, and why the connection has ended if it has.
+    /// Takes in what came in one piece. Err: nothing more is to be read now, and why the connection
+    /// has ended if it has.
     #[tactic(auto, using(crate::proofs::Continuation::still_in, crate::proofs::Continuation::on_in))]
     fn take_in<R: Clock + Eprint + AllocGlobal, T: Tape + Drop, F: NodeFolder<T>>(
         &mut self,
@@ -209,7 +211,8 @@ impl<N: Network> Mesh<N> {
         }
     }
 
-    /// Lets a peer in that has greeted, in the place of an older connection from it. Some: it isn't let in.
+    /// Lets a peer in that has greeted, in the place of an older connection from it. Some: it isn't
+    /// let in.
     #[tactic(auto, using(crate::proofs::Continuation::twice_in, crate::proofs::Continuation::on_in))]
     fn let_in<R: Clock + Eprint + AllocGlobal, T: Tape + Drop, F: NodeFolder<T>>(
         &mut self,
@@ -252,9 +255,10 @@ impl<N: Network> Mesh<N> {
         inbound.let_in(context.alloc(), peer, &own)
     }
 
-    /// Whether a peer is let in that greets so, by all that the node has published: one that was dialed, or one from an address. What is
-    /// heard of it is in the folder before it is answered, and so is of what it is accused, and what it says of replacements. Whether its
-    /// history differs is noted.
+    /// Whether a peer is let in that greets so, by all that the node has published: one that was
+    /// dialed, or one from an address. What is heard of it is in the folder before it is answered,
+    /// and so is of what it is accused, and what it says of replacements. Whether its history
+    /// differs is noted.
     #[tactic(auto, using(crate::proofs::Continuation::twice_in))]
     pub(crate) fn admit_peer<R: Clock + Eprint + AllocGlobal, T: Tape + Drop, F: NodeFolder<T>>(
         &mut self,
@@ -370,8 +374,9 @@ impl<N: Network> Mesh<N> {
         None
     }
 
-    /// Judges the first message that has arrived from a peer, and delivers it: one that raises the peer's round or promise once that is
-    /// in the folder. Some: it isn't delivered, and the connection ends.
+    /// Judges the first message that has arrived from a peer, and delivers it: one that raises the
+    /// peer's round or promise once that is in the folder. Some: it isn't delivered, and the
+    /// connection ends.
     #[tactic(auto, using(crate::proofs::Continuation::still_in, crate::proofs::Continuation::on_in, crate::proofs::Continuation::twice_in))]
     fn deliver_next<R: Clock + Eprint + AllocGlobal, T: Tape + Drop, F: NodeFolder<T>>(
         &mut self,
@@ -393,7 +398,8 @@ impl<N: Network> Mesh<N> {
         None
     }
 
-    /// Whether what the first message tells of a peer is in the folder: where it isn't, it is written.
+    /// Whether what the first message tells of a peer is in the folder: where it isn't, it is
+    /// written.
     #[tactic(auto, using(crate::proofs::Continuation::still_in))]
     fn keeps_next<R: Clock + Eprint + AllocGlobal, T: Tape + Drop, F: NodeFolder<T>>(
         &mut self,
@@ -412,7 +418,8 @@ impl<N: Network> Mesh<N> {
         is_saved && is_heard_next(voter, peer)
     }
 
-    /// Delivers the first message that has arrived from a peer, and writes the answer at once: the peers wait for it.
+    /// Delivers the first message that has arrived from a peer, and writes the answer at once: the
+    /// peers wait for it.
     #[tactic(auto, using(crate::proofs::Continuation::twice))]
     fn deliver_first<R: Clock + Eprint + AllocGlobal, T: Tape + Drop>(
         &mut self,
@@ -428,8 +435,9 @@ impl<N: Network> Mesh<N> {
         self.send(context, voter);
     }
 
-    /// Closes the connections from peers on which nothing came for too long. Once the last sequence is published nobody asks any more, and
-    /// none is closed: peers hear the node by its greetings then.
+    /// Closes the connections from peers on which nothing came for too long. Once the last sequence
+    /// is published nobody asks any more, and none is closed: peers hear the node by its greetings
+    /// then.
     pub(crate) fn close_silent<R: Clock + Eprint>(
         &mut self,
         context: &Context<'_, '_, R, N>,

@@ -35,9 +35,10 @@ pub(crate) enum Greeted {
 }
 
 impl Agreement {
-    /// What it is after a greeting of a peer that is let in and has published so far, where this node's own last sequence is this one. A
-    /// peer that is ahead compares the histories itself, and then answers by a greeting or a rejection. One that greets again and isn't
-    /// as far has nothing new.
+    /// What it is after a greeting of a peer that is let in and has published so far, where this
+    /// node's own last sequence is this one. A peer that is ahead compares the histories itself,
+    /// and then answers by a greeting or a rejection. One that greets again and isn't as far has
+    /// nothing new.
     pub(crate) fn after(self, said: u16, greeted: Greeted, published: u16) -> Agreement {
         if said == published {
             return Agreement::Agrees;
@@ -66,9 +67,11 @@ pub(crate) struct Differing {
     pub(crate) sequence: u16,
 }
 
-/// What is known of a peer: whether it is heard, what it does and how far it is by its last greeting, how its history goes with this node's,
-/// when its last message came, whether it has answered since this node's start; how many messages to it were dropped since its connection opened, how
-/// many were put into its outboxes, how many came, how many bytes were written to it, and by how many greetings it wasn't let in.
+/// What is known of a peer: whether it is heard, what it does and how far it is by its last
+/// greeting, how its history goes with this node's, when its last message came, whether it has
+/// answered since this node's start; how many messages to it were dropped since its connection
+/// opened, how many were put into its outboxes, how many came, how many bytes were written to it,
+/// and by how many greetings it wasn't let in.
 #[derive(Clone, Copy, Default)]
 pub(crate) struct PeerState {
     pub(crate) is_connected: bool,
@@ -101,7 +104,8 @@ impl PeerState {
         self.says == Some(NodeState::Serves) && self.is_recent(time)
     }
 
-    /// Whether a message of it came a short time ago, and its history agrees: also where it serves nobody since another one's differs.
+    /// Whether a message of it came a short time ago, and its history agrees: also where it serves
+    /// nobody since another one's differs.
     pub(crate) fn is_agreeing(&self, time: u64) -> bool {
         self.agreement == Agreement::Agrees
             && matches!(self.says, Some(NodeState::Serves | NodeState::Outvoted))
@@ -124,7 +128,8 @@ impl PeerState {
         }
     }
 
-    /// Whether it says that another one's history differs from its own, and isn't known to differ from this node's.
+    /// Whether it says that another one's history differs from its own, and isn't known to differ
+    /// from this node's.
     pub(crate) fn is_in_dispute(&self) -> bool {
         self.says == Some(NodeState::Outvoted) && !matches!(self.agreement, Agreement::Differs(_))
     }

@@ -76,7 +76,8 @@ impl Standing {
         }
     }
 
-    /// The node agrees, if nothing stands against it. What it had agreed to before it began isn't written again.
+    /// The node agrees, if nothing stands against it. What it had agreed to before it began isn't
+    /// written again.
     fn agree(&self, asked: &Asked, proposed: &Proposed) -> Decision
         ensures { IfSome result.order (λ _. Agrees self.now.learned asked.now proposed.now.node
             proposed.now.replacement proposed.now.force) }
@@ -112,8 +113,8 @@ impl Standing {
         }
     }
 
-    /// Appends the node's number, its folder's mark and what it does; how far the folder is, if it joins; and each replacement with which the
-    /// node began. The only error is allocation failure.
+    /// Appends the node's number, its folder's mark and what it does; how far the folder is, if it
+    /// joins; and each replacement with which the node began. The only error is allocation failure.
     pub(crate) fn push_to(
         &self,
         text: &mut String,

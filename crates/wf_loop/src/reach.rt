@@ -14,7 +14,8 @@ use wf_node::Node;
 use wf_rejoin::Replacements;
 use wf_tape::Tape;
 
-/// How far a node is: its last round, its promise, its highest vote at a sequence that isn't published, and what it has published.
+/// How far a node is: its last round, its promise, its highest vote at a sequence that isn't
+/// published, and what it has published.
 pub fn reach_of<T: Tape>(node: &Node<T>) -> Reach
     ensures { IsReachOf node.now result }
 {
@@ -79,8 +80,8 @@ fn with_vote_at<T: Tape>(
     }
 }
 
-/// The sequence that a node tells its peers beside the replacements that it knows of: the highest one at which it has a vote, 0 if it has
-/// none. Where it knows of no replacement it tells 0.
+/// The sequence that a node tells its peers beside the replacements that it knows of: the highest
+/// one at which it has a vote, 0 if it has none. Where it knows of no replacement it tells 0.
 pub(crate) fn told_votes<T: Tape>(node: &Node<T>, known: &Replacements) -> Option<Seq>
     ensures { IfSome result (λ told.
         (known_count known.now ≡ 0) ⊎ IsHighestVoted (stored_of node.now) told) }

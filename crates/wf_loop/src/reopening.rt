@@ -90,7 +90,8 @@ pub enum NotReopened {
 }
 
 impl NotReopened {
-    /// The file that is the cause, where the node's tape is this one. None: it is the folder itself.
+    /// The file that is the cause, where the node's tape is this one. None: it is the folder
+    /// itself.
     fn file(&self, tape: FileName) -> Option<FileName> {
         match self {
             NotReopened::Folder(error) => error.file(),
@@ -104,24 +105,26 @@ impl NotReopened {
 
 /// The folder of a node, which its process has locked.
 pub trait NodeFolder<T> {
-    /// How many starts the file `farm` counts, as this process wrote it last, the calls of the folder before the node ran, and what the
-    /// file `heard` has.
+    /// How many starts the file `farm` counts, as this process wrote it last, the calls of the
+    /// folder before the node ran, and what the file `heard` has.
     ghost stands: { Self → Stand };
 
-    /// Opens the node's tape, if the folder at its path is the one that is locked, and its file `farm` the one that this process wrote
-    /// last. No file is made: a tape that is absent is an error.
+    /// Opens the node's tape, if the folder at its path is the one that is locked, and its file
+    /// `farm` the one that this process wrote last. No file is made: a tape that is absent is an
+    /// error.
     fn open(&mut self) -> Result<T, NotReopened>
         ensures { stands self.new ≡ stands self.old };
 
-    /// Counts one start more in the file `farm`, synced. Ok is their number. After an error the file may count it or not; the next call
-    /// counts the same start.
+    /// Counts one start more in the file `farm`, synced. Ok is their number. After an error the
+    /// file may count it or not; the next call counts the same start.
     fn count_start(&mut self) -> Result<u32, NotReopened>
         ensures number { IfOk result (λ number. number ≡ (stands self.old).starts + 1) }
         ensures counted { OnOk result (stands self.new ≡ counted (stands self.old)) }
         ensures same { OnErr result (stands self.new ≡ stands self.old) };
 
-    /// Raises in the file `farm` how far the node is known to have been, with the digest of its history up to its last published
-    /// sequence, if that is more than the file has: synced, with the folder.
+    /// Raises in the file `farm` how far the node is known to have been, with the digest of its
+    /// history up to its last published sequence, if that is more than the file has: synced, with
+    /// the folder.
     fn keep(&mut self, reach: &Reach, digest: [u8; 32]) -> Result<(), FolderError>
         ensures { stands self.new ≡ stands self.old };
 
@@ -129,23 +132,27 @@ pub trait NodeFolder<T> {
     fn suspend(&mut self, suspension: Suspension) -> Result<(), FolderError>
         ensures { stands self.new ≡ stands self.old };
 
-    /// Puts a text in the place of the file `heard`, what was heard of the peers: synced, with the folder, if the folder at its path is
-    /// the one that is locked. After an error the text from before or this one is there.
+    /// Puts a text in the place of the file `heard`, what was heard of the peers: synced, with the
+    /// folder, if the folder at its path is the one that is locked. After an error the text from
+    /// before or this one is there.
     fn keep_heard(&mut self, text: Vec<u8>) -> Result<(), FolderError>
         ensures { IsHeardPut result text.items (stands self.old) (stands self.new) };
 
-    /// Puts a text in the place of the file `replaced`, what is known of replacements: synced, with the folder, if the folder at its path is
-    /// the one that is locked. After an error the text from before or this one is there.
+    /// Puts a text in the place of the file `replaced`, what is known of replacements: synced, with
+    /// the folder, if the folder at its path is the one that is locked. After an error the text
+    /// from before or this one is there.
     fn keep_replaced(&mut self, text: Vec<u8>) -> Result<(), FolderError>
         ensures { stands self.new ≡ stands self.old };
 
-    /// Puts a text in the place of the file `joins`, what a folder that joins was told, or an empty one once it has joined: synced, with the
-    /// folder, if the folder at its path is the one that is locked. After an error the text from before or this one is there.
+    /// Puts a text in the place of the file `joins`, what a folder that joins was told, or an empty
+    /// one once it has joined: synced, with the folder, if the folder at its path is the one that
+    /// is locked. After an error the text from before or this one is there.
     fn keep_joining(&mut self, text: Vec<u8>) -> Result<(), FolderError>
         ensures { stands self.new ≡ stands self.old };
 }
 
-/// A process that goes on for one whose tape has failed, with the digests of no history yet, and the number of its start.
+/// A process that goes on for one whose tape has failed, with the digests of no history yet, and
+/// the number of its start.
 #[derive(Drop)]
 pub(crate) struct NextRun<T: Tape> {
     pub(crate) process: Process<T>,
@@ -153,7 +160,8 @@ pub(crate) struct NextRun<T: Tape> {
     pub(crate) starts: u32,
 }
 
-/// The tape of a halted node wasn't opened again: the path of its folder, the name of its tape, and why.
+/// The tape of a halted node wasn't opened again: the path of its folder, the name of its tape, and
+/// why.
 #[derive(Clone, Copy)]
 pub(crate) struct TapeNotReopened<'a> {
     pub(crate) folder: &'a str,

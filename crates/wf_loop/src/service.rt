@@ -173,8 +173,9 @@ fn hub_with<T: Tape, N: Network>(
 }
 
 impl<T: Tape + Drop> Hub<T> {
-    /// Binds the addresses of a node of the system. Err: `Poll` if the system gives no poll; `Http`, `Listen`, `Admin` or `Readers` if that
-    /// address is taken or not permitted, the first one in this order; `Memory` if an allocation fails. The process is dropped then.
+    /// Binds the addresses of a node of the system. Err: `Poll` if the system gives no poll;
+    /// `Http`, `Listen`, `Admin` or `Readers` if that address is taken or not permitted, the first
+    /// one in this order; `Memory` if an allocation fails. The process is dropped then.
     pub fn new<R: Net + Clock + AllocGlobal>(
         rt: &R,
         plan: NodePlan,
@@ -202,33 +203,40 @@ impl<T: Tape + Drop> Hub<T> {
         }
     }
 
-    /// One turn: waits until a socket is ready or a tick is over, and does a bounded part of what there is to do. What has to be in the
-    /// node's folder is written there: that it is suspended at once, and each second how far it is.
+    /// One turn: waits until a socket is ready or a tick is over, and does a bounded part of what
+    /// there is to do. What has to be in the node's folder is written there: that it is suspended
+    /// at once, and each second how far it is.
     pub fn go_on<R: Net + Files + Clock + Eprint + AllocGlobal, F: NodeFolder<T>>(
         &mut self,
         rt: &R,
         log: &Log<'_, R>,
         folder: &mut F,
     )
-        // Whatever came, the node has lived by its acts, was given only what receivers returned, and sent only what it returned.
+        // Whatever came, the node has lived by its acts, was given only what receivers returned,
+        // and sent only what it returned.
         ensures lived { HasLived T.Tape (process_of self.new) }
-        // Each response that any client was sent is the one to exactly what had come of its request, by a process that had lived.
+        // Each response that any client was sent is the one to exactly what had come of its
+        // request, by a process that had lived.
         ensures answered { HasAnswered T.Tape self.new }
         // It goes on in the run that it was in, as the node that it was.
         ensures on { StaysInRun T.Tape (process_of self.old) (process_of self.new) }
         ensures earlier { KeepsEarlier T.Tape (process_of self.old) (process_of self.new) }
         // A suspended node stays suspended and as it is: it is given nothing, and emits no message.
         ensures suspended { IsSuspended self.old → StaysSuspended self.old.voter self.new.voter }
-        // In a turn in which the history of a peer differs and no majority agrees, it is given no message but those that ask for what is
-        // published, so it doesn't vote, and no client is answered.
+        // In a turn in which the history of a peer differs and no majority agrees, it is given no
+        // message but those that ask for what is published, so it doesn't vote, and no client is
+        // answered.
         ensures outvoted { IsOutvoted self.new → OnlyAnswersAsks self.old self.new }
-        // A node whose folder joins is given no message but those that say what is published, so it doesn't vote, and no client is answered.
+        // A node whose folder joins is given no message but those that say what is published, so it
+        // doesn't vote, and no client is answered.
         ensures joins { IsJoiner self.old → OnlyLearns self.old self.new }
-        // Once what was written is for the next start of the folder, nothing changes: the node is given nothing, and emits no message.
+        // Once what was written is for the next start of the folder, nothing changes: the node is
+        // given nothing, and emits no message.
         ensures over { IsOver self.old → process_of self.new ≡ process_of self.old }
         ensures starts { (F.stands folder.new).starts ≡ (F.stands folder.old).starts }
         ensures begun { (F.stands folder.new).begun ≡ (F.stands folder.old).begun }
-        // What a message of a peer tells of its round and its promise is in the file `heard` before the node is given it.
+        // What a message of a peer tells of its round and its promise is in the file `heard` before
+        // the node is given it.
         ensures heard { IsHeardFirst (F.stands folder.old).heard self.old →
             IsHeardFirst (F.stands folder.new).heard self.new }
         ensures time { time_of self.old ≤ time_of self.new }
@@ -241,8 +249,9 @@ impl<T: Tape + Drop> Hub<T> {
 }
 
 impl<T: Tape + Drop, N: Network + Drop> Hub<T, N> {
-    /// Binds the addresses of a node on a network, at this time in milliseconds. Err: `Http`, `Listen`, `Admin` or `Readers` if that address
-    /// is taken or not permitted, the first one in this order; `Memory` if an allocation fails. The process is dropped then.
+    /// Binds the addresses of a node on a network, at this time in milliseconds. Err: `Http`,
+    /// `Listen`, `Admin` or `Readers` if that address is taken or not permitted, the first one in
+    /// this order; `Memory` if an allocation fails. The process is dropped then.
     pub fn on<R: Net + Clock + AllocGlobal>(
         rt: &R,
         network: N,
@@ -284,8 +293,9 @@ impl<T: Tape + Drop, N: Network + Drop> Hub<T, N> {
         self.time
     }
 
-    /// Whether what was written to the folder is for its next start, so that the process is to end: a replacement of a node became known, or
-    /// the folder has joined. Nothing more is sent or taken in.
+    /// Whether what was written to the folder is for its next start, so that the process is to end:
+    /// a replacement of a node became known, or the folder has joined. Nothing more is sent or
+    /// taken in.
     pub fn is_over(&self) -> bool
         ensures { IsTrue result ↔ IsOver self.now }
     {
@@ -309,16 +319,17 @@ impl<T: Tape + Drop, N: Network + Drop> Hub<T, N> {
         self.clients.always_answered();
     }
 
-    /// Whether the tape has failed and it is time to open it again: after a second, and then every two seconds.
+    /// Whether the tape has failed and it is time to open it again: after a second, and then every
+    /// two seconds.
     pub fn is_reopening_due(&self) -> bool
         ensures { IsTrue result ↔ IsReopeningDue self.now }
     {
         self.voter.process.is_halted() && self.pace.is_reopening_due(self.time)
     }
 
-    /// Opens the node again on the tape of its folder, once it has failed: the node that it was, of as many. Its run ends, and another
-    /// begins, which counts as a start of the folder. Err: why not; nothing has changed but that it is tried again later, and the
-    /// log has the cause.
+    /// Opens the node again on the tape of its folder, once it has failed: the node that it was, of
+    /// as many. Its run ends, and another begins, which counts as a start of the folder. Err: why
+    /// not; nothing has changed but that it is tried again later, and the log has the cause.
     #[tactic(auto, using(crate::proofs::Continuation::keeps_same))]
     pub fn reopen<R: Clock + Eprint + AllocGlobal, F: NodeFolder<T>>(
         &mut self,
@@ -327,7 +338,8 @@ impl<T: Tape + Drop, N: Network + Drop> Hub<T, N> {
         folder: &mut F,
     ) -> Result<(), NotReopened>
         ensures begun { OnOk result (IsJustOpened (process_of self.new)) }
-        // It has stored what it had, or that and the record of the step that failed: whatever is on the tape, and of files too.
+        // It has stored what it had, or that and the record of the step that failed: whatever is on
+        // the tape, and of files too.
         ensures stored { OnOk result
             (HasStoredAs (process_of self.old).actor.node (process_of self.new).actor.node) }
         ensures ended { OnOk result ((process_of self.new).ended.items ≡
@@ -456,8 +468,9 @@ impl<T: Tape + Drop, N: Network + Drop> Hub<T, N> {
         self.pace.note_reopening(self.time);
     }
 
-    /// For how long the next turn may be waited for at most where no socket is ready, in milliseconds: up to the next tick, for a moment
-    /// while digests are to be made, not at all if there is more to do.
+    /// For how long the next turn may be waited for at most where no socket is ready, in
+    /// milliseconds: up to the next tick, for a moment while digests are to be made, not at all if
+    /// there is more to do.
     pub fn patience(&self, time: u64) -> u64
         ensures most { result ≤ 100 }
         ensures busy { IsBusy self.now → result ≡ 0 }
@@ -481,9 +494,10 @@ impl<T: Tape + Drop, N: Network + Drop> Hub<T, N> {
         self.is_busy || (self.voter.acts() && self.voter.process.waiting() != 0)
     }
 
-    /// One turn, at this time in milliseconds: does a bounded part of what there is to do, for the sockets with these tokens and by the
-    /// clock, and waits for nothing. What has to be in the node's folder is written there: that it is suspended at once, and each second
-    /// how far it is. The tokens are of sockets that may be ready; one that isn't costs a look at it.
+    /// One turn, at this time in milliseconds: does a bounded part of what there is to do, for the
+    /// sockets with these tokens and by the clock, and waits for nothing. What has to be in the
+    /// node's folder is written there: that it is suspended at once, and each second how far it is.
+    /// The tokens are of sockets that may be ready; one that isn't costs a look at it.
     pub fn turn<R: Net + Files + Clock + Eprint + AllocGlobal, F: NodeFolder<T>>(
         &mut self,
         rt: &R,
@@ -492,25 +506,31 @@ impl<T: Tape + Drop, N: Network + Drop> Hub<T, N> {
         ready: &[usize],
         time: u64,
     )
-        // Whatever came, the node has lived by its acts, was given only what receivers returned, and sent only what it returned.
+        // Whatever came, the node has lived by its acts, was given only what receivers returned,
+        // and sent only what it returned.
         ensures lived { HasLived T.Tape (process_of self.new) }
-        // Each response that any client was sent is the one to exactly what had come of its request, by a process that had lived.
+        // Each response that any client was sent is the one to exactly what had come of its
+        // request, by a process that had lived.
         ensures answered { HasAnswered T.Tape self.new }
         // It goes on in the run that it was in, as the node that it was.
         ensures on { StaysInRun T.Tape (process_of self.old) (process_of self.new) }
         ensures earlier { KeepsEarlier T.Tape (process_of self.old) (process_of self.new) }
         // A suspended node stays suspended and as it is: it is given nothing, and emits no message.
         ensures suspended { IsSuspended self.old → StaysSuspended self.old.voter self.new.voter }
-        // In a turn in which the history of a peer differs and no majority agrees, it is given no message but those that ask for what is
-        // published, so it doesn't vote, and no client is answered.
+        // In a turn in which the history of a peer differs and no majority agrees, it is given no
+        // message but those that ask for what is published, so it doesn't vote, and no client is
+        // answered.
         ensures outvoted { IsOutvoted self.new → OnlyAnswersAsks self.old self.new }
-        // A node whose folder joins is given no message but those that say what is published, so it doesn't vote, and no client is answered.
+        // A node whose folder joins is given no message but those that say what is published, so it
+        // doesn't vote, and no client is answered.
         ensures joins { IsJoiner self.old → OnlyLearns self.old self.new }
-        // Once what was written is for the next start of the folder, nothing changes: the node is given nothing, and emits no message.
+        // Once what was written is for the next start of the folder, nothing changes: the node is
+        // given nothing, and emits no message.
         ensures over { IsOver self.old → process_of self.new ≡ process_of self.old }
         ensures starts { (F.stands folder.new).starts ≡ (F.stands folder.old).starts }
         ensures begun { (F.stands folder.new).begun ≡ (F.stands folder.old).begun }
-        // What a message of a peer tells of its round and its promise is in the file `heard` before the node is given it.
+        // What a message of a peer tells of its round and its promise is in the file `heard` before
+        // the node is given it.
         ensures heard { IsHeardFirst (F.stands folder.old).heard self.old →
             IsHeardFirst (F.stands folder.new).heard self.new }
         ensures time { time_of self.old ≤ time_of self.new }
@@ -525,8 +545,9 @@ impl<T: Tape + Drop, N: Network + Drop> Hub<T, N> {
         self.always_lived();
     }
 
-    /// Decides how the node acts in this turn. Of a suspended one all ports but the operator's are closed, and where no majority agrees with
-    /// it, or its folder joins, clients and readers are sent away.
+    /// Decides how the node acts in this turn. Of a suspended one all ports but the operator's are
+    /// closed, and where no majority agrees with it, or its folder joins, clients and readers are
+    /// sent away.
     fn judge<R: Clock + Eprint>(&mut self, log: &Log<'_, R>)
         ensures process { process_of self.new ≡ process_of self.old }
         ensures kept { kept_of self.new ≡ kept_of self.old }
@@ -572,7 +593,8 @@ impl<T: Tape + Drop, N: Network + Drop> Hub<T, N> {
         }
     }
 
-    /// Does what is to be done, unless what was written is for the next start of the folder. Returns whether there is more to do.
+    /// Does what is to be done, unless what was written is for the next start of the folder.
+    /// Returns whether there is more to do.
     #[tactic(auto, using(crate::proofs::Continuation::still_in))]
     fn act_unless<R: Net + Files + Clock + Eprint + AllocGlobal, F: NodeFolder<T>>(
         &mut self,
@@ -598,7 +620,8 @@ impl<T: Tape + Drop, N: Network + Drop> Hub<T, N> {
         self.act(rt, log, folder, ready, could_wait)
     }
 
-    /// Does what the sockets that are ready ask for, and what the clock does. Returns whether there is more to do.
+    /// Does what the sockets that are ready ask for, and what the clock does. Returns whether there
+    /// is more to do.
     fn act<R: Net + Files + Clock + Eprint + AllocGlobal, F: NodeFolder<T>>(
         &mut self,
         rt: &R,

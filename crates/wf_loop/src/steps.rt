@@ -1,6 +1,7 @@
 //! How many messages a node took in, and for how long.
 
-/// How many messages a node took in, its own too, and for how many microseconds: what its tape wrote and synced is in it.
+/// How many messages a node took in, its own too, and for how many microseconds: what its tape
+/// wrote and synced is in it.
 #[derive(Clone, Copy, Default)]
 pub(crate) struct Steps {
     pub(crate) number: u64,

@@ -28,8 +28,8 @@ impl Tally {
         }
     }
 
-    /// Counts a response with this status, if it is that a map is rejected: then its body begins with the number of an error. It isn't
-    /// counted if an allocation fails.
+    /// Counts a response with this status, if it is that a map is rejected: then its body begins
+    /// with the number of an error. It isn't counted if an allocation fails.
     pub(crate) fn note(&mut self, alloc: Global, status: u16, response: &[u8]) {
         if status != BAD_REQUEST {
             return;

@@ -176,8 +176,8 @@ fn handle_all_own<R: Clock + Eprint + AllocGlobal, T: Tape + Drop, N: Network>(
     }
 }
 
-/// Delivers the first message of the node to itself. What waits for the peers is written before: they store it while the node does.
-/// Returns whether a message waited.
+/// Delivers the first message of the node to itself. What waits for the peers is written before:
+/// they store it while the node does. Returns whether a message waited.
 #[tactic(auto, using(crate::proofs::Continuation::twice))]
 fn handle_next_own<R: Clock + Eprint + AllocGlobal, T: Tape + Drop, N: Network>(
     context: &Context<'_, '_, R, N>,
@@ -216,8 +216,8 @@ fn serve_clients<R: Clock + Eprint + AllocGlobal, T: Tape + Drop, N: Network>(
     }
 }
 
-/// Answers the next request of a client, if it is whole. What it makes the node send is written to the peers before the client is
-/// written to. Returns whether there was one.
+/// Answers the next request of a client, if it is whole. What it makes the node send is written to
+/// the peers before the client is written to. Returns whether there was one.
 #[tactic(auto, using(crate::proofs::Continuation::twice))]
 fn serve_next<R: Clock + Eprint + AllocGlobal, T: Tape + Drop, N: Network>(
     context: &Context<'_, '_, R, N>,
@@ -274,7 +274,8 @@ fn standing_of<T: Tape + Drop, N: Network>(voter: &Voter<T>, mesh: &Mesh<N>) -> 
     }
 }
 
-/// Answers operators with what is known. Returns what their questions have left to write, if anything.
+/// Answers operators with what is known. Returns what their questions have left to write, if
+/// anything.
 fn serve_facts<R: Files + Clock + Eprint + AllocGlobal, T: Tape + Drop, N: Network>(
     context: &Context<'_, '_, R, N>,
     voter: &Voter<T>,

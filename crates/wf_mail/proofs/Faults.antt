@@ -1,4 +1,5 @@
--- The decoder's error of bytes remains, whatever follows, unless more bytes are needed; part of a message has no error but that.
+-- The decoder's error of bytes remains, whatever follows, unless more bytes are needed; part of a
+-- message has no error but that.
 use Rattle.std.proofs.Common.{◌≡◌, ℕ, Bool, true, false, cond, ltb, List, [], ◌∷◌, ◌++◌, length, take, Option, Some, None, refl, sym, ap, subst, ◌∙◌, length-append, append_assoc, arith, inl, inr}
 use Rattle.std.proofs.lemmas.Bool.{ltb-false, lt-ltb, le-ltb}
 use Rattle.std.proofs.lemmas.List.{take-append-le}
@@ -58,7 +59,8 @@ whole_stays n bytes more few = le-ltb (length (bytes ++ more)) n (omega (arith, 
 same_body : (n : ℕ) (bytes more : List ℕ) → ltb (length bytes) n ≡ false → take n (bytes ++ more) ≡ take n bytes
 same_body n bytes more few = take-append-le n bytes more (ltb-false (length bytes) n few)
 
--- Whatever follows, the first failing check is the same, or still none, unless it was that more bytes are needed.
+-- Whatever follows, the first failing check is the same, or still none, unless it was that more
+-- bytes are needed.
 first_on : (bytes more : List ℕ) (o : Option DecodeFault) → first_fault bytes ≡ o → (o ≡ short → ⊥) → first_fault (bytes ++ more) ≡ o
 unfolding first_fault layout_in length_in
 first_on [] more o e not_short = absurd (not_short (sym e))

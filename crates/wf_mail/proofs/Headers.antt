@@ -1,4 +1,5 @@
--- A header tells how long its message is: part of a message is shorter than that, and stays part of it until it is that long.
+-- A header tells how long its message is: part of a message is shorter than that, and stays part of
+-- it until it is that long.
 use Rattle.std.proofs.Common.{◌≡◌, ◌⊎◌, ℕ, ◌+◌, ◌<◌, ◌≤◌, List, [], ◌∷◌, ◌++◌, length, take, drop, min, true, Some, refl, sym, ap, subst, ◌∙◌, append_assoc, length-append, length-drop, arith, inl, inr}
 use Rattle.std.proofs.Math.Seq.{take-append_seam}
 use Rattle.std.proofs.lemmas.List.{append-nil, nil_from_length, take-append-le, take-append-drop, length-take-le}
@@ -87,7 +88,8 @@ unfinished_on (v ∷ k ∷ a ∷ b ∷ c ∷ d ∷ bytes) more unfinished whole 
 
 -- ---- part of a message begins with none
 
--- a message's encoding, followed by other bytes: the version, the kind, the length of the body, the body
+-- a message's encoding, followed by other bytes: the version, the kind, the length of the body, the
+-- body
 spelled_parts : (m : Message Definition) (spelled after bytes : List ℕ) → Spells m spelled → bytes ≡ spelled ++ after →
     bytes ≡ message_version ∷ (texts m).byte ∷ (to_be_bytes w32 (length (row_bytes (texts m))) ++ (row_bytes (texts m) ++ after))
 unfolding text_spelling frame
@@ -150,7 +152,8 @@ filled_on rest piece mid between new left first second =
 
 -- ---- the rest with the bytes moved behind it
 
--- Part of a message, with bytes behind it, that is still shorter than its header tells: all of the piece was moved.
+-- Part of a message, with bytes behind it, that is still shorter than its header tells: all of the
+-- piece was moved.
 pub all_moved : (rest piece new left : List ℕ) → IsFilled rest piece new left (known_length new) → length new < known_length new → rest ++ piece ≡ new
 all_moved rest piece new left filled short =
     elim filled.enough [

@@ -1,4 +1,5 @@
--- A piece joined to the rest before it: where the message that begins in the rest ends, the piece's own messages begin.
+-- A piece joined to the rest before it: where the message that begins in the rest ends, the piece's
+-- own messages begin.
 use Rattle.std.proofs.Common.{◌≡◌, ℕ, ◌+◌, ◌-◌, ◌<◌, ◌≤◌, List, [], ◌∷◌, ◌++◌, length, map, take, drop, refl, sym, ap, subst, ◌∙◌, length-append, arith, inl, inr, Result, Ok, Err}
 use Rattle.std.proofs.Math.Seq.{drop-append-add}
 use Rattle.std.proofs.lemmas.List.{take-append-drop, take-append-le, take-take}

@@ -16,7 +16,8 @@ abbrev pub state_of : Option DecodeFault → List ℕ → InboxState
 state_of None rest = Open rest
 state_of (Some fault) rest = Failed fault
 
--- An open inbox keeps nothing or part of a message. A failed one keeps no bytes, and an error of the stream.
+-- An open inbox keeps nothing or part of a message. A failed one keeps no bytes, and an error of
+-- the stream.
 abbrev pub IsInbox : Option DecodeFault → List ℕ → Type 0
 IsInbox None rest = IsUnfinishedPart rest
 IsInbox (Some fault) rest = IsLastingFault fault × (rest ≡ [])
@@ -26,13 +27,14 @@ abbrev pub pending_bytes : InboxState → ℕ
 pending_bytes (Open rest) = length rest
 pending_bytes (Failed fault) = 0
 
--- The rest before, followed by the piece, is these messages followed by the rest after, which begins with none.
+-- The rest before, followed by the piece, is these messages followed by the rest after, which
+-- begins with none.
 abbrev pub IsFed : InboxState → List ℕ → List (Message Definition) → InboxState → Type 0
 IsFed (Open rest) piece messages (Open after) = Reads (rest ++ piece) messages after
 IsFed before piece messages after = ⊥
 
--- The rest before, followed by the piece, is whole messages followed by bytes with this error, or it is the error of an earlier
--- call; it is kept.
+-- The rest before, followed by the piece, is whole messages followed by bytes with this error, or
+-- it is the error of an earlier call; it is kept.
 abbrev pub IsBroken : InboxState → List ℕ → DecodeFault → InboxState → Type 0
 IsBroken (Open rest) piece fault after = Breaks (rest ++ piece) fault × (after ≡ Failed fault)
 IsBroken (Failed earlier) piece fault after = (fault ≡ earlier) × (after ≡ Failed earlier)

@@ -19,7 +19,8 @@ AreMessages (m ∷ messages) = IsMessage m × AreMessages messages
 abbrev pub IsBeginning : {A : Type 0} → List A → List A → Type 0
 IsBeginning {A} xs ys = (rest : List A) × (xs ++ rest ≡ ys)
 
--- These bytes came of a connection into which the messages were put: a beginning of their encodings. The rest comes later, or never.
+-- These bytes came of a connection into which the messages were put: a beginning of their
+-- encodings. The rest comes later, or never.
 pub record IsCarried (put : List (Message Definition)) (bytes : List ℕ) : Type 0 where
   pub messages : AreMessages put
   pub begins : IsBeginning bytes (spelled put)

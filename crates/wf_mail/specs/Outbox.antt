@@ -7,8 +7,8 @@ use Rattle.wf_def.specs.Definition.{Definition}
 use Rattle.wf_model.specs.Message.{Message}
 use Rattle.wf_mail.specs.Mail.{spelled, AreMessages}
 
--- The messages that were put in; of their encodings the bytes that were written out, and those that wait; the most bytes that may
--- wait; and how many more bytes it takes without an allocation.
+-- The messages that were put in; of their encodings the bytes that were written out, and those that
+-- wait; the most bytes that may wait; and how many more bytes it takes without an allocation.
 pub record OutboxState : Type 0 where
   pub put : List (Message Definition)
   pub written : List ℕ
@@ -38,8 +38,8 @@ state_of log front done queue limit spare = record {
   spare = spare;
 }
 
--- What waits is the end of the encodings of what was put in, and within the limit. Nothing stands behind a first buffer that is
--- written out whole.
+-- What waits is the end of the encodings of what was put in, and within the limit. Nothing stands
+-- behind a first buffer that is written out whole.
 pub record IsOutbox (put : List (Message Definition)) (front : List ℕ) (done : ℕ) (queue : List ℕ) (limit : ℕ) : Type 0 where
   pub messages : AreMessages put
   pub ends : (written : List ℕ) × (written ++ waiting_in front done queue ≡ spelled put)
@@ -47,7 +47,8 @@ pub record IsOutbox (put : List (Message Definition)) (front : List ℕ) (done :
   pub in_turn : done ≡ length front → queue ≡ []
   pub bounded : length (waiting_in front done queue) ≤ limit
 
--- The message was put in: it is the last one, its encoding waits behind all others, and there was room for it.
+-- The message was put in: it is the last one, its encoding waits behind all others, and there was
+-- room for it.
 pub record IsPut (before : OutboxState) (m : Message Definition) (after : OutboxState) : Type 0 where
   pub put : after.put ≡ before.put ++ m ∷ []
   pub written : after.written ≡ before.written
@@ -55,7 +56,8 @@ pub record IsPut (before : OutboxState) (m : Message Definition) (after : Outbox
   pub limit : after.limit ≡ before.limit
   pub room : length before.waiting + length (spelling m) ≤ before.limit
 
--- As many messages were put in and bytes written out, the very same; only the room without an allocation may differ.
+-- As many messages were put in and bytes written out, the very same; only the room without an
+-- allocation may differ.
 pub record IsUnchanged (before after : OutboxState) : Type 0 where
   pub put : after.put ≡ before.put
   pub written : after.written ≡ before.written

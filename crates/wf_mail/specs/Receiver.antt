@@ -17,7 +17,8 @@ abbrev pub is_memory : DecodeFault → Bool
 is_memory Memory = true
 is_memory fault = false
 
--- the messages that came, and the bytes after the last of them; or the messages that came before an error, and that error
+-- the messages that came, and the bytes after the last of them; or the messages that came before an
+-- error, and that error
 pub data ReceiverState : Type 0 where
   Open : (came : List (Message Definition)) (rest : List ℕ) → ReceiverState
   Closed : (came : List (Message Definition)) (fault : DecodeFault) → ReceiverState
@@ -51,13 +52,14 @@ abbrev pub IsOpen : ReceiverState → Type 0
 IsOpen (Open messages rest) = Unit {0}
 IsOpen (Closed messages fault) = ⊥
 
--- These messages came out, in order; with the rest they are the bytes of the rest before and of the piece.
+-- These messages came out, in order; with the rest they are the bytes of the rest before and of the
+-- piece.
 abbrev pub IsReceived : ReceiverState → List ℕ → List (Message Definition) → ReceiverState → Type 0
 IsReceived (Open before rest) piece messages (Open after rest_after) = (after ≡ before ++ messages) × Reads (rest ++ piece) messages rest_after
 IsReceived before piece messages after = ⊥
 
--- The receiver closed with the error, or was closed with it. Unless an allocation failed, the bytes taken and the piece are whole
--- messages and then bytes with this error.
+-- The receiver closed with the error, or was closed with it. Unless an allocation failed, the bytes
+-- taken and the piece are whole messages and then bytes with this error.
 abbrev pub IsClosed : ReceiverState → List ℕ → DecodeFault → ReceiverState → Type 0
 IsClosed (Open before rest) piece fault after = (after ≡ Closed before fault) × (fault ≢ Memory → Breaks ((spelled before ++ rest) ++ piece) fault)
 IsClosed (Closed before earlier) piece fault after = (fault ≡ earlier) × (after ≡ Closed before earlier)

@@ -22,7 +22,8 @@ pub record IsUnfinishedPart (bytes : List ℕ) : Type 0 where
   pub longest : BeginsWithNone bytes
   pub unfinished : IsUnfinished bytes
 
--- these are all the whole messages that the stream begins with, and the rest is empty or part of a message
+-- these are all the whole messages that the stream begins with, and the rest is empty or part of a
+-- message
 pub record Reads (stream : List ℕ) (messages : List (Message Definition)) (rest : List ℕ) : Type 0 where
   pub splits : Splits stream messages rest
   pub part : IsUnfinishedPart rest

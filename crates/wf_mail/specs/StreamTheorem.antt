@@ -1,4 +1,5 @@
--- The theorems about streams: how a stream splits into messages, and that it doesn't matter where it is cut.
+-- The theorems about streams: how a stream splits into messages, and that it doesn't matter where
+-- it is cut.
 use Rattle.std.specs.Prelude.{◌≡◌, List, ◌++◌, ℕ}
 use Rattle.wf_def.specs.Definition.{Definition}
 use Rattle.wf_model.specs.Message.{Message}

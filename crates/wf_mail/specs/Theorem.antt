@@ -6,7 +6,8 @@ use Rattle.wf_mail.specs.Stream.{Splits, Reads, Breaks}
 use Rattle.wf_codec.specs.declared.fault.DecodeFault.{DecodeFault}
 use Rattle.wf_mail.specs.Mail.{spelled, AreMessages, IsBeginning, IsCarried}
 
--- Of a connection only messages come that were put in, in order, none skipped, repeated or invented.
+-- Of a connection only messages come that were put in, in order, none skipped, repeated or
+-- invented.
 abbrev pub OnlySentCome : Type 0
 OnlySentCome = (put came : List (Message Definition)) (bytes rest : List ℕ) → IsCarried put bytes → Splits bytes came rest → IsBeginning came put
 

@@ -6,8 +6,8 @@ ghost use Rattle.wf_mail.specs.Header.{known_length, IsFilled};
 use std::alloc::AllocError;
 use wf_codec::{BODY_BYTES, HEADER_BYTES};
 
-/// The number of bytes of the message at the front: that of the header until the header is whole, then with the body that it
-/// states, which is taken to be no longer than the longest.
+/// The number of bytes of the message at the front: that of the header until the header is whole,
+/// then with the body that it states, which is taken to be no longer than the longest.
 #[tactic(auto, unfolding(crate::specs::Header::known_length))]
 pub fn known_length(bytes: &[u8]) -> usize
     ensures { result ≡ known_length bytes.now }
@@ -20,8 +20,8 @@ pub fn known_length(bytes: &[u8]) -> usize
     }
 }
 
-/// Moves the piece's first bytes behind the rest until the message there is whole, as far as its header tells, or none are left.
-/// After allocation failure some may have been moved.
+/// Moves the piece's first bytes behind the rest until the message there is whole, as far as its
+/// header tells, or none are left. After allocation failure some may have been moved.
 #[tactic(auto, using(crate::proofs::Headers::filled_on, crate::proofs::Headers::front_stays))]
 pub fn complete(rest: &mut Vec<u8>, piece: &[u8]) -> Result<(), AllocError>
     ensures ok { OnOk result ((left : _) ×
@@ -33,7 +33,8 @@ pub fn complete(rest: &mut Vec<u8>, piece: &[u8]) -> Result<(), AllocError>
     Ok(())
 }
 
-/// Moves the piece's first bytes behind the rest until it has that length or none are left, and returns what is left.
+/// Moves the piece's first bytes behind the rest until it has that length or none are left, and
+/// returns what is left.
 #[tactic(auto, using(crate::proofs::Headers::filled_by))]
 fn fill<'a>(rest: &mut Vec<u8>, piece: &'a [u8], length: usize) -> Result<&'a [u8], AllocError>
     ensures ok { IfOk result (λ left.

@@ -11,7 +11,8 @@ use wf_codec::{BODY_BYTES, DecodeFault, HEADER_BYTES, Message};
 /// The length of the longest message, in bytes: an inbox keeps fewer.
 pub const MESSAGE_BYTES: usize = HEADER_BYTES + BODY_BYTES;
 
-/// The receiving end of a stream of messages. Model: open with the bytes after the last whole message, or failed with its error.
+/// The receiving end of a stream of messages. Model: open with the bytes after the last whole
+/// message, or failed with its error.
 #[derive(Drop)]
 pub struct Inbox {
     alloc: Global,
@@ -41,18 +42,21 @@ impl Inbox {
         }
     }
 
-    /// The messages that the piece completes, in order. What follows the last of them is kept for the next piece.
+    /// The messages that the piece completes, in order. What follows the last of them is kept for
+    /// the next piece.
     ///
-    /// An error C1 to C5 is that of the bytes after the last whole message; that call's messages are lost, and each later call
-    /// returns the same error. After `Memory` the inbox is unchanged, and may be fed the same piece again.
+    /// An error C1 to C5 is that of the bytes after the last whole message; that call's messages
+    /// are lost, and each later call returns the same error. After `Memory` the inbox is unchanged,
+    /// and may be fed the same piece again.
     #[tactic(auto, using(crate::proofs::Headers::part_within))]
     pub fn feed(&mut self, piece: &[u8]) -> Result<Vec<Message>, DecodeFault>
-        // The rest before, followed by the piece, is the encodings of the messages followed by the rest after. That begins with
-        // no whole message, and has no error so far.
+        // The rest before, followed by the piece, is the encodings of the messages followed by the
+        // rest after. That begins with no whole message, and has no error so far.
         ensures ok { IfOk result (λ messages.
             IsFed self.old piece.now (map view messages.items) self.new) }
 
-        // The rest before, followed by the piece, is whole messages followed by bytes with this error; it is kept.
+        // The rest before, followed by the piece, is whole messages followed by bytes with this
+        // error; it is kept.
         ensures broken { IfErr result (λ fault. fault ≢ DecodeFault.Memory →
             IsBroken self.old piece.now fault self.new) }
 

@@ -15,8 +15,8 @@ use wf_codec::Message;
 use wf_past::Past;
 use wf_stream::Sink;
 
-/// The sending end of a connection, bounded in bytes. Model: the messages that were put in, and of their encodings the bytes that
-/// were written out and those that wait.
+/// The sending end of a connection, bounded in bytes. Model: the messages that were put in, and of
+/// their encodings the bytes that were written out and those that wait.
 #[derive(Drop)]
 pub struct Outbox {
     // the bytes to be written next, of which the first `done` are
@@ -56,8 +56,8 @@ impl Outbox {
         }
     }
 
-    /// Puts the whole message in, or drops it. A message is dropped if there is no room for it, or if an allocation fails, which
-    /// needs more bytes than are spare; nothing else changes then.
+    /// Puts the whole message in, or drops it. A message is dropped if there is no room for it, or
+    /// if an allocation fails, which needs more bytes than are spare; nothing else changes then.
     pub fn put(&mut self, message: &Message) -> Result<(), Dropped>
         ensures ok { OnOk result (IsPut self.old (view message.now) self.new) }
         ensures dropped { OnErr result (IsUnchanged self.old self.new) }
@@ -97,7 +97,8 @@ impl Outbox {
         skip(&mut self.front, &mut self.done, &mut self.queue, count);
     }
 
-    /// Writes once, and returns how many bytes were written: none only if none wait. After a failed write nothing has changed.
+    /// Writes once, and returns how many bytes were written: none only if none wait. After a failed
+    /// write nothing has changed.
     pub fn write_to<S: Sink>(&mut self, sink: &mut S) -> io::Result<usize>
         ensures within { IfOk result (λ count. count ≤ length self.old.waiting) }
         ensures some { IfOk result (λ count. 0 < length self.old.waiting → 0 < count) }
@@ -114,7 +115,8 @@ impl Outbox {
         Ok(count)
     }
 
-    /// What was written out, and then what waits, is the encodings of what was put in, always. The call does nothing.
+    /// What was written out, and then what waits, is the encodings of what was put in, always. The
+    /// call does nothing.
     pub fn always_spells(&self)
         ensures messages { AreMessages self.now.put }
         ensures spells { self.now.written ++ self.now.waiting ≡ spelled self.now.put }

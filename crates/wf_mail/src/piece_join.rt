@@ -9,8 +9,8 @@ use crate::whole_messages::{read_next, read_whole};
 use std::alloc::Global;
 use wf_codec::{DecodeFault, HEADER_BYTES, Message};
 
-/// Appends the messages that the piece completes to the empty list, and keeps what follows them in place of the rest. After
-/// allocation failure the rest is unchanged.
+/// Appends the messages that the piece completes to the empty list, and keeps what follows them in
+/// place of the rest. After allocation failure the rest is unchanged.
 pub fn take_in(
     alloc: Global,
     messages: &mut Vec<Message>,
@@ -38,7 +38,8 @@ pub fn take_in(
     }
 }
 
-/// Takes in a piece behind a rest that isn't empty. After allocation failure some bytes of the piece may follow the rest.
+/// Takes in a piece behind a rest that isn't empty. After allocation failure some bytes of the
+/// piece may follow the rest.
 #[tactic(auto, using(crate::proofs::Joined::still_part, crate::proofs::Joined::still_none, crate::proofs::Joined::ends_behind, crate::proofs::Joined::ends_within, crate::proofs::Joined::ends_there, crate::proofs::Joined::wrong_in, crate::proofs::Headers::front_stays))]
 fn join(
     alloc: Global,
@@ -66,7 +67,8 @@ fn join(
     }
 }
 
-/// Appends the whole messages of the piece, and keeps what follows them in place of the rest. After an error the rest is unchanged.
+/// Appends the whole messages of the piece, and keeps what follows them in place of the rest. After
+/// an error the rest is unchanged.
 fn keep_after(
     alloc: Global,
     messages: &mut Vec<Message>,

@@ -9,8 +9,8 @@ use std::marker::Model;
 use wf_codec::{DecodeFault, Message};
 use wf_past::Past;
 
-/// The receiving end of a connection. Model: the messages that came, and the bytes after the last of them; or, once it is closed,
-/// the messages that came before the error, and the error.
+/// The receiving end of a connection. Model: the messages that came, and the bytes after the last
+/// of them; or, once it is closed, the messages that came before the error, and the error.
 #[derive(Drop)]
 pub struct Receiver {
     inbox: Inbox,
@@ -41,10 +41,11 @@ impl Receiver {
         }
     }
 
-    /// The messages that the piece completes, in order. What follows the last of them is kept for the next piece.
+    /// The messages that the piece completes, in order. What follows the last of them is kept for
+    /// the next piece.
     ///
-    /// After an error the receiver is closed, and each later call returns the same error: of `Memory` too, since a caller has no
-    /// piece a second time.
+    /// After an error the receiver is closed, and each later call returns the same error: of
+    /// `Memory` too, since a caller has no piece a second time.
     pub fn receive(&mut self, piece: &[u8]) -> Result<Vec<Message>, DecodeFault>
         ensures ok { IfOk result (λ messages.
             IsReceived self.old piece.now (map view messages.items) self.new) }
@@ -66,7 +67,8 @@ impl Receiver {
         }
     }
 
-    /// What came is all the whole messages that the bytes taken begin with, always. The call does nothing.
+    /// What came is all the whole messages that the bytes taken begin with, always. The call does
+    /// nothing.
     pub fn always_reads(&self)
         ensures { (rest : List ℕ) × Reads (taken self.now) (came self.now) rest }
     {

@@ -13,17 +13,18 @@ use crate::receiver::Receiver;
 use std::alloc::Global;
 use wf_codec::{DecodeFault, Message};
 
-/// Of a connection that carries a beginning of what was put in, only messages come that were put in, in order, none skipped,
-/// repeated or invented; all of them once all bytes came; and never an error. Theorems about the definitions: the call does
-/// nothing.
+/// Of a connection that carries a beginning of what was put in, only messages come that were put
+/// in, in order, none skipped, repeated or invented; all of them once all bytes came; and never an
+/// error. Theorems about the definitions: the call does nothing.
 pub fn only_sent_messages_come()
     ensures only { OnlySentCome }
     ensures all { AllSentCome }
     ensures unbroken { NeverBreaks }
 {}
 
-/// The theorem for the ends of one connection. If the receiver took a beginning of what the outbox wrote out, a beginning of the
-/// messages that were put in came; and all of them if it took all, and nothing waits. The call does nothing.
+/// The theorem for the ends of one connection. If the receiver took a beginning of what the outbox
+/// wrote out, a beginning of the messages that were put in came; and all of them if it took all,
+/// and nothing waits. The call does nothing.
 pub fn came_of_what_was_put(outbox: &Outbox, receiver: &Receiver)
     ensures only { IsBeginning (taken receiver.now) outbox.now.written →
         IsBeginning (came receiver.now) outbox.now.put }
@@ -34,8 +35,9 @@ pub fn came_of_what_was_put(outbox: &Outbox, receiver: &Receiver)
     receiver.always_reads();
 }
 
-/// Carries all bytes that wait from an outbox to a receiver of the same process, at most `most` at a time, however that cuts the
-/// messages: all that were put in come. Err: an allocation failed, and the receiver is closed.
+/// Carries all bytes that wait from an outbox to a receiver of the same process, at most `most` at
+/// a time, however that cuts the messages: all that were put in come. Err: an allocation failed,
+/// and the receiver is closed.
 pub fn carry_over(
     outbox: &mut Outbox,
     receiver: &mut Receiver,

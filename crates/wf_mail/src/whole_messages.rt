@@ -8,7 +8,8 @@ ghost use Rattle.wf_mail.specs.FrontMessage.{TakesOne, TakesNone};
 use std::alloc::Global;
 use wf_codec::{DecodeFault, Message, decode};
 
-/// Appends the whole messages that the bytes begin with, and returns what follows them: part of a message at most.
+/// Appends the whole messages that the bytes begin with, and returns what follows them: part of a
+/// message at most.
 #[tactic(auto, using(crate::proofs::WholeMessages::splits_one_more, crate::proofs::WholeMessages::left_is_less, crate::proofs::WholeMessages::read_to, crate::proofs::WholeMessages::broken_at, crate::proofs::WholeMessages::read_to_end))]
 pub fn read_whole<'a>(
     alloc: Global,
@@ -31,7 +32,8 @@ pub fn read_whole<'a>(
     Ok(rest)
 }
 
-/// Appends the message at the front of the bytes, and returns its length; None if more bytes are needed.
+/// Appends the message at the front of the bytes, and returns its length; None if more bytes are
+/// needed.
 #[tactic(auto, using(crate::proofs::WholeMessages::next_taken))]
 pub fn read_next(
     alloc: Global,

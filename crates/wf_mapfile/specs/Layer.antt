@@ -58,7 +58,8 @@ layer_dropped settings = step_by (
     (codes "UNITS", once settings.units text (λ x. record settings { units = Some tt })) ∷
     (codes "TEMPLATE", once settings.template text (λ x. record settings { template = Some tt })) ∷ [])
 
--- the slots after a keyword that comes at most once, given the layers before: a name differs from theirs
+-- the slots after a keyword that comes at most once, given the layers before: a name differs from
+-- theirs
 unfoldable pub layer_once : List (List ℕ × LayerDefinition) → LayerOnce → List ℕ → List Token → Option (LayerOnce × List Token)
 layer_once others settings = step_or (
     (codes "NAME", once settings.name (new_name others) (λ x. record settings { name = Some x })) ∷
@@ -69,7 +70,8 @@ layer_once others settings = step_or (
     (codes "METADATA", once settings.metadata metadata (λ x. record settings { metadata = Some x })) ∷ [])
     (λ keyword tokens. put_into (λ x. record settings { dropped = x }) (layer_dropped settings.dropped keyword tokens))
 
--- the slots after a keyword, given the layers before: at most as many features and points as are left for the map
+-- the slots after a keyword, given the layers before: at most as many features and points as are
+-- left for the map
 unfoldable pub layer_put : List (List ℕ × LayerDefinition) → LayerSlots → List ℕ → List Token → Option (LayerSlots × List Token)
 layer_put others settings = step_or (
     (codes "CLASS", again most_classes settings.classes class (λ more. record settings { classes = more })) ∷
@@ -85,7 +87,8 @@ no_layer_once = record { name = None; kind = None; class_item = None; label_item
 abbrev pub no_layer : LayerSlots
 no_layer = record { classes = []; features = []; single = no_layer_once }
 
--- the layer of the slots, with its name: NAME and TYPE are required, the title defaults to the name, other texts to empty
+-- the layer of the slots, with its name: NAME and TYPE are required, the title defaults to the
+-- name, other texts to empty
 unfoldable pub layer_of : LayerSlots → Option (List ℕ × LayerDefinition)
 layer_of settings = do
   name ← settings.single.name

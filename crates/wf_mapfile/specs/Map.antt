@@ -80,7 +80,8 @@ no_map_once = record { name = None; extent = None; projection = None; web = None
 abbrev pub no_map : MapSlots
 no_map = record { layers = []; single = no_map_once }
 
--- a map's definition, with defaults for what is absent: the name is `map`, the title is the name, the abstract is empty
+-- a map's definition, with defaults for what is absent: the name is `map`, the title is the name,
+-- the abstract is empty
 unfoldable pub definition : Option (List ℕ) → ExtentValue → Projection → kept.Metadata → List (List ℕ × LayerDefinition) → Definition
 definition name extent projection web layers = let name = unwrap_or name (codes "map") in record {
   name = name;

@@ -79,8 +79,8 @@ impl LayerSlots {
         Ok(())
     }
 
-    /// Reads a feature of at most `left` points and appends it to those before, if there are less than `most`. Returns the number
-    /// of its points.
+    /// Reads a feature of at most `left` points and appends it to those before, if there are less
+    /// than `most`. Returns the number of its points.
     fn take_feature(
         &mut self,
         most: usize,
@@ -124,8 +124,8 @@ fn class_room(classes: &Classes) -> Result<(), MapFault>
 }
 
 impl LayerOnce {
-    /// Reads the arguments of a keyword that comes at most once, and stores them. The name must differ from those of the layers
-    /// before.
+    /// Reads the arguments of a keyword that comes at most once, and stores them. The name must
+    /// differ from those of the layers before.
     #[tactic(auto, unfolding(crate::specs::Layer::layer_once))]
     fn take(
         &mut self,
@@ -409,8 +409,8 @@ fn title_or(metadata: Option<Metadata>, name: &Text) -> Result<Text, AllocError>
     }
 }
 
-/// Reads a layer up to its END (MapServer mapfile reference, LAYER), after other layers: its name differs from theirs, and it
-/// has at most as many features and points as are left for the map.
+/// Reads a layer up to its END (MapServer mapfile reference, LAYER), after other layers: its name
+/// differs from theirs, and it has at most as many features and points as are left for the map.
 #[tactic(auto, unfolding(crate::specs::Layer::layer))]
 pub fn read_layer(parser: &mut Parser<'_>, others: &Layers) -> Result<LayerRead, MapFault>
     ensures read { Gives (λ l. ((l.name, l.layer), parser.new)) result
@@ -451,7 +451,8 @@ fn read_new_name(parser: &mut Parser<'_>, others: &Layers) -> Result<LayerName, 
     Ok(name)
 }
 
-/// Reads a layer's name: a text that isn't empty and has no comma (MapServer mapfile reference, LAYER NAME).
+/// Reads a layer's name: a text that isn't empty and has no comma (MapServer mapfile reference,
+/// LAYER NAME).
 #[tactic(auto, unfolding(crate::specs::Layer::layer_name))]
 fn read_layer_name(parser: &mut Parser<'_>) -> Result<LayerName, MapFault>
     ensures { Gives (λ name. (name, parser.new)) result (layer_name parser.old) }
@@ -473,7 +474,8 @@ fn read_layer_kind(parser: &mut Parser<'_>) -> Result<LayerKind, MapFault>
     ])
 }
 
-/// Reads the names of the features' attributes (MapServer mapfile reference, PROCESSING): what follows `ITEMS=` in a text.
+/// Reads the names of the features' attributes (MapServer mapfile reference, PROCESSING): what
+/// follows `ITEMS=` in a text.
 #[tactic(auto, unfolding(crate::specs::Layer::processing))]
 fn read_attribute_names(parser: &mut Parser<'_>) -> Result<Text, MapFault>
     ensures { Gives (λ t. (t, parser.new)) result (processing parser.old) }

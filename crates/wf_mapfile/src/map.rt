@@ -251,8 +251,8 @@ fn read_two_numbers(parser: &mut Parser<'_>) -> Result<(), MapFault>
     Ok(())
 }
 
-/// Reads a box (MapServer mapfile reference, EXTENT). If its minima aren't below its maxima, it is out of range at the
-/// keyword.
+/// Reads a box (MapServer mapfile reference, EXTENT). If its minima aren't below its maxima, it is
+/// out of range at the keyword.
 #[tactic(auto, unfolding(crate::specs::Map::extent))]
 fn read_extent(parser: &mut Parser<'_>, keyword: usize) -> Result<Extent, MapFault>
     ensures { Gives (λ e. (e, parser.new)) result (extent parser.old) }

@@ -42,8 +42,9 @@ impl Metadata {
     }
 }
 
-/// Reads a block of pairs of texts up to its END (MapServer mapfile reference, METADATA). Keys are compared without regard to
-/// ASCII letter case, and no key may come twice, whether its value is kept or not.
+/// Reads a block of pairs of texts up to its END (MapServer mapfile reference, METADATA). Keys are
+/// compared without regard to ASCII letter case, and no key may come twice, whether its value is
+/// kept or not.
 pub fn read_metadata(parser: &mut Parser<'_>) -> Result<Metadata, MapFault>
     ensures { Gives (λ m. (m, parser.new)) result (metadata parser.old) }
 {
@@ -71,7 +72,8 @@ fn read_kept(parser: &mut Parser<'_>) -> Result<Metadata, MapFault>
     }
 }
 
-/// Reads pairs up to END, each with a key that differs from those before it, and stores their values.
+/// Reads pairs up to END, each with a key that differs from those before it, and stores their
+/// values.
 #[tactic(auto, using(crate::proofs::Pairs::collect_step, crate::proofs::Pairs::collect_past))]
 fn read_pairs(
     parser: &mut Parser<'_>,

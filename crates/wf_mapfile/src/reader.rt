@@ -21,10 +21,12 @@ pub fn limit_of_mapfiles()
     ensures { MOST_MAPFILE_BYTES ≡ longest_mapfile }
 {}
 
-/// Reads a mapfile (MapServer mapfile reference): returns its meaning, or the first error from the left.
+/// Reads a mapfile (MapServer mapfile reference): returns its meaning, or the first error from the
+/// left.
 ///
-/// `TooLong` is checked first and `NotUtf8` second, both without allocating; then tokens are checked in order, and a missing
-/// keyword at the END of its block. `Memory` says nothing about the file. Each byte is looked at a bounded number of times.
+/// `TooLong` is checked first and `NotUtf8` second, both without allocating; then tokens are
+/// checked in order, and a missing keyword at the END of its block. `Memory` says nothing about the
+/// file. Each byte is looked at a bounded number of times.
 #[tactic(auto, using(crate::proofs::RejectionTheorem::has_error, crate::proofs::RejectionTheorem::not_utf8))]
 pub fn read(alloc: Global, bytes: &[u8]) -> Result<MapDef, MapFault>
     // Over that length nothing else is checked.
@@ -36,8 +38,9 @@ pub fn read(alloc: Global, bytes: &[u8]) -> Result<MapDef, MapFault>
     ensures meant { IfOk result (λ map. Means bytes.now map) }
     // An error other than allocation failure is returned only if the bytes mean no map.
     ensures refused { IfErr result (λ fault. is_memory fault ≡ false → MeansNothing bytes.now) }
-    // It is that of the bytes, as far as the definition says which: so M3 with its offset, M9 for a text without a token, M5 for one
-    // that begins with another token than MAP, and M12 for a map with a token after it.
+    // It is that of the bytes, as far as the definition says which: so M3 with its offset, M9 for a
+    // text without a token, M5 for one that begins with another token than MAP, and M12 for a map
+    // with a token after it.
     ensures reported { IfErr result (λ fault. is_memory fault ≡ false → HasError bytes.now fault) }
 {
     let mut place = Place::front();
@@ -49,11 +52,13 @@ pub fn read(alloc: Global, bytes: &[u8]) -> Result<MapDef, MapFault>
 pub struct Rejection {
     /// The first error from the left.
     pub fault: MapFault,
-    /// Where the reader was when it found the error; the front of the file for an error that is checked before its tokens.
+    /// Where the reader was when it found the error; the front of the file for an error that is
+    /// checked before its tokens.
     pub place: Place,
 }
 
-/// Reads a mapfile like [`read`], for a report: an error comes with the block and the keyword where it was found.
+/// Reads a mapfile like [`read`], for a report: an error comes with the block and the keyword where
+/// it was found.
 #[tactic(auto, using(crate::proofs::RejectionTheorem::has_error))]
 pub fn read_with_place(alloc: Global, bytes: &[u8]) -> Result<MapDef, Rejection>
     ensures meant { IfOk result (λ map. Means bytes.now map) }
@@ -105,8 +110,8 @@ fn check_utf8(bytes: &[u8]) -> Result<(), MapFault>
     }
 }
 
-/// The first error of a file whose tokens end at an error: the parser's, unless the parser reached that byte offset. Allocation
-/// failure is returned only if the parser's allocation failed.
+/// The first error of a file whose tokens end at an error: the parser's, unless the parser reached
+/// that byte offset. Allocation failure is returned only if the parser's allocation failed.
 fn first_fault(parsed: Result<MapDef, MapFault>, no_tokens: bool, lexed: LexFault) -> MapFault
     ensures { is_memory result ≡ true → parsed ≡ Err result }
 {

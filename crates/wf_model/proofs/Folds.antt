@@ -63,7 +63,8 @@ abbrev ArePromised : {V : Type 0} → DurableState V → Type 0
 ArePromised {V} stored = (t : ℕ) (vote : Vote V) → stored.votes t ≡ Some vote → NotBelow stored.promise vote.ballot
 
 module _ {V : Type 0} (stored : DurableState V) (known : ArePromised stored) where
-  -- The vote comes with a promise that reaches its ballot; what the promise wasn't below, a raised one isn't below either.
+  -- The vote comes with a promise that reaches its ballot; what the promise wasn't below, a raised
+  -- one isn't below either.
   accepted_kept : (s : ℕ) (b : Ballot) (d : V) (is_open : Bool) → nat_lt (published stored) s ≡ is_open → ArePromised (with_record stored (Accepted s b d))
   unfolding with_record
   accepted_kept s b d true e =

@@ -1,4 +1,5 @@
--- What is voted, chosen and published in a world, by the messages that were sent and the nodes' histories.
+-- What is voted, chosen and published in a world, by the messages that were sent and the nodes'
+-- histories.
 use Rattle.std.specs.Prelude.{◌≡◌, ◌⊎◌, ℕ, zero, suc, List, [], ◌∷◌, length, slice_get, Option, Some, None}
 use Rattle.wf_ballot.specs.Ballot.{Ballot}
 use Rattle.wf_ballot.specs.Majority.{Majority}
@@ -15,12 +16,14 @@ pub record Voted {V : Type 0} (sent : List (Message V)) (s : ℕ) (b : Ballot) (
   pub stated : IsIn (Accepted i s b) sent
   pub asked : IsIn (Accept s b d) sent
 
--- A list of votes, that at `base` first, reports this for the sequence: a vote there, or that there is none.
+-- A list of votes, that at `base` first, reports this for the sequence: a vote there, or that there
+-- is none.
 abbrev pub Reports : {V : Type 0} → ℕ → List (Option (Vote V)) → ℕ → Option (Vote V) → Type 0
 Reports base [] s vote = ⊥
 Reports base (first ∷ rest) s vote = ((s ≡ base) × (first ≡ vote)) ⊎ Reports (suc base) rest s vote
 
--- Node i promised at the ballot from `base` on, and reported this for the sequence: its vote there, or that it has none.
+-- Node i promised at the ballot from `base` on, and reported this for the sequence: its vote there,
+-- or that it has none.
 pub record Reported {V : Type 0} (sent : List (Message V)) (base s : ℕ) (b : Ballot) (vote : Option (Vote V)) (i : ℕ) : Type 0 where
   pub votes : List (Option (Vote V))
   pub stated : IsIn (Promise i base b votes) sent

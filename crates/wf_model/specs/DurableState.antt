@@ -10,8 +10,8 @@ pub data Record (V : Type 0) : Type 0 where
   Accepted : (sequence : ℕ) (ballot : Ballot) (definition : V) → Record V
   Published : (sequence : ℕ) (definition : V) → Record V
 
--- The state of a tape: the last round that the node tried, its promise, which is one for all sequences, its vote at each
--- sequence, and the published definitions, sequence 1 first.
+-- The state of a tape: the last round that the node tried, its promise, which is one for all
+-- sequences, its vote at each sequence, and the published definitions, sequence 1 first.
 pub record DurableState (V : Type 0) : Type 0 where
   pub tried : ℕ
   pub promise : Option Ballot
@@ -48,8 +48,9 @@ unfoldable pub raised : Option Ballot → Ballot → Option Ballot
 raised None b = Some b
 raised (Some promise) b = if below promise b then Some b else Some promise
 
--- The state after one more record. Tried sets the round, Promised raises the promise, Accepted raises the promise and sets the
--- vote. Published appends, and removes the vote; the promise stays. An Accepted of a published sequence changes nothing.
+-- The state after one more record. Tried sets the round, Promised raises the promise, Accepted
+-- raises the promise and sets the vote. Published appends, and removes the vote; the promise stays.
+-- An Accepted of a published sequence changes nothing.
 unfoldable pub with_record : {V : Type 0} → DurableState V → Record V → DurableState V
 with_record stored (Tried r) = record stored { tried = r }
 with_record stored (Promised s b) = record stored { promise = raised stored.promise b }

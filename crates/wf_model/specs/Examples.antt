@@ -112,7 +112,8 @@ three_of_four = two_of_four ++ (deliver 2 0 ∷ pump (0 ∷ 1 ∷ 2 ∷ 3 ∷ []
 unfoldable pub half_accepted : List (Event Map)
 half_accepted = propose 0 a ∷ deliver 0 0 ∷ deliver 1 0 ∷ deliver 0 1 ∷ deliver 0 2 ∷ deliver 0 3 ∷ []
 
--- it stops; the other two publish another definition meanwhile; it comes back, proposes again, and is sent that definition
+-- it stops; the other two publish another definition meanwhile; it comes back, proposes again, and
+-- is sent that definition
 unfoldable pub comes_back : List (Event Map)
 comes_back =
     half_accepted ++ (
@@ -131,7 +132,8 @@ taken_over =
 unfoldable pub voted_once : List (Event Map)
 voted_once = half_accepted ++ (deliver 0 3 ∷ deliver 0 4 ∷ deliver 0 5 ∷ [])
 
--- node 1, with a higher ballot, publishes b before node 0's Accept reaches any node; then nodes 0 and 2 receive it
+-- node 1, with a higher ballot, publishes b before node 0's Accept reaches any node; then nodes 0
+-- and 2 receive it
 unfoldable pub late_accept : List (Event Map)
 late_accept =
     propose 0 a ∷ deliver 0 0 ∷ deliver 1 0 ∷ deliver 0 1 ∷ deliver 0 2 ∷
@@ -146,7 +148,8 @@ two_reported = late_accept ++ (retry 0 ∷ deliver 2 13 ∷ deliver 0 13 ∷ del
 unfoldable pub old_accept : List (Event Map)
 old_accept = two_reported ++ (deliver 0 3 ∷ [])
 
--- node 1 tries three rounds, and node 2 receives only the third; node 0 comes with its first, is rejected, and retries
+-- node 1 tries three rounds, and node 2 receives only the third; node 0 comes with its first, is
+-- rejected, and retries
 unfoldable pub outrun : List (Event Map)
 outrun = propose 1 b ∷ retry 1 ∷ retry 1 ∷ deliver 2 2 ∷ propose 0 a ∷ deliver 2 4 ∷ deliver 0 5 ∷ retry 0 ∷ []
 
@@ -180,7 +183,8 @@ torn kept = propose 0 a ∷ deliver 0 0 ∷ deliver 0 1 ∷ Torn 1 (table.Delive
 unfoldable pub torn_then : Kept → ℕ → List (Event Map)
 torn_then kept messages = torn kept ++ (retry 0 ∷ pump (0 ∷ 1 ∷ 2 ∷ []) messages 9)
 
--- node 0 makes a second proposal, as the leader, then a third and a fourth, and a fifth for which it must ask for promises again
+-- node 0 makes a second proposal, as the leader, then a third and a fourth, and a fifth for which
+-- it must ask for promises again
 unfoldable pub two_led : List (Event Map)
 two_led = three_pumped ++ (propose 0 a ∷ pump (0 ∷ 1 ∷ 2 ∷ []) 9 5)
 
@@ -190,7 +194,8 @@ four_led = two_led ++ (propose 0 a ∷ (pump (0 ∷ 1 ∷ 2 ∷ []) 14 5 ++ (pro
 unfoldable pub fifth_prepared : List (Event Map)
 fifth_prepared = four_led ++ (propose 0 a ∷ pump (0 ∷ 1 ∷ 2 ∷ []) 24 9)
 
--- between two proposals of node 0, node 1 makes one; node 0 still leads, and asks for votes below what the others promised since
+-- between two proposals of node 0, node 1 makes one; node 0 still leads, and asks for votes below
+-- what the others promised since
 unfoldable pub led_too_low : List (Event Map)
 led_too_low = three_pumped ++ (propose 1 b ∷ (pump (0 ∷ 1 ∷ 2 ∷ []) 9 9 ++ (propose 0 a ∷ pump (0 ∷ 1 ∷ 2 ∷ []) 18 4)))
 
@@ -198,8 +203,9 @@ led_too_low = three_pumped ++ (propose 1 b ∷ (pump (0 ∷ 1 ∷ 2 ∷ []) 9 9 
 unfoldable pub led_again : List (Event Map)
 led_again = led_too_low ++ (retry 0 ∷ pump (0 ∷ 1 ∷ 2 ∷ []) 22 9)
 
--- Node 0 leads and stops while its second proposal runs; node 1 voted for both, and learned nothing. Node 2 becomes the leader
--- and makes two proposals: it is told both votes of node 1, and must adopt each at its sequence.
+-- Node 0 leads and stops while its second proposal runs; node 1 voted for both, and learned
+-- nothing. Node 2 becomes the leader and makes two proposals: it is told both votes of node 1, and
+-- must adopt each at its sequence.
 unfoldable pub reported_ahead : List (Event Map)
 reported_ahead =
     propose 0 a ∷ deliver 0 0 ∷ deliver 1 0 ∷ deliver 0 1 ∷ deliver 0 2 ∷ deliver 0 3 ∷ deliver 1 3 ∷ deliver 0 4 ∷ deliver 0 5 ∷
@@ -207,7 +213,8 @@ reported_ahead =
     propose 2 b ∷ deliver 2 9 ∷ deliver 1 9 ∷ deliver 2 10 ∷ deliver 2 11 ∷ deliver 1 12 ∷ deliver 2 12 ∷ deliver 2 13 ∷ deliver 2 14 ∷
     propose 2 a ∷ deliver 1 16 ∷ deliver 2 16 ∷ deliver 2 17 ∷ deliver 2 18 ∷ []
 
--- A node stops after its first proposal: the leadership is lost, and its next proposal asks for promises.
+-- A node stops after its first proposal: the leadership is lost, and its next proposal asks for
+-- promises.
 unfoldable pub leader_restarts : List (Event Map)
 leader_restarts = three_pumped ++ (Stop 0 ∷ Restart 0 ∷ propose 0 b ∷ [])
 

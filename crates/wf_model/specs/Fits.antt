@@ -1,5 +1,5 @@
--- Invariants of the transitions and the fold: a transition's record fits its node's stored state; no vote of a published sequence
--- is stored; and no stored vote is above the promise.
+-- Invariants of the transitions and the fold: a transition's record fits its node's stored state;
+-- no vote of a published sequence is stored; and no stored vote is above the promise.
 use Rattle.std.specs.Prelude.{◌≡◌, ℕ, ◌≤◌, Bool, true, false, ⊤, List, length, Option, Some, None}
 use Rattle.wf_ballot.specs.Ballot.{Ballot, below}
 use Rattle.wf_model.specs.Message.{Vote}
@@ -24,8 +24,8 @@ pub record TransitionFits {V : Type 0} (before : DurableState V) (transition : T
   pub fits : Fits before transition.entry
   pub for_next : IsForNext (store before transition.entry) transition.volatile.proposing
 
--- If the running proposal is for the next sequence, each transition's record fits, and the proposal remains for the next
--- sequence.
+-- If the running proposal is for the next sequence, each transition's record fits, and the proposal
+-- remains for the next sequence.
 abbrev pub RecordsFit : Type 0 → Type 0
 RecordsFit V = (same : V → V → Bool) (n me : ℕ) (stored : DurableState V) (volatile : VolatileState V) (input : Input V) → IsForNext stored volatile.proposing →
     TransitionFits stored (transition same n me stored volatile input)

@@ -1,5 +1,6 @@
--- The messages between nodes. All definitions here are generic in the type of what is agreed on, `V`: the protocol doesn't depend
--- on what a map definition is. A message names no receiver, since the network may deliver any message to any node.
+-- The messages between nodes. All definitions here are generic in the type of what is agreed on,
+-- `V`: the protocol doesn't depend on what a map definition is. A message names no receiver, since
+-- the network may deliver any message to any node.
 use Rattle.std.specs.Prelude.{ℕ, suc, List, [], ◌∷◌, Option, None, ◌==◌, if◌then◌else◌}
 use Rattle.wf_ballot.specs.Ballot.{Ballot}
 
@@ -8,8 +9,9 @@ pub record Vote (V : Type 0) : Type 0 where
   pub ballot : Ballot
   pub definition : V
 
--- The seven messages. `sender` is the node that answers, `sequence` the update sequence concerned. A Promise covers its sequence
--- and all later ones, and reports the sender's vote at each of the first few of them, that at its own sequence first.
+-- The seven messages. `sender` is the node that answers, `sequence` the update sequence concerned.
+-- A Promise covers its sequence and all later ones, and reports the sender's vote at each of the
+-- first few of them, that at its own sequence first.
 pub data Message (V : Type 0) : Type 0 where
   Prepare : (sequence : ℕ) (ballot : Ballot) → Message V
   Promise : (sender sequence : ℕ) (ballot : Ballot) (votes : List (Option (Vote V))) → Message V

@@ -1,5 +1,6 @@
--- What one step of a node does: the transitions of the step table, one small function each. A transition is data: the record to
--- store, the messages to send after that, and the next volatile state.
+-- What one step of a node does: the transitions of the step table, one small function each. A
+-- transition is data: the record to store, the messages to send after that, and the next volatile
+-- state.
 use Rattle.std.specs.Prelude.{ℕ, zero, suc, ◌+◌, max, Bool, true, false, not, List, [], ◌∷◌, ◌++◌, Option, Some, None, ◌==◌, nat_lt, nat_le, ◌&&◌, if◌then◌else◌}
 use Rattle.wf_ballot.specs.Ballot.{last_round, Ballot, below}
 use Rattle.wf_ballot.specs.Sequence.{last_sequence}
@@ -24,7 +25,8 @@ unfoldable pub store : {V : Type 0} → DurableState V → Option (Record V) →
 store stored None = stored
 store stored (Some r) = with_record stored r
 
--- a transition that stores nothing and sends nothing; one that only sends; one that stores and sends
+-- a transition that stores nothing and sends nothing; one that only sends; one that stores and
+-- sends
 unfoldable pub quiet : {V : Type 0} → VolatileState V → Transition V
 quiet volatile = record { entry = None; messages = []; volatile = volatile }
 
@@ -48,8 +50,8 @@ with_proposal volatile proposal = record volatile { proposing = Running proposal
 
 -- ---- actions of a node
 
--- A proposal, a retry of the running one, a question for the next definition, or a delivered message: `M` is the message itself
--- in a node's input, and its number in an event.
+-- A proposal, a retry of the running one, a question for the next definition, or a delivered
+-- message: `M` is the message itself in a node's input, and its number in an event.
 pub data Action (V M : Type 0) : Type 0 where
   Propose : (definition : V) → Action V M
   Retry : Action V M
@@ -85,8 +87,8 @@ unfoldable pub reject_retry : {V : Type 0} → DurableState V → Proposing V �
 reject_retry stored (Running proposal) = rounds_full (round_known stored proposal)
 reject_retry stored proposing = Some NothingToRetry
 
--- A rejected step changes nothing. A running node rejects a proposal; none begins past the last sequence or the last round; only
--- a running proposal is retried.
+-- A rejected step changes nothing. A running node rejects a proposal; none begins past the last
+-- sequence or the last round; only a running proposal is retried.
 unfoldable pub step_rejection : {V : Type 0} → DurableState V → VolatileState V → Input V → Option StepRejection
 step_rejection stored volatile (Propose d) = reject_proposal stored volatile.leadership volatile.proposing
 step_rejection stored volatile Retry = reject_retry stored volatile.proposing
@@ -95,8 +97,8 @@ step_rejection stored volatile (Deliver message) = None
 
 -- ---- proposals begin
 
--- A proposal of `own` begins, or begins again, at a round that its node hasn't tried: the round is stored before any Prepare is
--- sent. A leadership ends.
+-- A proposal of `own` begins, or begins again, at a round that its node hasn't tried: the round is
+-- stored before any Prepare is sent. A leadership ends.
 unfoldable pub begin_at : {V : Type 0} → ℕ → DurableState V → V → ℕ → Transition V
 begin_at me stored own round =
     let ballot : Ballot = record { round = round; node = me } in
@@ -115,12 +117,14 @@ begin_at me stored own round =
     })
     (stored_part.Tried round) (Prepare (next_sequence stored) ballot)
 
--- A proposal asks for votes: for the best vote reported at its sequence, or else for its own definition.
+-- A proposal asks for votes: for the best vote reported at its sequence, or else for its own
+-- definition.
 unfoldable pub ask_votes : {V : Type 0} → Leadership V → Proposal V → Transition V
 ask_votes leadership proposal =
     only_sends (record { proposing = Running proposal; leadership = Some leadership }) (Accept proposal.sequence proposal.ballot (proposed proposal) ∷ [])
 
--- A leader's proposal of `own` begins by asking for votes: a majority has promised its ballot already, and reported its votes.
+-- A leader's proposal of `own` begins by asking for votes: a majority has promised its ballot
+-- already, and reported its votes.
 unfoldable pub lead : {V : Type 0} → DurableState V → Leadership V → V → Transition V
 lead stored leadership own = ask_votes leadership (record {
   sequence = next_sequence stored;
@@ -190,7 +194,8 @@ unfoldable pub votes_from : {V : Type 0} → (ℕ → Option (Vote V)) → ℕ �
 votes_from votes s zero = []
 votes_from votes s (suc count) = if nat_le s last_sequence then votes s ∷ votes_from votes (suc s) count else []
 
--- It promises the ballot for s and all later sequences, and reports its votes at the first few of them.
+-- It promises the ballot for s and all later sequences, and reports its votes at the first few of
+-- them.
 unfoldable pub promise_to : {V : Type 0} → ℕ → DurableState V → VolatileState V → ℕ → Ballot → Transition V
 promise_to me stored volatile s b =
     stores volatile (stored_part.Promised s b) (Promise me s b (votes_from stored.votes s window))
@@ -231,12 +236,14 @@ on_accept me stored volatile s b d =
 
 -- ---- the proposer
 
--- A proposal counts an answer if it is of its phase, sequence and ballot, from a node below n whose answer it hasn't counted.
+-- A proposal counts an answer if it is of its phase, sequence and ballot, from a node below n whose
+-- answer it hasn't counted.
 unfoldable pub is_new_response : {V : Type 0} → ℕ → Proposal V → Phase → ℕ → ℕ → Ballot → Bool
 is_new_response n proposal phase sender s b =
     same_phase proposal.phase phase && (is_at proposal s b && (nat_lt sender n && not (proposal.responders sender)))
 
--- the proposal after a promise, and once a majority has promised: no answer to its Accept is counted yet
+-- the proposal after a promise, and once a majority has promised: no answer to its Accept is
+-- counted yet
 unfoldable pub with_promise : {V : Type 0} → Proposal V → ℕ → List (Option (Vote V)) → Proposal V
 with_promise proposal sender votes =
     record proposal { responders = and_node proposal.responders sender; best = better_each proposal.best votes }
@@ -294,7 +301,8 @@ module _ {V : Type 0} (same : V → V → Bool) where
   on_accepted n volatile sender s b = when_running volatile (λ proposal.
       if is_new_response n proposal Accepting sender s b then voted n volatile (with_vote proposal sender) else quiet volatile)
 
-  -- A chosen definition is published if its sequence is the next; if it is later, the missing definitions are asked for.
+  -- A chosen definition is published if its sequence is the next; if it is later, the missing
+  -- definitions are asked for.
   unfoldable pub on_chosen : DurableState V → VolatileState V → ℕ → V → Transition V
   on_chosen stored volatile s d =
       if s == next_sequence stored then record { entry = Some (stored_part.Published s d); messages = []; volatile = after_publishing volatile d }

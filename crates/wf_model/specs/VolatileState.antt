@@ -1,4 +1,5 @@
--- The volatile state of a running node, lost when it stops: at most one proposal, or how the last one ended; and a leadership.
+-- The volatile state of a running node, lost when it stops: at most one proposal, or how the last
+-- one ended; and a leadership.
 use Rattle.std.specs.Prelude.{ℕ, ◌+◌, Bool, true, false, List, [], ◌∷◌, Option, Some, None, ◌==◌, nat_lt, nat_le, ◌&&◌, ◌||◌, if◌then◌else◌}
 use Rattle.wf_ballot.specs.Ballot.{Ballot, below}
 use Rattle.wf_model.specs.Message.{Vote, first_vote}
@@ -7,8 +8,9 @@ use Rattle.wf_model.specs.Message.{Vote, first_vote}
 pub data Phase : Type 0 where
   Preparing Accepting : Phase
 
--- A running proposal: its sequence and ballot, its node's own definition, the phase, the nodes whose answers are counted in that
--- phase, the best votes reported at its sequence and those after it, and the highest round that a Nack reported.
+-- A running proposal: its sequence and ballot, its node's own definition, the phase, the nodes
+-- whose answers are counted in that phase, the best votes reported at its sequence and those after
+-- it, and the highest round that a Nack reported.
 pub record Proposal (V : Type 0) : Type 0 where
   pub sequence : ℕ
   pub ballot : Ballot
@@ -18,16 +20,16 @@ pub record Proposal (V : Type 0) : Type 0 where
   pub best : List (Option (Vote V))
   pub seen : ℕ
 
--- no proposal yet, a running one, or how the last one ended, with its sequence: its own definition was
--- published there, or it was overtaken by another's
+-- no proposal yet, a running one, or how the last one ended, with its sequence: its own definition
+-- was published there, or it was overtaken by another's
 pub data Proposing (V : Type 0) : Type 0 where
   Idle : Proposing V
   Running : (proposal : Proposal V) → Proposing V
   Won : (sequence : ℕ) → Proposing V
   Overtaken : (sequence : ℕ) → Proposing V
 
--- A leadership: a majority promised the ballot for `base` and all later sequences. Of the first few of them, `base` first, the
--- best votes that this majority reported.
+-- A leadership: a majority promised the ballot for `base` and all later sequences. Of the first few
+-- of them, `base` first, the best votes that this majority reported.
 pub record Leadership (V : Type 0) : Type 0 where
   pub base : ℕ
   pub ballot : Ballot
@@ -83,11 +85,13 @@ same_phase Accepting Preparing = false
 unfoldable pub is_at : {V : Type 0} → Proposal V → ℕ → Ballot → Bool
 is_at proposal s b = (proposal.sequence == s) && same_ballot proposal.ballot b
 
--- the number of sequences at which a Promise reports votes, and for which a leadership asks for votes: its own and the three after it
+-- the number of sequences at which a Promise reports votes, and for which a leadership asks for
+-- votes: its own and the three after it
 abbrev pub window : ℕ
 window = 4
 
--- whether a leadership with this base asks for votes at the sequence without asking for promises again
+-- whether a leadership with this base asks for votes at the sequence without asking for promises
+-- again
 unfoldable pub is_in_window : ℕ → ℕ → Bool
 is_in_window base s = nat_le base s && nat_lt s (base + window)
 

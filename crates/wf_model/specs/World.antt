@@ -11,8 +11,8 @@ pub record Node (V : Type 0) : Type 0 where
   pub stored : DurableState V
   pub volatile : Option (VolatileState V)
 
--- Nodes 0, 1, 2 and so on, and messages 0, 1, 2 and so on. Nothing is ever removed from the list of messages: a lost message is
--- one that is never delivered.
+-- Nodes 0, 1, 2 and so on, and messages 0, 1, 2 and so on. Nothing is ever removed from the list of
+-- messages: a lost message is one that is never delivered.
 pub record World (V : Type 0) : Type 0 where
   pub nodes : List (Node V)
   pub sent : List (Message V)
@@ -21,8 +21,9 @@ pub record World (V : Type 0) : Type 0 where
 pub data Kept : Type 0 where
   Before After : Kept
 
--- What may happen to the node of that number: a step; a stop and a restart; a crash within a step. A delivery names a sent
--- message by its number, so none can be invented; a message may be delivered late, repeatedly, in any order, or never.
+-- What may happen to the node of that number: a step; a stop and a restart; a crash within a step.
+-- A delivery names a sent message by its number, so none can be invented; a message may be
+-- delivered late, repeatedly, in any order, or never.
 pub data Event (V : Type 0) : Type 0 where
   Act : (node : ℕ) (action : Action V ℕ) → Event V
   Stop : (node : ℕ) → Event V
@@ -114,7 +115,8 @@ unfoldable pub after_stop : {V : Type 0} → World V → ℕ → Option (Node V)
 after_stop w i None = w
 after_stop w i (Some node) = stop_running w i node.stored node.volatile
 
--- A stopped node comes back with its stored state, no proposal and no leadership. A running node can't be restarted.
+-- A stopped node comes back with its stored state, no proposal and no leadership. A running node
+-- can't be restarted.
 unfoldable pub restart_stopped : {V : Type 0} → World V → ℕ → DurableState V → Option (VolatileState V) → World V
 restart_stopped w i stored None = with_node w i stored (Some at_start)
 restart_stopped w i stored (Some volatile) = w
@@ -161,6 +163,7 @@ after same n events = steps same (start n) events
 abbrev pub StepsInTurn : Type 0 → Type 0
 StepsInTurn V = (same : V → V → Bool) (w : World V) (events more : List (Event V)) → steps same w (events ++ more) ≡ steps same (steps same w events) more
 
--- A rejected event leaves the world unchanged, and so does a rejected event with a crash within its step.
+-- A rejected event leaves the world unchanged, and so does a rejected event with a crash within its
+-- step.
 abbrev pub RejectedChangesNothing : Type 0 → Type 0
 RejectedChangesNothing V = (same : V → V → Bool) (w : World V) (event : Event V) (why : StepRejection) → refused w event ≡ Some why → happens same w event ≡ w

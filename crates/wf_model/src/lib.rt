@@ -1,23 +1,27 @@
-//! The protocol's definitions: what nodes send and store, what one step does, which events may happen, and what is then chosen
-//! and published. All contracts about consensus in other crates use these definitions.
+//! The protocol's definitions: what nodes send and store, what one step does, which events may
+//! happen, and what is then chosen and published. All contracts about consensus in other crates use
+//! these definitions.
 //!
-//! **Model.** A node is the state that its tape records (the last round it tried, its one promise, its vote at each sequence, the
-//! published definitions) and a volatile state that a stop loses (at most one proposal, and a leadership). `Table` has a transition
-//! for each input: the record to store, the messages to send after that, and the next volatile state. A world is the nodes and the
-//! list of all messages ever sent. An event names a message by its number, so messages may be lost, repeated and reordered, but
-//! never invented. All of it is generic in the type of what is agreed on, with a test `same` that distinguishes a proposal's own
-//! definition from another's.
+//! **Model.** A node is the state that its tape records (the last round it tried, its one promise,
+//! its vote at each sequence, the published definitions) and a volatile state that a stop loses (at
+//! most one proposal, and a leadership). `Table` has a transition for each input: the record to
+//! store, the messages to send after that, and the next volatile state. A world is the nodes and
+//! the list of all messages ever sent. An event names a message by its number, so messages may be
+//! lost, repeated and reordered, but never invented. All of it is generic in the type of what is
+//! agreed on, with a test `same` that distinguishes a proposal's own definition from another's.
 //!
-//! **Leadership.** A promise is for a sequence and all later ones, and reports the votes at four of them. So a node that a
-//! majority has promised proposes at these four sequences without asking for promises again.
+//! **Leadership.** A promise is for a sequence and all later ones, and reports the votes at four of
+//! them. So a node that a majority has promised proposes at these four sequences without asking for
+//! promises again.
 //!
-//! **Promises.** Each transition's record fits the stored state, whatever the messages are, and no transition sends more than
-//! eight messages. A fold of records leaves no vote of a published sequence, and no vote above the promise. Running two lists of
-//! events in turn is running their concatenation, and a rejected event changes nothing. Example runs, proved by computing them,
+//! **Promises.** Each transition's record fits the stored state, whatever the messages are, and no
+//! transition sends more than eight messages. A fold of records leaves no vote of a published
+//! sequence, and no vote above the promise. Running two lists of events in turn is running their
+//! concatenation, and a rejected event changes nothing. Example runs, proved by computing them,
 //! leave the expected worlds.
 //!
-//! **Not here.** Code, except two types that the crates above share, [`Action`] and [`Kept`]; the theorem of agreement, which is
-//! `wf_safety`'s.
+//! **Not here.** Code, except two types that the crates above share, [`Action`] and [`Kept`]; the
+//! theorem of agreement, which is `wf_safety`'s.
 #![tactic(auto)]
 
 mod action;
@@ -32,8 +36,8 @@ ghost use Rattle.wf_model.specs.Table.{Busy, NothingToRetry, RoundsFull, Sequenc
 
 pub use action::{Action, Kept};
 
-/// Each transition's record fits its node's stored state: a record that publishes is of the next sequence. A running proposal is
-/// for the next sequence, and remains so.
+/// Each transition's record fits its node's stored state: a record that publishes is of the next
+/// sequence. A running proposal is for the next sequence, and remains so.
 pub fn records_fit<V>()
     ensures { RecordsFit V }
 {}
@@ -58,13 +62,15 @@ pub fn steps_in_turn<V>()
     ensures { StepsInTurn V }
 {}
 
-/// A rejected event leaves the world unchanged, and so does a rejected event with a crash within its step.
+/// A rejected event leaves the world unchanged, and so does a rejected event with a crash within
+/// its step.
 pub fn rejected_changes_nothing<V>()
     ensures { RejectedChangesNothing V }
 {}
 
-/// One node is its own majority: five messages, from Prepare to Chosen. With three nodes, each receives each message. Two of four
-/// nodes receiving a proposal is no majority and publishes nothing; a third makes it one.
+/// One node is its own majority: five messages, from Prepare to Chosen. With three nodes, each
+/// receives each message. Two of four nodes receiving a proposal is no majority and publishes
+/// nothing; a third makes it one.
 pub fn majorities()
     ensures one { Leaves 1 alone (just a ∷ []) 5 }
     ensures proposal { proposal_state (run 1 alone) 0 ≡ PublishedAt 1 }
@@ -73,8 +79,8 @@ pub fn majorities()
     ensures three_of_four { LeavesEach 4 three_of_four (just a) 10 }
 {}
 
-/// A proposer stops when it alone has voted, another node's definition is published, and the first comes back and is sent it. A
-/// stop loses a proposal but not its round, which isn't used again.
+/// A proposer stops when it alone has voted, another node's definition is published, and the first
+/// comes back and is sent it. A stop loses a proposal but not its round, which isn't used again.
 pub fn stopped_proposer()
     ensures leaves { Leaves 3 comes_back (just b ∷ none ∷ just b ∷ []) 14 }
     ensures proposal { proposal_state (run 3 comes_back) 0 ≡ OvertakenAt 1 }
@@ -84,8 +90,9 @@ pub fn stopped_proposer()
         Accept 1 (ballot 1 1) b ∷ Accepted 1 1 (ballot 1 1) ∷ Prepare 1 (ballot 2 1) ∷ [] }
 {}
 
-/// A node voted for the first proposer's definition, so the second, to which the vote is reported, publishes that definition. Of
-/// two reported votes the one at the higher ballot is adopted, even if the other is the proposer's own and is reported last.
+/// A node voted for the first proposer's definition, so the second, to which the vote is reported,
+/// publishes that definition. Of two reported votes the one at the higher ballot is adopted, even
+/// if the other is the proposer's own and is reported last.
 pub fn reported_vote()
     ensures leaves { Leaves 3 taken_over (none ∷ none ∷ just a ∷ []) 12 }
     ensures taken { proposal_state (run 3 taken_over) 2 ≡ OvertakenAt 1 }
@@ -97,8 +104,9 @@ pub fn reported_vote()
         Accept 1 (ballot 2 0) b ∷ [] }
 {}
 
-/// A node that a majority has promised proposes four definitions with these promises: from the second on it begins by asking for
-/// votes. The fifth needs new promises. At the last round too a leader's proposal isn't rejected.
+/// A node that a majority has promised proposes four definitions with these promises: from the
+/// second on it begins by asking for votes. The fifth needs new promises. At the last round too a
+/// leader's proposal isn't rejected.
 pub fn four_sequences_led()
     ensures second { sent_from (run 3 two_led) 9 ≡
         Accept 2 (ballot 1 0) a ∷
@@ -109,8 +117,9 @@ pub fn four_sequences_led()
     ensures last_round { refused last_leader (propose 0 a) ≡ None }
 {}
 
-/// Another node makes a proposal meanwhile: the leader's next Accept is below what the nodes promised since, and is rejected. Its
-/// proposal runs until a retry takes a higher round. A leader that stops loses its leadership.
+/// Another node makes a proposal meanwhile: the leader's next Accept is below what the nodes
+/// promised since, and is rejected. Its proposal runs until a retry takes a higher round. A leader
+/// that stops loses its leadership.
 pub fn leadership_ends()
     ensures rejected { LeavesEach 3 led_too_low (a ∷ b ∷ []) 22 }
     ensures runs { proposal_state (run 3 led_too_low) 0 ≡ Runs }
@@ -118,8 +127,8 @@ pub fn leadership_ends()
     ensures stopped { sent_from (run 3 leader_restarts) 9 ≡ Prepare 2 (ballot 2 0) ∷ [] }
 {}
 
-/// A node reports its votes at two sequences in one Promise. The new leader adopts each at its sequence, though it proposes
-/// another definition there.
+/// A node reports its votes at two sequences in one Promise. The new leader adopts each at its
+/// sequence, though it proposes another definition there.
 pub fn reported_votes_ahead()
     ensures asked { sent_from (run 3 reported_ahead) 9 ≡
         Prepare 1 (ballot 1 2) ∷ Promise 2 1 (ballot 1 2) no_votes ∷
@@ -131,9 +140,10 @@ pub fn reported_votes_ahead()
     ensures proposal { proposal_state (run 3 reported_ahead) 2 ≡ OvertakenAt 2 }
 {}
 
-/// A late Accept reaches a node that has promised a higher ballot: it is rejected, with the promise. A vote there would publish
-/// both a and b. So is one at whose ballot the node voted before it promised the higher one. A Prepare below the promise is
-/// rejected likewise; its proposer's next attempt is above the promise's round.
+/// A late Accept reaches a node that has promised a higher ballot: it is rejected, with the
+/// promise. A vote there would publish both a and b. So is one at whose ballot the node voted
+/// before it promised the higher one. A Prepare below the promise is rejected likewise; its
+/// proposer's next attempt is above the promise's round.
 pub fn rejected_ballots()
     ensures leaves { Leaves 3 late_accept (none ∷ just b ∷ none ∷ []) 13 }
     ensures accept { sent_from (run 3 late_accept) 11 ≡
@@ -144,8 +154,9 @@ pub fn rejected_ballots()
         Prepare 1 (ballot 1 0) ∷ Nack 2 1 (ballot 1 0) (ballot 3 1) ∷ Prepare 1 (ballot 4 0) ∷ [] }
 {}
 
-/// A node that missed two sequences asks for the first of them, is sent both, and publishes them in order. A node that missed all
-/// catches up by asking, and asks for nothing once the last sequence is published.
+/// A node that missed two sequences asks for the first of them, is sent both, and publishes them in
+/// order. A node that missed all catches up by asking, and asks for nothing once the last sequence
+/// is published.
 pub fn node_behind()
     ensures leaves { LeavesEach 3 behind (a ∷ b ∷ a ∷ []) 20 }
     ensures asked { sent_from (run 3 behind) 17 ≡ Ask 2 ∷ Chosen 2 b ∷ Chosen 3 a ∷ [] }
@@ -154,8 +165,9 @@ pub fn node_behind()
     ensures full { happens same_map (only full_history) (catch_up 0) ≡ only full_history }
 {}
 
-/// Messages that are repeated, late or reordered are answered, and change nothing that is published. An Accept that arrives twice
-/// is answered twice, and its node's vote isn't counted twice.
+/// Messages that are repeated, late or reordered are answered, and change nothing that is
+/// published. An Accept that arrives twice is answered twice, and its node's vote isn't counted
+/// twice.
 pub fn repeated_messages()
     ensures leaves { LeavesEach 3 repeated (just a) 27 }
     ensures voted_once { LeavesEach 3 voted_once none 6 }
@@ -163,8 +175,8 @@ pub fn repeated_messages()
         Accepted 0 1 (ballot 1 0) ∷ Accepted 0 1 (ballot 1 0) ∷ [] }
 {}
 
-/// A crash within a step, after its record was stored or before: either way the node answers again, or not at all, and a second
-/// attempt publishes.
+/// A crash within a step, after its record was stored or before: either way the node answers again,
+/// or not at all, and a second attempt publishes.
 pub fn torn_step()
     ensures after_sent { LeavesEach 3 (torn After) none 2 }
     ensures after_leaves { LeavesEach 3 (torn_then After 2) (just a) 11 }
@@ -172,8 +184,8 @@ pub fn torn_step()
     ensures before_leaves { LeavesEach 3 (torn_then Before 3) (just a) 12 }
 {}
 
-/// A running node rejects another proposal, a node without one has nothing to retry, and no proposal begins past sequence 4,096
-/// or round 4,294,967,295. A rejected step changes nothing.
+/// A running node rejects another proposal, a node without one has nothing to retry, and no
+/// proposal begins past sequence 4,096 or round 4,294,967,295. A rejected step changes nothing.
 pub fn rejected_steps()
     ensures busy { refused (run 1 (propose 0 a ∷ [])) (propose 0 b) ≡ Some Busy }
     ensures busy_unchanged { run 1 (propose 0 a ∷ propose 0 b ∷ []) ≡ run 1 (propose 0 a ∷ []) }

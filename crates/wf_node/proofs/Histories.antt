@@ -17,7 +17,8 @@ same_lists (x ∷ xs) (y ∷ ys) as_many alike =
     let rest : xs ≡ ys = same_lists xs ys (omega (arith, as_many)) (λ k below. alike (suc k) (omega (arith, below))) in
     λ i. some_is x y (alike 0 (omega arith)) i ∷ rest i
 
--- A list with one more than another, with the same at each index of that, is that one followed by its last.
+-- A list with one more than another, with the same at each index of that, is that one followed by
+-- its last.
 one_more : {A : Type 0} (xs ys : List A) (z : A) → length xs ≡ length ys + 1 → ((k : ℕ) → k < length ys → slice_get xs k ≡ slice_get ys k) → slice_get xs (length ys) ≡ Some z →
     xs ≡ ys ++ z ∷ []
 one_more [] [] z as_many alike last = absurd (omega (arith, as_many))

@@ -30,7 +30,8 @@ pub acts_for_persistent : (tried : ℕ) (part : Part) (definitions : List Defini
 unfolding published
 acts_for_persistent tried part definitions as_many = record { promise = refl; votes = refl; published = sym as_many }
 
--- A stored state with which the acceptor's part agrees, and with the same tried round and history, is the durable state.
+-- A stored state with which the acceptor's part agrees, and with the same tried round and history,
+-- is the durable state.
 pub persistent_is : (tried : ℕ) (part : Part) (definitions : List Definition) (stored : DurableState Definition) → tried ≡ stored.tried → ActsFor part stored → definitions ≡ stored.history →
     stored_of (parts_of tried part definitions) ≡ stored
 persistent_is tried part definitions stored same_tried acts same_history =

@@ -120,7 +120,8 @@ module _ {T : Type 0} (tapes : Tape T) where
     weak = is.weak;
   }
 
-  -- If writing the record fails, the parts are unchanged, and the journal keeps the record if the tape failed.
+  -- If writing the record fails, the parts are unchanged, and the journal keeps the record if the
+  -- tape failed.
   write_fails_keeping : (A B : Type 0) (the_transition : Transition Definition) (journal written : Journal T) (parts parts_after : Parts) (proposer : Proposer)
       (fault : NodeFault) → parts_after ≡ parts → IsWrite tapes {A = B} the_transition.entry journal (Err fault) written →
       IsChange tapes {A = A} the_transition journal parts proposer (Err fault) (keeping fault the_transition.entry written) parts_after proposer

@@ -204,8 +204,8 @@ so_far stored n =
       history = take n stored.history;
     }
 
--- A state that records fold to, up to this last sequence: a published sequence has no vote, no vote is above the promise, and there
--- is nothing past the last sequence.
+-- A state that records fold to, up to this last sequence: a published sequence has no vote, no vote
+-- is above the promise, and there is nothing past the last sequence.
 record IsFolded (stored : DurableState Definition) (last : ℕ) : Type 0 where
   is_open : IsOpenAlone stored
   promised : (s : ℕ) (vote : Vote Definition) → stored.votes s ≡ Some vote → NotBelow stored.promise vote.ballot

@@ -26,7 +26,8 @@ use Rattle.wf_node.specs.Step.{IsSameNode, IsStep, transition_of, step_rejection
 use Rattle.wf_node.proofs.Shown.{volatile_shown}
 use Rattle.wf_tape.specs.declared.tape.Tape.{Ghosts as Tape}
 
--- The volatile state of a node's model is its proposer's, so the table's transition and rejection are the same for both.
+-- The volatile state of a node's model is its proposer's, so the table's transition and rejection
+-- are the same for both.
 abbrev proposer_transition : Proposer → Parts → Input Definition → Transition Definition
 proposer_transition proposer parts input = transition definition_eq proposer.nodes proposer.node (stored_of parts) (volatile_of proposer) input
 
@@ -194,7 +195,8 @@ module _ {T : Type 0} (tapes : Tape T) where
         | Some why ↦ λ some refused. rejected_step journal journal_after persistent.parts persistent_after.parts proposer proposer_after input result why some refused.0 refused.1 refused.2
       ] refl act
 
-  -- At each moment inside the step what a crash could have left stands for the durable state from before it, or the transition's.
+  -- At each moment inside the step what a crash could have left stands for the durable state from
+  -- before it, or the transition's.
   done_inside : {A : Type 0} (journal journal_after : Journal T) (parts parts_after : Parts) (proposer proposer_after : Proposer) (input : Input Definition) (result : Result (Vec Message A) NodeFault) →
       TransitionFits (stored_of parts) (proposer_transition proposer parts input) →
       IsChange tapes (proposer_transition proposer parts input) journal parts proposer result journal_after parts_after proposer_after →

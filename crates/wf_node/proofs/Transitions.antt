@@ -19,7 +19,8 @@ use Rattle.wf_node.specs.Fault.{TakesMemory, ByEntry, ByMessages}
 
 -- ---- records of the proposer
 
--- What holds of no record, and of that of the running proposal's transition, holds of the transition's record.
+-- What holds of no record, and of that of the running proposal's transition, holds of the
+-- transition's record.
 entry_if_running : (P : Option (Record Definition) → Type 0) (volatile : VolatileState Definition) (proposing : Proposing Definition) (transition_of : Proposal Definition → Transition Definition) →
     P None → ((proposal : Proposal Definition) → P (transition_of proposal).entry) → P (running_transition volatile proposing transition_of).entry
 unfolding quiet

@@ -24,8 +24,9 @@ use Rattle.wf_node.specs.TapeWrites.{IsTornAt, IsWritten, IsSpared, IsBroken}
 use Rattle.wf_tape.specs.Change.{inside}
 use Rattle.wf_tape.specs.declared.tape.Tape.{Ghosts as Tape}
 
--- The parts of a node that may act: its journal runs, its durable state and its proposer are of the same node, a running proposal
--- is for the next sequence, and, as wf_model's theorem says, each transition's record fits then.
+-- The parts of a node that may act: its journal runs, its durable state and its proposer are of the
+-- same node, a running proposal is for the next sequence, and, as wf_model's theorem says, each
+-- transition's record fits then.
 pub record IsReady {T : Type 0} (machine : Machine T) : Type 0 where
   pub running : machine.journal.halted ≡ false
   pub same_node : machine.persistent.id ≡ machine.proposer.node
@@ -100,7 +101,8 @@ module _ {T : Type 0} (tapes : Tape T) where
   IsChange the_transition journal parts proposer (Err Nothing) journal_after parts_after proposer_after = ⊥
   IsChange the_transition journal parts proposer (Err Halted) journal_after parts_after proposer_after = ⊥
 
-  -- If the table rejects the input, that rejection is returned and the parts are unchanged; else the transition is made or fails.
+  -- If the table rejects the input, that rejection is returned and the parts are unchanged; else
+  -- the transition is made or fails.
   abbrev pub IsRejectedOr : {A : Type 0} → Option StepRejection → Transition Definition → Journal T → Parts → Proposer → Result (Vec Message A) NodeFault → Journal T → Parts → Proposer → Type 0
   IsRejectedOr None the_transition journal parts proposer result journal_after parts_after proposer_after =
       IsChange the_transition journal parts proposer result journal_after parts_after proposer_after
@@ -113,7 +115,8 @@ module _ {T : Type 0} (tapes : Tape T) where
       IsRejectedOr (step_rejection (stored_of parts) (volatile_of proposer) input)
       (transition definition_eq proposer.nodes proposer.node (stored_of parts) (volatile_of proposer) input) journal parts proposer result journal_after parts_after proposer_after
 
-  -- The parts of a node made the transition, or an error left them unchanged; and they made the input's step.
+  -- The parts of a node made the transition, or an error left them unchanged; and they made the
+  -- input's step.
   abbrev pub Changes : {A : Type 0} → Transition Definition → Machine T → Result (Vec Message A) NodeFault → Machine T → Type 0
   Changes the_transition before result after =
       IsChange the_transition before.journal before.persistent.parts before.proposer result after.journal after.persistent.parts after.proposer

@@ -61,8 +61,8 @@ abbrev pub promise_records : DurableState Definition → Option Ballot → List 
 promise_records stored None = []
 promise_records stored (Some b) = promise_record (promised_sequence stored) b (is_voted stored.votes b last_sequence)
 
--- The records of a shortened tape: the last round tried, then by sequence the published definitions and the votes above them, and
--- last the promise, unless a vote is at its ballot.
+-- The records of a shortened tape: the last round tried, then by sequence the published definitions
+-- and the votes above them, and last the promise, unless a vote is at its ballot.
 unfoldable pub short_records : DurableState Definition → List (Record Definition)
 short_records stored = tried_records stored.tried ++ (records_from stored 1 last_sequence ++ promise_records stored stored.promise)
 

@@ -13,8 +13,8 @@ use Rattle.wf_learner.specs.History.{with_chosen}
 use Rattle.wf_node.specs.Parts as parts
 use Rattle.wf_node.specs.Parts.{Parts}
 
--- The node's number and its durable state; and, only for `HasRoomFor`, the prepared record and whether there is room for one more
--- published definition.
+-- The node's number and its durable state; and, only for `HasRoomFor`, the prepared record and
+-- whether there is room for one more published definition.
 pub record DurablePart : Type 0 where
   pub id : ℕ
   pub parts : Parts
@@ -25,8 +25,8 @@ pub record DurablePart : Type 0 where
 abbrev pub stored_of : DurablePart → DurableState Definition
 stored_of persistent = parts.stored_of persistent.parts
 
--- There is room for the record: applying it doesn't allocate. That holds of a tried round and a promise, of a vote that is
--- prepared, and of a published definition if there is room for one more.
+-- There is room for the record: applying it doesn't allocate. That holds of a tried round and a
+-- promise, of a vote that is prepared, and of a published definition if there is room for one more.
 abbrev pub IsRoomFor : Option Record → Bool → Record → Type 0
 IsRoomFor prepared has_room (Tried round) = ⊤
 IsRoomFor prepared has_room (Promised s b) = ⊤

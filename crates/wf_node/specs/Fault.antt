@@ -33,7 +33,8 @@ abbrev pub IsWhyNot : Option table.StepRejection → Option NodeFault → Type 0
 IsWhyNot why None = why ≡ None
 IsWhyNot why (Some fault) = (step_rejection_of fault ≡ why) × (why ≡ None → ⊥)
 
--- A transition may allocate only if it stores or sends something. An answer that leaves no majority does neither.
+-- A transition may allocate only if it stores or sends something. An answer that leaves no majority
+-- does neither.
 pub data TakesMemory (transition : Transition Definition) : Type 0 where
   ByEntry : IsSome transition.entry → TakesMemory transition
   ByMessages : (transition.messages ≡ [] → ⊥) → TakesMemory transition

@@ -32,8 +32,8 @@ pub record ReadsWith (r : Record Definition) (stored : DurableState Definition) 
   pub new : ReadsAs image (records ++ r ∷ [])
   pub folds : fold (records ++ r ∷ []) ≡ Some stored
 
--- There is a record. Each image reads as the records of an earlier one, and stands for the first; or with that record as one more,
--- and stands for the second.
+-- There is a record. Each image reads as the records of an earlier one, and stands for the first;
+-- or with that record as one more, and stands for the second.
 abbrev pub EachIsCut : Option (Record Definition) → DurableState Definition → DurableState Definition → (List ℕ → Type 0) → (List ℕ → Type 0) → Type 0
 EachIsCut None before after old new = ⊥
 EachIsCut (Some r) before after old new = (image : List ℕ) → new image → (earlier : List ℕ) × old earlier × (ReadsOn before earlier image ⊎ ReadsWith r after earlier image)

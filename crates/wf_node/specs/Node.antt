@@ -16,7 +16,8 @@ use Rattle.wf_node.specs.VolatileState as shown
 use Rattle.wf_node.specs.VolatileState.{VolatileState}
 use Rattle.wf_tape.specs.declared.tape.Tape.{Ghosts as Tape}
 
--- A node of n. If it is halted, its tape failed, and it makes no more steps; it keeps the record of the step within which that was.
+-- A node of n. If it is halted, its tape failed, and it makes no more steps; it keeps the record of
+-- the step within which that was.
 pub record Node (T : Type 0) : Type 0 where
   pub tape : T
   pub halted : Bool
@@ -50,8 +51,9 @@ view_of journal persistent_parts proposes =
       volatile = shown.shown proposes.volatile;
     }
 
--- The invariant of nodes: its durable state and its proposer are of the same node, a running proposal is for the next sequence, and
--- if the journal runs, every image of a durable tape stands for the durable state.
+-- The invariant of nodes: its durable state and its proposer are of the same node, a running
+-- proposal is for the next sequence, and if the journal runs, every image of a durable tape stands
+-- for the durable state.
 pub record IsSoundNode {T : Type 0} (tapes : Tape T) (journal : Journal T) (persistent : DurablePart) (proposes : Proposer) : Type 0 where
   pub same_node : persistent.id ≡ proposes.node
   pub for_next : IsForNext (keeping.stored_of persistent) (proposer.volatile_of proposes).proposing

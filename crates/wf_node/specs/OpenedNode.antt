@@ -21,7 +21,8 @@ pub record IsRead (durable : Type 0) (content : List ℕ) (stored : DurableState
   pub folds : IsFoldOf stored bytes
   pub same : durable → bytes ≡ content
 
--- At this byte offset from the first record is the first record that doesn't fit: a published definition that isn't the next one.
+-- At this byte offset from the first record is the first record that doesn't fit: a published
+-- definition that isn't the next one.
 pub record IsUnfitAt (records : List (Record Definition)) (index : ℕ) : Type 0 where
   pub before : List (Record Definition)
   pub unfit : Record Definition

@@ -8,7 +8,8 @@ use Rattle.wf_codec.specs.Message.{view_vote}
 use Rattle.wf_def.specs.Definition.{Definition}
 use Rattle.wf_model.specs.DurableState.{DurableState}
 
--- the round tried, the promise, which is one for all sequences, the vote at each sequence, and the published definitions
+-- the round tried, the promise, which is one for all sequences, the vote at each sequence, and the
+-- published definitions
 pub record Parts : Type 0 where
   pub tried : ℕ
   pub promise : Option Ballot

@@ -20,8 +20,9 @@ abbrev pub LeavesOldOrStands : DurableState Definition → (List ℕ → Type 0)
 LeavesOldOrStands stored old new = (image : List ℕ) → new image → old image ⊎ StandsFor stored image
 
 module _ {U : Type 0} (tapes : Tape U) where
-  -- The node is the old one, on the tape, which holds the records of what it has stored, as a shortened tape does, in place of what was
-  -- there. Of any tape: the bytes that were written stand for what it has stored.
+  -- The node is the old one, on the tape, which holds the records of what it has stored, as a
+  -- shortened tape does, in place of what was there. Of any tape: the bytes that were written stand
+  -- for what it has stored.
   pub record IsMoved {T : Type 0} (old : Node T) (tape : U) (node : Node U) : Type 0 where
     pub ran : old.halted ≡ false
     pub id : node.id ≡ old.id
@@ -36,8 +37,8 @@ module _ {U : Type 0} (tapes : Tape U) where
     pub moments : tapes.durable → LeavesOldOrStands (stored_of old) (tapes.images tape) (inside tapes tape node.tape)
     pub still : tapes.never_fails tape → tapes.never_fails node.tape
 
-  -- The node didn't move, and this is the tape that is returned. If the tape failed, it has what it had, or stands for what the node
-  -- had stored; else it is unchanged.
+  -- The node didn't move, and this is the tape that is returned. If the tape failed, it has what it
+  -- had, or stands for what the node had stored; else it is unchanged.
   pub record IsNotMoved {T : Type 0} (old : Node T) (tape back : U) (fault : NodeFault) : Type 0 where
     pub halted : old.halted ≡ true → fault ≡ Halted
     pub running : fault ≡ Halted → old.halted ≡ true

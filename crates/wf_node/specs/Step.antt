@@ -38,8 +38,8 @@ proposal_step_rejection node = reject_proposal (stored_of node) (volatile_of nod
 abbrev pub retry_step_rejection : {T : Type 0} → Node T → Option StepRejection
 retry_step_rejection node = reject_retry (stored_of node) (volatile_of node).proposing
 
--- The node after a transition: the durable state includes the transition's record, the volatile state is the transition's, and
--- exactly its messages are returned.
+-- The node after a transition: the durable state includes the transition's record, the volatile
+-- state is the transition's, and exactly its messages are returned.
 pub record IsTransition {T : Type 0} (before : Node T) (the_transition : Transition Definition) (sent : List Message) (after : Node T) : Type 0 where
   pub id : after.id ≡ before.id
   pub n : after.n ≡ before.n

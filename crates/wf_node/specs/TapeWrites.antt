@@ -28,7 +28,8 @@ keeping RoundsFull entry journal = journal
 keeping Halted entry journal = journal
 keeping Nothing entry journal = journal
 
--- If the old images stand for a durable state that the record fits, the new ones stand for that part with the record.
+-- If the old images stand for a durable state that the record fits, the new ones stand for that
+-- part with the record.
 abbrev pub IsStoredBy : Option (Record Definition) → (List ℕ → Type 0) → (List ℕ → Type 0) → Type 0
 IsStoredBy entry old new = (stored : DurableState Definition) → Fits stored entry → AllStandFor stored old → AllStandFor (store stored entry) new
 

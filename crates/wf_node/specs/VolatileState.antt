@@ -1,4 +1,5 @@
--- The volatile state of a node as data: the nodes whose answers a proposal has counted are the bits of a number.
+-- The volatile state of a node as data: the nodes whose answers a proposal has counted are the bits
+-- of a number.
 use Rattle.std.specs.Prelude.{ℕ, List, Option, if◌then◌else◌}
 use Rattle.wf_ballot.specs.Ballot.{Ballot}
 use Rattle.wf_def.specs.Definition.{Definition}

@@ -28,12 +28,14 @@ impl<T: Tape> Node<T> {
     ghost use Rattle.wf_journal.specs.Journal.{Holds};
     ghost use Rattle.wf_tape.specs.Change.{inside, HasFailed, Stays};
 
-    /// Rewrites the node's tape, in one call of it: after Ok it holds the last round tried, by sequence the published definitions
-    /// and the votes above them, each once, and the promise, unless a vote is at its ballot. The node itself is unchanged, and
-    /// whatever is returned, every image of a durable tape stands for its durable state, as does what a crash at each moment inside
-    /// the call leaves. A halted node returns N5; then N1 if allocation failed, which changes nothing; N6 if the tape failed, which
-    /// halts the node. With a tape that won't fail N6 isn't returned, and the tape still won't fail. It takes time in proportion to
-    /// what is stored, and copies it.
+    /// Rewrites the node's tape, in one call of it: after Ok it holds the last round tried, by
+    /// sequence the published definitions and the votes above them, each once, and the promise,
+    /// unless a vote is at its ballot. The node itself is unchanged, and whatever is returned,
+    /// every image of a durable tape stands for its durable state, as does what a crash at each
+    /// moment inside the call leaves. A halted node returns N5; then N1 if allocation failed, which
+    /// changes nothing; N6 if the tape failed, which halts the node. With a tape that won't fail N6
+    /// isn't returned, and the tape still won't fail. It takes time in proportion to what is
+    /// stored, and copies it.
     pub fn shorten(&mut self, alloc: Global) -> Result<(), NodeFault>
         ensures halted { self.old.halted ≡ true → result ≡ Err NodeFault.Halted }
         ensures running { result ≡ Err NodeFault.Halted → self.old.halted ≡ true }
@@ -74,8 +76,8 @@ impl<T: Tape> Node<T> {
         ensures sound { T.never_fails self.old.tape →
             IfErr result (λ fault. fault ≢ NodeFault.TapeFailed) }
     {
-        // The model's theorems: what records fold to has votes and promises of sequences that aren't published, and no vote
-        // without a promise.
+        // The model's theorems: what records fold to has votes and promises of sequences that
+        // aren't published, and no vote without a promise.
         folds_are_open::<Canon>();
         votes_are_promised::<Canon>();
         self.machine.rewrite(alloc)

@@ -11,7 +11,8 @@ use wf_canon::Canon;
 use wf_journal::Record;
 use wf_learner::History;
 
-/// Whether the history is the other one with the record's definition, if it is the record of a published one.
+/// Whether the history is the other one with the record's definition, if it is the record of a
+/// published one.
 pub(crate) fn has_learned(history: &History, other: &History, entry: &Record) -> bool
     ensures { IsTrue result → history.now.definitions ≡ definitions_after other.now.definitions entry.now }
 {

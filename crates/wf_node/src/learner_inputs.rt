@@ -33,7 +33,8 @@ impl<T: Tape> Machine<T> {
         }
     }
 
-    /// A definition is chosen: it is published if its slot is the next; if its slot is later, the next one is asked for.
+    /// A definition is chosen: it is published if its slot is the next; if its slot is later, the
+    /// next one is asked for.
     pub(crate) fn on_chosen(
         &mut self,
         alloc: Global,

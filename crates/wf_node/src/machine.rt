@@ -1,5 +1,5 @@
-//! The parts of a node, and how they act on an input: first all copies and allocations, then the record on the tape, then its
-//! effects.
+//! The parts of a node, and how they act on an input: first all copies and allocations, then the
+//! record on the tape, then its effects.
 
 ghost use Rattle.std.specs.Prelude.{◌≡◌};
 ghost use Rattle.wf_codec.specs.Message.{view as view_message};

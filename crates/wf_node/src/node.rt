@@ -8,8 +8,9 @@ use wf_learner::History;
 use wf_proposer::ProposalState;
 use wf_tape::{MemoryTape, Tape};
 
-/// One node of the farm: its durable state, which is on its tape, and its proposal and leadership. Model: the parts of wf_model.
-/// Unless the node is halted, every image of a durable tape stands for the durable state.
+/// One node of the farm: its durable state, which is on its tape, and its proposal and leadership.
+/// Model: the parts of wf_model. Unless the node is halted, every image of a durable tape stands
+/// for the durable state.
 #[derive(Drop)]
 pub struct Node<T: Tape> {
     pub(crate) machine: Machine<T>,
@@ -59,8 +60,8 @@ impl<T: Tape> Node<T> {
         self.machine.proposer.nodes()
     }
 
-    /// The node's tape. Unless the node is halted, a durable one holds only whole records, all of them synced, and stands for what
-    /// the node has stored.
+    /// The node's tape. Unless the node is halted, a durable one holds only whole records, all of
+    /// them synced, and stands for what the node has stored.
     pub fn tape(&self) -> &T
         ensures value { result.now ≡ self.now.tape }
         ensures settled { T.durable → self.now.halted ≡ false →
@@ -70,7 +71,8 @@ impl<T: Tape> Node<T> {
         self.machine.journal.tape()
     }
 
-    /// The last published sequence, 0 if there is none. On a halted node: that of before the failed step.
+    /// The last published sequence, 0 if there is none. On a halted node: that of before the failed
+    /// step.
     pub fn published(&self) -> Seq
         ensures value { result ≡ length self.now.parts.history }
         ensures in_range { IsSequence result }
@@ -93,30 +95,34 @@ impl<T: Tape> Node<T> {
         self.machine.persistent.history().get(seq)
     }
 
-    /// The last round that the node tried, 0 before the first. On a halted node: that of before the failed step.
+    /// The last round that the node tried, 0 before the first. On a halted node: that of before the
+    /// failed step.
     pub fn last_round(&self) -> u32
         ensures { result ≡ self.now.parts.tried }
     {
         self.machine.persistent.last_round()
     }
 
-    /// The node's promise, which is one for all sequences. On a halted node: that of before the failed step.
+    /// The node's promise, which is one for all sequences. On a halted node: that of before the
+    /// failed step.
     pub fn promise(&self) -> Option<Ballot>
         ensures { result ≡ self.now.parts.promise }
     {
         self.machine.persistent.promise()
     }
 
-    /// The node's vote at a slot that isn't published: its ballot and its definition. On a halted node: that of before the failed step.
+    /// The node's vote at a slot that isn't published: its ballot and its definition. On a halted
+    /// node: that of before the failed step.
     pub fn vote_at(&self, slot: Slot) -> Option<&(Ballot, Canon)>
         ensures { view_vote (option_copied result) ≡ (stored_of self.now).votes slot }
     {
         self.machine.persistent.vote_at(slot)
     }
 
-    /// Whether this node has stored what the other one had, or that and the record of the step within which the other one's tape
-    /// failed: of two nodes on what one tape left, whether this one may go on for the other. It compares the last round, the promise,
-    /// the votes and the texts of the published definitions. Doesn't allocate, changes nothing.
+    /// Whether this node has stored what the other one had, or that and the record of the step
+    /// within which the other one's tape failed: of two nodes on what one tape left, whether this
+    /// one may go on for the other. It compares the last round, the promise, the votes and the
+    /// texts of the published definitions. Doesn't allocate, changes nothing.
     pub fn has_stored_as(&self, other: &Node<T>) -> bool
         ensures { IsTrue result → HasStoredAs other.now self.now }
     {
@@ -130,7 +136,8 @@ impl<T: Tape> Node<T> {
         self.machine.persistent.is_same(&other.machine.persistent)
     }
 
-    /// Whether this node has stored what the other one had, and the record that the other one keeps.
+    /// Whether this node has stored what the other one had, and the record that the other one
+    /// keeps.
     fn has_one_more(&self, other: &Node<T>) -> bool
         ensures { IsTrue result → stored_of self.now ≡ store (stored_of other.now) other.now.failed }
     {
@@ -143,8 +150,8 @@ impl<T: Tape> Node<T> {
         }
     }
 
-    /// Why a proposal would be rejected now: N5 if the node is halted, else the error of the step. None if it would begin.
-    /// Doesn't allocate, changes nothing.
+    /// Why a proposal would be rejected now: N5 if the node is halted, else the error of the step.
+    /// None if it would begin. Doesn't allocate, changes nothing.
     pub fn proposal_step_rejection(&self) -> Option<NodeFault>
         ensures halted { self.now.halted ≡ true → result ≡ Some NodeFault.Halted }
         ensures step_rejection { self.now.halted ≡ false → IsWhyNot (proposal_step_rejection self.now) result }
@@ -155,8 +162,8 @@ impl<T: Tape> Node<T> {
         self.machine.proposal_step_rejection()
     }
 
-    /// Why a retry would be rejected now: N5 if the node is halted, else the error of the step. None if it would begin. Doesn't
-    /// allocate, changes nothing.
+    /// Why a retry would be rejected now: N5 if the node is halted, else the error of the step.
+    /// None if it would begin. Doesn't allocate, changes nothing.
     pub fn retry_step_rejection(&self) -> Option<NodeFault>
         ensures halted { self.now.halted ≡ true → result ≡ Some NodeFault.Halted }
         ensures step_rejection { self.now.halted ≡ false → IsWhyNot (retry_step_rejection self.now) result }

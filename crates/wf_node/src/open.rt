@@ -23,12 +23,15 @@ use wf_proposer::Proposer;
 use wf_tape::Tape;
 
 impl<T: Tape> Node<T> {
-    /// Node `id` of `n` nodes, with the durable state of its tape, no proposal and no leadership. A torn record after the whole
-    /// ones is removed, and what is kept is synced. An error returns the tape, unchanged unless the tape itself failed: P1 if the
-    /// tape failed; P2 with the byte offset if what follows the whole records isn't a record, or if a published definition isn't the
-    /// next one; P3 if allocation failed. Each record is moved once, so opening takes time in proportion to the tape. A crash at
-    /// each moment inside the call leaves what reads as something that a crash could have left before it. A tape that won't fail
-    /// still won't, and P1 isn't returned. Of a tape that isn't durable: the durable state is that of the bytes that were read.
+    /// Node `id` of `n` nodes, with the durable state of its tape, no proposal and no leadership. A
+    /// torn record after the whole ones is removed, and what is kept is synced. An error returns
+    /// the tape, unchanged unless the tape itself failed: P1 if the tape failed; P2 with the byte
+    /// offset if what follows the whole records isn't a record, or if a published definition isn't
+    /// the next one; P3 if allocation failed. Each record is moved once, so opening takes time in
+    /// proportion to the tape. A crash at each moment inside the call leaves what reads as
+    /// something that a crash could have left before it. A tape that won't fail still won't, and P1
+    /// isn't returned. Of a tape that isn't durable: the durable state is that of the bytes that
+    /// were read.
     #[tactic(auto, using(crate::proofs::Opened::fold_of, crate::proofs::Opened::read_of, crate::proofs::Opened::stands_all, crate::proofs::Opened::bad_read, crate::proofs::Opened::bad_fold, crate::proofs::Opened::bad_settle, crate::proofs::Opened::unfolded_soundly, crate::proofs::Opened::same_before, wf_journal::specs::MomentTheorems::inside_opened, crate::proofs::Opened::follows_before, crate::proofs::Opened::unchanged_before, crate::proofs::Opened::why_failed_before))]
     pub fn open(alloc: Global, tape: T, id: NodeId, n: u8) -> Result<Node<T>, (T, OpenFault)>
         requires nodes { n ≤ 64 }
@@ -72,8 +75,8 @@ impl<T: Tape> Node<T> {
         }
     }
 
-    /// Returns the node's tape unchanged. Unless the node is halted, every image of a durable tape stands for the node's stored
-    /// part.
+    /// Returns the node's tape unchanged. Unless the node is halted, every image of a durable tape
+    /// stands for the node's stored part.
     pub fn close(self) -> T
         ensures tape { result ≡ self.tape }
         ensures stands { T.durable → self.halted ≡ false →

@@ -22,8 +22,9 @@ use wf_proposer::{Next, ProposalState};
 use wf_tape::Tape;
 
 impl<T: Tape> Machine<T> {
-    /// Begins a proposal of `own`, unless one is running or the last sequence is published. A leader whose leadership covers the
-    /// next sequence asks for votes at once; otherwise a new round is needed.
+    /// Begins a proposal of `own`, unless one is running or the last sequence is published. A
+    /// leader whose leadership covers the next sequence asks for votes at once; otherwise a new
+    /// round is needed.
     pub(crate) fn propose(&mut self, alloc: Global, own: Canon) -> Result<Vec<Message>, NodeFault>
         requires { IsReady self.old }
         ensures act { Acts T.Tape (Propose own) self.old result self.new }

@@ -22,12 +22,14 @@ impl Node<MemoryTape> {
     ghost use Rattle.std.specs.Prelude.{IfOk, IfErr};
     ghost use Rattle.wf_node.specs.Relocation.{IsMoved, IsNotMoved};
 
-    /// The node on another tape: in one call of it, the records to which [`Node::shorten`] shortens one replace whatever it held, and
-    /// nothing is read of it. What the node has stored isn't changed, nor its proposal or leadership, whatever kind of tape it is.
-    /// An error returns the tape, and the node is dropped: N5 if the node is halted; then N1 if allocation failed, which leaves the
-    /// tape unchanged; N6 if the tape failed. A crash at each moment inside the call leaves on it what one could have left before, or
-    /// what stands for the node's durable state. With a tape that won't fail N6 isn't returned, and the tape still won't fail. It
-    /// takes time in proportion to what is stored, and copies it.
+    /// The node on another tape: in one call of it, the records to which [`Node::shorten`] shortens
+    /// one replace whatever it held, and nothing is read of it. What the node has stored isn't
+    /// changed, nor its proposal or leadership, whatever kind of tape it is. An error returns the
+    /// tape, and the node is dropped: N5 if the node is halted; then N1 if allocation failed, which
+    /// leaves the tape unchanged; N6 if the tape failed. A crash at each moment inside the call
+    /// leaves on it what one could have left before, or what stands for the node's durable state.
+    /// With a tape that won't fail N6 isn't returned, and the tape still won't fail. It takes time
+    /// in proportion to what is stored, and copies it.
     pub fn move_to<U: Tape>(self, alloc: Global, tape: U) -> Result<Node<U>, (U, NodeFault)>
         ensures moved { IfOk result (IsMoved U.Tape self tape) }
         ensures left { IfErr result (λ e. IsNotMoved U.Tape self tape e.0 e.1) }
@@ -36,8 +38,8 @@ impl Node<MemoryTape> {
             drop(self);
             return Err((tape, NodeFault::Halted));
         }
-        // The model's theorems: what records fold to has votes and promises of sequences that aren't published, and no vote
-        // without a promise.
+        // The model's theorems: what records fold to has votes and promises of sequences that
+        // aren't published, and no vote without a promise.
         folds_are_open::<Canon>();
         votes_are_promised::<Canon>();
         let Node { machine } = self;

@@ -22,14 +22,18 @@ impl<T: Tape> Node<T> {
     ghost use Rattle.wf_tape.specs.Change.{inside, HasFailed, Stays};
     ghost use Rattle.wf_tape.specs.Tape.{IsExtended};
 
-    /// One step: the step table's transition for the input, whose messages are returned once its record is on the tape, after what
-    /// was there. A halted node returns N5. A step that the table rejects changes nothing: N2 if a proposal is requested while one
-    /// is running, N7 if a retry is while none is, then N3 if the last sequence is published, then N4 if a new round is needed and
-    /// there is no higher one; a proposal under a leadership that covers the next sequence needs none. Then N1 if allocation
-    /// failed, which changes nothing either; a transition that stores and sends nothing, as that of an answer that leaves no
-    /// majority, doesn't allocate. And N6 if the tape failed, which halts the node: a prefix of its record's bytes is on the tape,
-    /// after what was there, the node keeps the record, and no message is returned. A crash at each moment inside the step leaves what stands for the stored
-    /// part from before it, or for the transition's. With a tape that won't fail N6 isn't returned, and the tape still won't fail.
+    /// One step: the step table's transition for the input, whose messages are returned once its
+    /// record is on the tape, after what was there. A halted node returns N5. A step that the table
+    /// rejects changes nothing: N2 if a proposal is requested while one is running, N7 if a retry
+    /// is while none is, then N3 if the last sequence is published, then N4 if a new round is
+    /// needed and there is no higher one; a proposal under a leadership that covers the next
+    /// sequence needs none. Then N1 if allocation failed, which changes nothing either; a
+    /// transition that stores and sends nothing, as that of an answer that leaves no majority,
+    /// doesn't allocate. And N6 if the tape failed, which halts the node: a prefix of its record's
+    /// bytes is on the tape, after what was there, the node keeps the record, and no message is
+    /// returned. A crash at each moment inside the step leaves what stands for the stored part from
+    /// before it, or for the transition's. With a tape that won't fail N6 isn't returned, and the
+    /// tape still won't fail.
     pub fn step(&mut self, alloc: Global, input: Input) -> Result<Vec<Message>, NodeFault>
         ensures halted { self.old.halted ≡ true → result ≡ Err NodeFault.Halted }
         ensures running { result ≡ Err NodeFault.Halted → self.old.halted ≡ true }

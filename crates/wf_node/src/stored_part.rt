@@ -112,7 +112,8 @@ impl DurablePart {
         self.acceptor.is_voted_at(slot, ballot)
     }
 
-    /// Answers `Prepare(slot, ballot)` at a slot that isn't published. Allocation can fail only for a promise.
+    /// Answers `Prepare(slot, ballot)` at a slot that isn't published. Allocation can fail only for
+    /// a promise.
     pub(crate) fn on_prepare(
         &mut self,
         slot: Slot,
@@ -128,7 +129,8 @@ impl DurablePart {
         self.acceptor.on_prepare(slot, ballot)
     }
 
-    /// Answers `Accept(slot, ballot, canon)` at a slot that isn't published. Allocation can fail only for a vote.
+    /// Answers `Accept(slot, ballot, canon)` at a slot that isn't published. Allocation can fail
+    /// only for a vote.
     pub(crate) fn on_accept(
         &mut self,
         slot: Slot,
@@ -145,7 +147,8 @@ impl DurablePart {
         self.acceptor.on_accept(slot, ballot, canon)
     }
 
-    /// Makes room for the record, if it is one of a published definition. The prepared record remains.
+    /// Makes room for the record, if it is one of a published definition. The prepared record
+    /// remains.
     pub(crate) fn make_room_for(&mut self, entry: Option<&Record>) -> Result<(), AllocError>
         ensures parts { self.new.parts ≡ self.old.parts }
         ensures id { self.new.id ≡ self.old.id }
@@ -197,7 +200,8 @@ impl DurablePart {
         self.acceptor.has_applied(&other.acceptor, entry)
     }
 
-    /// Applies a record that fits, as the fold does. Doesn't allocate if there is room for the record; an error changes nothing.
+    /// Applies a record that fits, as the fold does. Doesn't allocate if there is room for the
+    /// record; an error changes nothing.
     pub(crate) fn apply(&mut self, entry: Record) -> Result<(), AllocError>
         requires { fits (stored_of self.old) (view entry) ≡ true }
         ensures ok { OnOk result (stored_of self.new ≡
@@ -265,8 +269,8 @@ fn round_after(tried: u32, entry: &Record) -> u32
     }
 }
 
-// Sets the last round to that of a tried round's record, or learns the definition of a published one's. There must be room for
-// it.
+// Sets the last round to that of a tried round's record, or learns the definition of a published
+// one's. There must be room for it.
 fn take_in(tried: &mut u32, history: &mut History, entry: Record)
     requires { IsRoomy history.old.has_room entry }
     ensures tried { tried.new ≡ tried_after tried.old entry }

@@ -26,7 +26,8 @@ pub(crate) fn store<T: Tape>(
     }
 }
 
-/// Has the journal keep the record that wasn't stored, if that is since the tape failed: it may be on the tape.
+/// Has the journal keep the record that wasn't stored, if that is since the tape failed: it may be
+/// on the tape.
 pub(crate) fn keep_unwritten<T: Tape>(
     journal: &mut Journal<T>,
     fault: NodeFault,

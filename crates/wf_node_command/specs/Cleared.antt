@@ -25,11 +25,13 @@ without_suspension file = record file { suspension = None }
 abbrev pub nothing_heard : List ℕ
 nothing_heard = peer_progress_text (replicate 64 None)
 
--- the files were written: `heard` first, of nothing, and then `farm`, without a suspension and else as it was
+-- the files were written: `heard` first, of nothing, and then `farm`, without a suspension and else
+-- as it was
 abbrev pub IsRewritten : NodeFile → List Call → List Call → Type 0
 IsRewritten file old new = new ≡ replaced Farm (node_text (without_suspension file)) ∷ replaced Heard nothing_heard ∷ old
 
--- they weren't both: none was, or `heard` was, and of a file whose writing failed either may be there
+-- they weren't both: none was, or `heard` was, and of a file whose writing failed either may be
+-- there
 abbrev pub IsUnwritten : List Call → List Call → Type 0
 IsUnwritten old new =
     (new ≡ old) ⊎ ((new ≡ failed_at Heard ∷ old) ⊎ ((new ≡ replaced Heard nothing_heard ∷ old) ⊎ (new ≡ failed_at Farm ∷ replaced Heard nothing_heard ∷ old)))

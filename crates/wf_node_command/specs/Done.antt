@@ -28,9 +28,10 @@ use Rattle.wf_tape.specs.declared.tape.Tape.{Ghosts as Tape}
 -- ---- node
 
 module _ {T : Type 0} (tapes : Tape T) where
-  -- The process has gone on in a hub, whose voter it is of at a later moment, and has lived; each client was sent the response to exactly
-  -- what had come of its request, by a process that had lived so, as it was before; and what any message of a peer that it was given tells
-  -- of the peer's round and promise is in the file `heard`. If its folder joins, it has only learned.
+  -- The process has gone on in a hub, whose voter it is of at a later moment, and has lived; each
+  -- client was sent the response to exactly what had come of its request, by a process that had
+  -- lived so, as it was before; and what any message of a peer that it was given tells of the
+  -- peer's round and promise is in the file `heard`. If its folder joins, it has only learned.
   pub record HasLivedOn (started : Process T tapes) (joining : Option Joiner) (calls : List Call) : Type 0 where
     pub voter : Voter T tapes
     pub lived : HasLived tapes voter.process
@@ -47,9 +48,10 @@ module _ {T : Type 0} (tapes : Tape T) where
   IsServed started joining old new (Ok done) = HasLivedOn started joining new × ∥ StaysFrom old new ∥₁
   IsServed started joining old new (Err fault) = IsFromSystem fault × (new ≡ old)
 
-  -- The node was served. Its folder was locked, and these were the first calls: its start was admitted, its tape compared and opened, and
-  -- its file written, raised to what its node had stored. Then its process has gone on, as that of a folder that joins if the file `joins`
-  -- said so, and its tape was left to it.
+  -- The node was served. Its folder was locked, and these were the first calls: its start was
+  -- admitted, its tape compared and opened, and its file written, raised to what its node had
+  -- stored. Then its process has gone on, as that of a folder that joins if the file `joins` said
+  -- so, and its tape was left to it.
   pub record HasServed (line : NodeLine) (old new : List Call) : Type 0 where
     pub file : NodeFile
     pub written : NodeFile

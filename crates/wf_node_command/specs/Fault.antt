@@ -1,4 +1,5 @@
--- The exit status of an error, the error of a list of addresses, and the errors that the system causes.
+-- The exit status of an error, the error of a list of addresses, and the errors that the system
+-- causes.
 use Rattle.std.specs.Prelude.{ℕ, ⊤, List}
 use Rattle.wf_address.specs.declared.list.ListFault.{ListFault}
 use Rattle.wf_address.specs.declared.list.ListFault.TheVariants as lists
@@ -23,7 +24,8 @@ fault_of (lists.Bad index) = faults.BadPeer index
 fault_of (lists.Count count) = faults.PeerCount count
 fault_of lists.Memory = faults.Memory
 
--- The error is one that files, sockets or memory caused before a node began: none of the command line, or of what its files say.
+-- The error is one that files, sockets or memory caused before a node began: none of the command
+-- line, or of what its files say.
 abbrev pub IsFromSystem : CommandFault → Type 0
 IsFromSystem (faults.BadPeer index) = ⊥
 IsFromSystem (faults.PeerCount count) = ⊥

@@ -150,12 +150,14 @@ needs_own (deeds.Replaces file) = true
 needs_own (deeds.FailsAt file) = true
 needs_own deed = false
 
--- each of the later calls that does so came once the folder had been seen to be the one that is locked
+-- each of the later calls that does so came once the folder had been seen to be the one that is
+-- locked
 abbrev pub AreInLockedFolder : List Call → List Call → Type 0
 AreInLockedFolder [] begun = ⊤
 AreInLockedFolder (call ∷ later) begun = (needs_own call.deed ≡ true → is_own (later ++ begun) ≡ true) × AreInLockedFolder later begun
 
--- Calls came after these. None of them made a tape, or put one in the place of another, and only the folder that is locked was written to.
+-- Calls came after these. None of them made a tape, or put one in the place of another, and only
+-- the folder that is locked was written to.
 pub record StaysFrom (begun calls : List Call) : Type 0 where
   pub after : IsAfter begun calls
   pub tapes : tape_changes calls ≡ tape_changes begun

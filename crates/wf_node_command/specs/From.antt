@@ -38,7 +38,8 @@ abbrev pub only_node : Beside → Option ℕ
 only_node (besides.Node file) = Some file.node
 only_node beside = None
 
--- the file can be read, or there is none, and the folder doesn't join; if it says a number of nodes, it says this one; and so the node
+-- the file can be read, or there is none, and the folder doesn't join; if it says a number of
+-- nodes, it says this one; and so the node
 abbrev pub IsReadable : Beside → Type 0
 IsReadable (besides.Bad fault) = ⊥
 IsReadable besides.Joins = ⊥
@@ -108,13 +109,15 @@ pub record IsUntriedIn {V : Type 0} (id tried round : ℕ) (records : List (Reco
   pub at_index : slice_get records index ≡ Some untried
   pub is_untried : IsUntried id tried round untried
 
--- The records fold to a state, and can be this node's: it promised and voted for no round of its own that it hadn't tried.
+-- The records fold to a state, and can be this node's: it promised and voted for no round of its
+-- own that it hadn't tried.
 pub record CanBeRecordsOf (id : ℕ) (records : List (Record Definition)) : Type 0 where
   pub stored : DurableState Definition
   pub folds : fold records ≡ Some stored
   pub own : AllCanBeOf id stored.tried records
 
--- The records fold to a state, and one of them is for a round of the node's own that it hadn't tried.
+-- The records fold to a state, and one of them is for a round of the node's own that it hadn't
+-- tried.
 pub record HasUntried (id : ℕ) (records : List (Record Definition)) (round tried : ℕ) : Type 0 where
   pub stored : DurableState Definition
   pub folds : fold records ≡ Some stored
@@ -137,7 +140,8 @@ pub record IsTapeOfOther (id : ℕ) (bytes : List ℕ) (round tried : ℕ) : Typ
 
 -- ---- both
 
--- The tape of `--from` can be this node's of a farm of n: by what is beside it, by the name that its path ends with, and by its bytes.
+-- The tape of `--from` can be this node's of a farm of n: by what is beside it, by the name that
+-- its path ends with, and by its bytes.
 pub record MayBeFrom (name : Option (List ℕ)) (id n : ℕ) (bytes : List ℕ) : Type 0 where
   pub beside : Beside
   pub by_place : IsOfNode beside name id n

@@ -18,7 +18,8 @@ use Rattle.wf_node_command.specs.Fault.{IsFromSystem}
 use Rattle.wf_node_command.specs.declared.fault.CommandFault.{CommandFault}
 use Rattle.wf_node_command.specs.declared.fault.CommandFault.TheVariants as faults
 
--- What is stored goes so far: its round, its promise, its highest vote, and its last published sequence.
+-- What is stored goes so far: its round, its promise, its highest vote, and its last published
+-- sequence.
 pub record HasReached (stored : DurableState Definition) (reach : Reach) : Type 0 where
   pub tried : reach.round ≡ stored.tried
   pub promised : reach.promise ≡ stored.promise
@@ -29,8 +30,8 @@ pub record HasReached (stored : DurableState Definition) (reach : Reach) : Type 
 abbrev pub digest_up_to : List Definition → ℕ → Option (List ℕ)
 digest_up_to history seq = if nat_le seq (length history) then Some (digest_at history seq) else None
 
--- What is stored holds all that is known of its node: it goes as far, with the same history up to there, and has no lower round, promise
--- and vote.
+-- What is stored holds all that is known of its node: it goes as far, with the same history up to
+-- there, and has no lower round, promise and vote.
 pub record HoldsAll (known : Known) (stored : DurableState Definition) : Type 0 where
   pub reach : Reach
   pub is_reach : HasReached stored reach
@@ -64,7 +65,8 @@ abbrev pub IsWhyNotHeldBy : NodeFile → List ℕ → CommandFault → Type 0
 IsWhyNotHeldBy file content (faults.Rejected why) = HasGoneBack file content why
 IsWhyNotHeldBy file content fault = IsFromSystem fault
 
--- The node of this file, of as many nodes as the file says, was just opened: it runs, with no proposal and no leadership.
+-- The node of this file, of as many nodes as the file says, was just opened: it runs, with no
+-- proposal and no leadership.
 pub record IsOpenedFor {T : Type 0} (file : NodeFile) (node : Node T) : Type 0 where
   pub number : node.id ≡ file.node
   pub among : node.n ≡ file.nodes

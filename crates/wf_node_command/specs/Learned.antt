@@ -13,7 +13,8 @@ unfoldable pub HaveOnlyLearned : {T : Type 0} (tapes : Tape T) → List (Actor T
 HaveOnlyLearned tapes [] = Unit {0}
 HaveOnlyLearned tapes (run ∷ runs) = (besides_chosen run.0.given.items ≡ []) × HaveOnlyLearned tapes runs
 
--- So it is in the run that it is in, and in those that have ended: it never voted, and promised nothing.
+-- So it is in the run that it is in, and in those that have ended: it never voted, and promised
+-- nothing.
 pub record HasOnlyLearned {T : Type 0} (tapes : Tape T) (process : Process T tapes) : Type 0 where
   pub given : besides_chosen process.actor.given.items ≡ []
   pub ended : HaveOnlyLearned tapes process.ended.items

@@ -16,7 +16,8 @@ use Rattle.wf_rejoin.specs.declared.joining.Stage.TheVariants.{Unasked}
 use Rattle.wf_store.specs.Call.{Call, OnlyReads, counted, drawn, failed_at, locked, made, replaced}
 use Rattle.wf_store.specs.declared.file_name.FileName.TheVariants.{Farm, Joins, NodeTape}
 
--- the tape to begin with: an empty one, or that of `--from`, which can be that of the line's node of a farm of as many
+-- the tape to begin with: an empty one, or that of `--from`, which can be that of the line's node
+-- of a farm of as many
 abbrev pub IsFirstTape : InitLine → List ℕ → Type 0
 IsFirstTape line bytes = MatchOption line.from (bytes ≡ []) (λ from. MayBeFrom (path_file_name from.now) line.id line.nodes bytes)
 
@@ -28,7 +29,8 @@ pub record IsFirstFile (line : InitLine) (file : NodeFile) : Type 0 where
   pub starts : file.starts ≡ 0
   pub farm : file.farm ≡ pad line.farm.now
 
--- the folder with this mark joins in the place of one that the line's node lost: nobody was asked yet
+-- the folder with this mark joins in the place of one that the line's node lost: nobody was asked
+-- yet
 abbrev pub first_joining : InitLine → List ℕ → Joining
 first_joining line mark = record { node = line.id; nodes = line.nodes; replacement = record { count = 0; mark = mark }; stages = replicate 64 Unasked }
 
@@ -40,13 +42,15 @@ with_tape line tape mark old = replaced (NodeTape line.id) tape ∷ drawn mark �
 abbrev pub with_joins : InitLine → List ℕ → List Call → List Call
 with_joins line mark old = if line.replaces then replaced Joins (joins_text (first_joining line mark)) ∷ old else old
 
--- The tape was written, then the file `joins` where the folder joins, and then the file `farm`, whose mark was drawn before.
+-- The tape was written, then the file `joins` where the folder joins, and then the file `farm`,
+-- whose mark was drawn before.
 pub record IsFolderMade (line : InitLine) (tape : List ℕ) (old new : List Call) : Type 0 where
   pub file : NodeFile
   pub is_first : IsFirstFile line file
   pub calls : new ≡ replaced Farm (node_text file) ∷ with_joins line file.mark (with_tape line tape file.mark old)
 
--- They weren't all written: the file `farm` is the last one, and of a file whose writing failed it may be there or not.
+-- They weren't all written: the file `farm` is the last one, and of a file whose writing failed it
+-- may be there or not.
 pub record IsHalfFilled (line : InitLine) (tape : List ℕ) (old new : List Call) : Type 0 where
   pub mark : List ℕ
   pub calls : (new ≡ failed_at (NodeTape line.id) ∷ drawn mark ∷ old) ⊎ ((new ≡ with_tape line tape mark old)
@@ -60,7 +64,8 @@ IsUnfilled line tape old new = OnlyReads old new ⊎ IsHalfFilled line tape old 
 abbrev pub made_empty : List Call → List Call
 made_empty old = counted 0 ∷ locked ∷ made ∷ old
 
--- The folder was made: it had no names, and got the file of a node that never started, and its tape, which is empty where the folder joins.
+-- The folder was made: it had no names, and got the file of a node that never started, and its
+-- tape, which is empty where the folder joins.
 pub record HasMade (line : InitLine) (old new : List Call) : Type 0 where
   pub tape : List ℕ
   pub begins : IsFirstTape line tape
@@ -102,7 +107,8 @@ abbrev pub IsInitFault : InitLine → List Call → List Call → CommandFault �
 IsInitFault line old new (faults.NotEmpty why) = HasNames old new
 IsInitFault line old new fault = IsInitCause line fault
 
--- What `init` did: it made the folder; or it ended with an error, and no file was changed, or not all were written.
+-- What `init` did: it made the folder; or it ended with an error, and no file was changed, or not
+-- all were written.
 abbrev pub IsInitDone : InitLine → List Call → List Call → Result (Unit {0}) CommandFault → Type 0
 IsInitDone line old new (Ok done) = HasMade line old new
 IsInitDone line old new (Err fault) = IsInitFault line old new fault × (OnlyReads old new ⊎ IsHalfMade line old new)

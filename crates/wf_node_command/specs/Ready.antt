@@ -16,7 +16,8 @@ use Rattle.wf_peer.specs.declared.heard.Heard.{Heard as HeardOfNode}
 use Rattle.wf_store.specs.Call.{Call}
 use Rattle.wf_tape.specs.declared.tape.Tape.{Ghosts as Tape}
 
--- The plan goes by what was last read of the files `replaced` and `joins`, which is of the folder with this file `farm`, and by the line.
+-- The plan goes by what was last read of the files `replaced` and `joins`, which is of the folder
+-- with this file `farm`, and by the line.
 pub record IsPlanned (line : NodeLine) (file : NodeFile) (calls : List Call) (plan : NodePlan) : Type 0 where
   pub replaced : IsReplacedIn (text_in is_replaced calls) plan.replacements
   pub joins : IsJoinsIn (text_in is_joins calls) (option_map (λ joiner. joiner.joining) plan.joining)
@@ -30,9 +31,10 @@ pub record IsPlanOf (line : NodeLine) (files : ReplacementFiles) (plan : NodePla
   pub allowed : plan.may_replace ≡ line.may_replace
 
 module _ {T : Type 0} (tapes : Tape T) where
-  -- It was started as the node of this file, whose folder had admitted that: it had stored what the bytes stand for that had been read of
-  -- its tape. And its start was counted: the file was written, raised to what it had stored. What it heard is what the file `heard` says,
-  -- but for folders that others have replaced.
+  -- It was started as the node of this file, whose folder had admitted that: it had stored what the
+  -- bytes stand for that had been read of its tape. And its start was counted: the file was
+  -- written, raised to what it had stored. What it heard is what the file `heard` says, but for
+  -- folders that others have replaced.
   pub record IsReadyAs (file : NodeFile) (ready : ReadyNode T tapes) (old new : List Call) : Type 0 where
     pub known : List (Option HeardOfNode)
     pub is_counted : IsCountedOn file ready.file known old new
@@ -41,8 +43,8 @@ module _ {T : Type 0} (tapes : Tape T) where
     pub is_started : IsStarted tapes file ready.process
     pub is_raised : IsRaisedTo (stored_of ready.process.actor.node) file ready.file
 
-  -- Its process is in its first run, to which nothing was given yet, and what it heard is in the file `heard`, but for folders that others
-  -- have replaced.
+  -- Its process is in its first run, to which nothing was given yet, and what it heard is in the
+  -- file `heard`, but for folders that others have replaced.
   pub record IsJustStarted (ready : ReadyNode T tapes) (calls : List Call) : Type 0 where
     pub begun : IsJustOpened ready.process
     pub first : ready.process.ended.items ≡ []

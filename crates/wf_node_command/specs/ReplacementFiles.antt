@@ -98,7 +98,8 @@ IsBadFile file (causes.Replaced why) new = IsReplacedBad new
 IsBadFile file (causes.Joins why) new = IsJoinsBad file (causes.Joins why) new
 IsBadFile file causes.OtherFolder new = IsJoinsBad file causes.OtherFolder new
 
--- why nothing is known by the file `replaced`, by the file `joins`, and by either: it is bad, or the system failed
+-- why nothing is known by the file `replaced`, by the file `joins`, and by either: it is bad, or
+-- the system failed
 abbrev pub IsReplacedFault : List Call → CommandFault → Type 0
 IsReplacedFault new (faults.Replacement (causes.Replaced why)) = IsReplacedBad new
 IsReplacedFault new (faults.Replacement why) = ⊥
@@ -132,7 +133,8 @@ abbrev pub text_in : (FileName → Bool) → List Call → Option (List ℕ)
 text_in is [] = None
 text_in is (call ∷ earlier) = text_by is call.deed call.bytes (text_in is earlier)
 
--- The files say what was last read of them, or written to them, of the folder with this file `farm`.
+-- The files say what was last read of them, or written to them, of the folder with this file
+-- `farm`.
 pub record AreNoted (file : NodeFile) (files : ReplacementFiles) (calls : List Call) : Type 0 where
   pub replaced : IsReplacedIn (text_in is_replaced calls) files.known
   pub joins : IsJoinsIn (text_in is_joins calls) (option_map (λ joiner. joiner.joining) files.joining)

@@ -8,8 +8,8 @@ use Rattle.wf_peer.specs.declared.heard.Heard.{Heard as HeardOfNode}
 use Rattle.wf_store.specs.Call.{Call, locked}
 use Rattle.wf_tape.specs.declared.tape.Tape.{Ghosts as Tape}
 
--- Its folder was locked, and these were the first calls: its start was admitted, and was counted. It took no turn yet, and goes by what it
--- had heard, as it was when it was ready.
+-- Its folder was locked, and these were the first calls: its start was admitted, and was counted.
+-- It took no turn yet, and goes by what it had heard, as it was when it was ready.
 pub record IsRunning {T : Type 0} (tapes : Tape T) (line : NodeLine) (process : Process T tapes) (kept : List (Option HeardOfNode)) (old new : List Call) : Type 0 where
   pub ready : ReadyNode T tapes
   pub is_ready : IsReady tapes line ready (locked ∷ old) new

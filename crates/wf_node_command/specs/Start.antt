@@ -118,8 +118,9 @@ abbrev pub IsUnopened : NodeFile → List Call → List Call → Type 0
 IsUnopened file old new = OnlyReads old new ⊎ IsTapeTouched file old new
 
 module _ {T : Type 0} (tapes : Tape T) where
-  -- The process is the node of this file, of as many nodes as the file says, and is in its first run: its node was opened, and moved to its
-  -- tape, which has its records since. It holds all that the file says is known of it.
+  -- The process is the node of this file, of as many nodes as the file says, and is in its first
+  -- run: its node was opened, and moved to its tape, which has its records since. It holds all that
+  -- the file says is known of it.
   pub record IsStarted (file : NodeFile) (process : Process T tapes) : Type 0 where
     pub opened : IsOpened tapes process.actor.node.tape file.node file.nodes process.actor.node
     pub begun : IsJustOpened process
@@ -139,7 +140,8 @@ pub record IsStartCounted (heard : List (Option HeardOfNode)) (written : NodeFil
   pub is_heard : IsHeardIn bytes heard
   pub calls : new ≡ replaced Farm (node_text written) ∷ read Heard bytes ∷ old
 
--- The start was counted, and of what was heard that of folders that others have replaced is left out.
+-- The start was counted, and of what was heard that of folders that others have replaced is left
+-- out.
 pub record IsReadyCounted (replacements : List (Option Replacement)) (heard : List (Option HeardOfNode)) (written : NodeFile) (old new : List Call) : Type 0 where
   pub known : List (Option HeardOfNode)
   pub is_counted : IsStartCounted known written old new
@@ -156,8 +158,8 @@ IsNotCounted old new = OnlyReads old new ⊎ IsUncounted old new
 
 -- ---- the start
 
--- The calls of a start that was admitted: the tape was read, compared and opened; the bits that mark this life were drawn; what was heard
--- was read; and the file `farm` was written.
+-- The calls of a start that was admitted: the tape was read, compared and opened; the bits that
+-- mark this life were drawn; what was heard was read; and the file `farm` was written.
 pub record IsCountedOn (file written : NodeFile) (heard : List (Option HeardOfNode)) (old new : List Call) : Type 0 where
   pub on_tape : List Call
   pub is_on_tape : IsTapeOpened file old on_tape
@@ -194,7 +196,8 @@ pub record IsUnserved (line : NodeLine) (old new : List Call) : Type 0 where
   pub heard : List (Option HeardOfNode)
   pub is_start : IsStartOn line file written heard old new
 
--- what is left in the folder where the node wasn't served: no file was changed; or it was locked, and the start was stopped
+-- what is left in the folder where the node wasn't served: no file was changed; or it was locked,
+-- and the start was stopped
 abbrev pub IsNotServed : NodeLine → List Call → List Call → Type 0
 IsNotServed line old new = OnlyReads old new ⊎ (IsStartCutShort line (locked ∷ old) new ⊎ IsUnserved line (locked ∷ old) new)
 
@@ -244,7 +247,8 @@ IsHeldCause line old new (faults.PeerProgress why) = IsHeardBad new
 IsHeldCause line old new (faults.Replacement why) = HasBadFile line why old new
 IsHeldCause line old new fault = IsFromSystem fault
 
--- Why a node didn't begin: the list or an option of the command line, what was found in the folder, or the system.
+-- Why a node didn't begin: the list or an option of the command line, what was found in the folder,
+-- or the system.
 abbrev pub IsNodeCause : NodeLine → List Call → List Call → CommandFault → Type 0
 IsNodeCause line old new (faults.BadPeer index) = IsFirstBad (words_of line.peers.now) index
 IsNodeCause line old new (faults.PeerCount count) = (count ≡ length (words_of line.peers.now)) × (64 < count)

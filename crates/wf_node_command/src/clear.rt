@@ -11,8 +11,9 @@ use wf_folder::{NodeFile, NodeFound, NodeRejection};
 use wf_peer::PeerProgress;
 use wf_store::{FolderFault, Store};
 
-/// Ends the suspension of the node of a folder, and forgets what was heard of its peers, what they were accused of too: the folder's lock
-/// says that no process uses it. After an error a suspension stays, unless the folder alone couldn't be synced.
+/// Ends the suspension of the node of a folder, and forgets what was heard of its peers, what they
+/// were accused of too: the folder's lock says that no process uses it. After an error a suspension
+/// stays, unless the folder alone couldn't be synced.
 #[tactic(auto, using(crate::proofs::Clearing::not_locked, crate::proofs::Clearing::locked_first))]
 pub(crate) fn clear<S: Store>(alloc: Global, store: &mut S) -> Result<(), CommandFault>
     ensures { IsClearDone (S.calls store.old) (S.calls store.new) result }
@@ -40,7 +41,8 @@ fn clear_held<S: Store>(alloc: Global, store: &mut S) -> Result<(), CommandFault
     }
 }
 
-/// Writes the files of a folder with this file `farm`: what was heard first, so that a suspension stays where that can't be written.
+/// Writes the files of a folder with this file `farm`: what was heard first, so that a suspension
+/// stays where that can't be written.
 #[tactic(auto, using(crate::proofs::Clearing::not_heard, crate::proofs::Clearing::heard_alone, crate::proofs::Clearing::rewritten))]
 fn write_cleared<S: Store>(alloc: Global, store: &mut S, file: &NodeFile) -> Result<(), FolderFault>
     requires { IsNodeFile file.now }

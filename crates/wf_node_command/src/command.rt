@@ -13,10 +13,11 @@ use std::time::Clock;
 use wf_line::NodeCommand;
 use wf_store::Store;
 
-/// Runs a command on its folder, which is handed back: `init` makes the folder of a node, `node` serves it for this many turns, or until a
-/// peer tells it that it has to end, and `clear` ends a suspension; only `node` takes turns. A turn waits until a socket is ready, 0.1
-/// seconds at most. Err: the cause, whose text is the line for standard error. After an error of `init` the folder may have a file
-/// without being a node's; it begins on no such folder.
+/// Runs a command on its folder, which is handed back: `init` makes the folder of a node, `node`
+/// serves it for this many turns, or until a peer tells it that it has to end, and `clear` ends a
+/// suspension; only `node` takes turns. A turn waits until a socket is ready, 0.1 seconds at most.
+/// Err: the cause, whose text is the line for standard error. After an error of `init` the folder
+/// may have a file without being a node's; it begins on no such folder.
 pub fn run<R: Files<File = File> + Clock + Eprint + Net + AllocGlobal, S: Store>(
     rt: &R,
     store: S,

@@ -47,8 +47,8 @@ fn found_in(bytes: &[u8]) -> NodeFound
     }
 }
 
-/// What was heard of the peers before, by the file `heard` of a folder: nothing if there is none. A file that can't be read as one is an
-/// error.
+/// What was heard of the peers before, by the file `heard` of a folder: nothing if there is none. A
+/// file that can't be read as one is an error.
 #[tactic(auto, using(crate::proofs::Found::heard_bad))]
 pub(crate) fn read_peer_progress<S: Store>(store: &mut S) -> Result<PeerProgress, CommandFault>
     ensures known { IfOk result (λ known. IsHeardFound known (S.calls store.old) (S.calls store.new)) }
@@ -65,7 +65,8 @@ pub(crate) fn read_peer_progress<S: Store>(store: &mut S) -> Result<PeerProgress
     }
 }
 
-/// Puts a file `farm` in the place of the one that is there, synced with the folder. Err: `Unwritten`, and either may be there; or `Memory`.
+/// Puts a file `farm` in the place of the one that is there, synced with the folder. Err:
+/// `Unwritten`, and either may be there; or `Memory`.
 pub(crate) fn write_farm<S: Store>(
     alloc: Global,
     store: &mut S,
@@ -84,8 +85,8 @@ pub(crate) fn write_farm<S: Store>(
     }
 }
 
-/// Puts a file `heard` in the place of the one that is there, synced with the folder. Err: `Unwritten`, and either may be there; or
-/// `Memory`.
+/// Puts a file `heard` in the place of the one that is there, synced with the folder. Err:
+/// `Unwritten`, and either may be there; or `Memory`.
 pub(crate) fn write_heard<S: Store>(
     alloc: Global,
     store: &mut S,

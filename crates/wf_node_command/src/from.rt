@@ -32,10 +32,10 @@ pub(crate) struct FirstTape {
     pub(crate) is_known: bool,
 }
 
-/// The tape in a file, if it can be that of a node of a farm of so many: the file `farm` beside it is that of a farm of as many nodes, or of
-/// this node, its folder doesn't join, the tape has the name of this node's, and it promised and voted for no round of the node's own that
-/// it hadn't tried.
-/// Without a file `farm` beside it its name doesn't matter. Nothing is written.
+/// The tape in a file, if it can be that of a node of a farm of so many: the file `farm` beside it
+/// is that of a farm of as many nodes, or of this node, its folder doesn't join, the tape has the
+/// name of this node's, and it promised and voted for no round of the node's own that it hadn't
+/// tried. Without a file `farm` beside it its name doesn't matter. Nothing is written.
 pub(crate) fn tape_from<R: Files + AllocGlobal>(
     rt: &R,
     from: &str,
@@ -262,7 +262,8 @@ fn is_number_and_end(rest: &[u8], id: u8) -> bool
     }
 }
 
-/// Whether a node opens on a tape of these bytes, and can be this one by its records. It is opened on a copy.
+/// Whether a node opens on a tape of these bytes, and can be this one by its records. It is opened
+/// on a copy.
 fn examine(alloc: Global, bytes: &[u8], id: NodeId, n: u8) -> Result<(), CommandFault>
     requires nodes { n ≤ 64 }
     requires member { id < n }
@@ -319,7 +320,8 @@ fn examine_records(
     }
 }
 
-/// The round of the first promise or vote for a round of the node's own that is above what it tried.
+/// The round of the first promise or vote for a round of the node's own that is above what it
+/// tried.
 fn first_untried(records: &[Record], id: NodeId, tried: u32) -> Option<u32>
     ensures none { IfNone result (AllCanBeOf id tried (map view records.now)) }
     ensures some { IfSome result (λ round. IsUntriedIn id tried round (map view records.now)) }

@@ -36,7 +36,8 @@ pub enum FromRejection {
     /// Its name isn't that of the wanted node's tape.
     #[error("another node's tape, and node-{0}.tape is wanted")]
     OtherName(u8),
-    /// A record of it promises or votes for the first round, as one of the node's own; its node tried no higher than the second one.
+    /// A record of it promises or votes for the first round, as one of the node's own; its node
+    /// tried no higher than the second one.
     #[error("another node's tape: its node promised or voted for round {0} of its own, and tried up to {1}")]
     Untried(u32, u32),
 }

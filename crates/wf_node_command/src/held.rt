@@ -1,5 +1,5 @@
-//! The folder of a node, as its process has locked it: there a tape that failed is opened again, and is written how far the node is, and
-//! what it heard.
+//! The folder of a node, as its process has locked it: there a tape that failed is opened again,
+//! and is written how far the node is, and what it heard.
 ghost use Rattle.std.specs.Prelude.{◌≡◌, ◌+◌, IfSome, OnOk, Some, false};
 ghost use Rattle.wf_folder.specs.NodeFile.{IsNodeFile};
 ghost use Rattle.wf_node_command.specs.Folder.{AreFiles, StaysFrom, calls_in, heard_in, heard_of_file, is_own, is_tape};
@@ -12,7 +12,8 @@ use wf_folder::{NodeFile, NodeFound, Reach, Suspension};
 use wf_loop::{FolderError, NodeFolder, NotReopened};
 use wf_store::{FileName, FolderFault, Store};
 
-/// The folder of a node, as its process has locked it, with the file `farm` that the process wrote last.
+/// The folder of a node, as its process has locked it, with the file `farm` that the process wrote
+/// last.
 pub(crate) struct HeldFolder<S: Store> {
     alloc: Global,
     running: RunningStore<S>,
@@ -71,7 +72,8 @@ impl<S: Store> HeldFolder<S> {
         }
     }
 
-    /// Whether a file `farm` is one that this process wrote: the last one, or a later one whose writing failed.
+    /// Whether a file `farm` is one that this process wrote: the last one, or a later one whose
+    /// writing failed.
     fn is_own(&self, found: &NodeFile) -> bool {
         if *found == self.file {
             return true;
@@ -124,8 +126,8 @@ impl<S: Store> HeldFolder<S> {
         }
     }
 
-    /// Puts a text in the place of a file about replacements, synced, with the folder: only into the folder that is locked. After an error
-    /// either may be there.
+    /// Puts a text in the place of a file about replacements, synced, with the folder: only into
+    /// the folder that is locked. After an error either may be there.
     #[tactic(auto, using(crate::proofs::Stays::nothing_heard))]
     fn put(&mut self, file: FileName, text: Vec<u8>) -> Result<(), FolderError>
         requires tape { is_tape file ≡ false }
@@ -143,7 +145,8 @@ impl<S: Store> HeldFolder<S> {
         self.running.replace(file, text)
     }
 
-    /// Writes another file `farm`, synced, with the folder: only into the folder that is locked. After an error either may be there.
+    /// Writes another file `farm`, synced, with the folder: only into the folder that is locked.
+    /// After an error either may be there.
     fn write(&mut self, next: &NodeFile) -> Result<(), FolderError>
         requires { IsNodeFile next.now }
         ensures starts { self.new.starts ≡ self.old.starts }

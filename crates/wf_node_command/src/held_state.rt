@@ -13,7 +13,8 @@ use wf_loop::reach_of;
 use wf_node::Node;
 use wf_tape::Tape;
 
-/// How far a node is, with the digest of its history, if it holds all that is known of it. Err: why it doesn't, or an allocation failed.
+/// How far a node is, with the digest of its history, if it holds all that is known of it. Err: why
+/// it doesn't, or an allocation failed.
 #[tactic(auto, using(crate::proofs::Reached::found_digest, crate::proofs::Reached::holds_all, crate::proofs::Reached::holds_less, crate::proofs::Reached::known_of))]
 pub(crate) fn examine_node<T: Tape>(
     alloc: Global,

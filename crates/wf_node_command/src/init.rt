@@ -48,8 +48,8 @@ fn joins_with_tape(line: &InitLine<'_>) -> bool
     line.replaces && line.from.is_some()
 }
 
-/// Makes the folder: the tape to begin with is read first, so that nothing is made where that isn't taken. A tape of which no file says
-/// whose it is is taken with a warning.
+/// Makes the folder: the tape to begin with is read first, so that nothing is made where that isn't
+/// taken. A tape of which no file says whose it is is taken with a warning.
 #[tactic(auto, using(crate::proofs::Making::not_made))]
 fn make<R: Files + Eprint + AllocGlobal, S: Store>(
     rt: &R,
@@ -84,7 +84,8 @@ fn warn<R: Eprint>(rt: &R, line: &InitLine<'_>) {
     }
 }
 
-/// Makes the folder that begins with a tape of these bytes, if its parent is there and the folder has no names, and the files in it.
+/// Makes the folder that begins with a tape of these bytes, if its parent is there and the folder
+/// has no names, and the files in it.
 #[tactic(auto, using(crate::proofs::Making::not_empty, crate::proofs::Making::made_so))]
 fn make_with<S: Store>(
     alloc: Global,
@@ -133,8 +134,9 @@ fn make_empty<S: Store>(store: &mut S) -> Result<(), CommandFault>
     }
 }
 
-/// Writes the tape, the file `joins` where the folder joins, and the file `farm` of an empty folder: that one last, so that a folder with a
-/// file `farm` has a tape, and doesn't vote where it is to join.
+/// Writes the tape, the file `joins` where the folder joins, and the file `farm` of an empty
+/// folder: that one last, so that a folder with a file `farm` has a tape, and doesn't vote where it
+/// is to join.
 #[tactic(auto, using(crate::proofs::Making::tape_failed, crate::proofs::Making::tape_alone, crate::proofs::Making::no_farm, crate::proofs::Making::filled))]
 fn write_files<S: Store>(
     alloc: Global,

@@ -104,7 +104,8 @@ fn start_held<R: Files<File = File> + Clock + Eprint + AllocGlobal, S: Store>(
     }
 }
 
-/// The file of this start of one of so many nodes, by what is in the folder, and what the folder says of replacements.
+/// The file of this start of one of so many nodes, by what is in the folder, and what the folder
+/// says of replacements.
 #[tactic(auto, using(crate::proofs::Started::noted_by, crate::proofs::Started::start_admitted, crate::proofs::Started::not_file, crate::proofs::Started::bad_file, wf_store::specs::CallTheorems::reads_both))]
 fn admit<S: Store>(
     store: &mut S,
@@ -172,7 +173,8 @@ fn node_in(found: &NodeFound) -> u8
     }
 }
 
-/// Starts the node on its folder, as this file says. The tape is opened first: where it doesn't open, no start is counted.
+/// Starts the node on its folder, as this file says. The tape is opened first: where it doesn't
+/// open, no start is counted.
 #[tactic(auto, using(crate::proofs::Starting::plan_still, crate::proofs::Starting::unopened, crate::proofs::Starting::unplanned, crate::proofs::Starting::counted_on, crate::proofs::Starting::uncounted_on, crate::proofs::Starting::stop_of_system, crate::proofs::Starting::stop_unopened, crate::proofs::Starting::stop_unheard))]
 fn start_as<R: Files<File = File> + Clock + Eprint + AllocGlobal, S: Store>(
     rt: &R,
@@ -215,8 +217,9 @@ fn start_as<R: Files<File = File> + Clock + Eprint + AllocGlobal, S: Store>(
     }
 }
 
-/// The process of the node of this file on its tape, and how far the node is. The node is opened on what is read of the tape, and compared
-/// with what is known of it, before anything is written; then it moves to the tape.
+/// The process of the node of this file on its tape, and how far the node is. The node is opened on
+/// what is read of the tape, and compared with what is known of it, before anything is written;
+/// then it moves to the tape.
 #[tactic(auto, using(crate::proofs::Opening::untouched, crate::proofs::Opening::only_read, crate::proofs::Opening::uncompared_of_system, crate::proofs::Opening::not_opened, crate::proofs::Opening::opened_so, crate::proofs::Opening::opened_alone, crate::proofs::Opening::opened_read, crate::proofs::Opening::opened_of_system))]
 fn open_node<R: Files + Clock + Eprint + AllocGlobal, S: Store>(
     rt: &R,
@@ -338,8 +341,8 @@ fn plan_with(
     })
 }
 
-/// Counts the start in the folder: the node is ready to be served then. What was heard of a folder that another one has replaced since is
-/// left out.
+/// Counts the start in the folder: the node is ready to be served then. What was heard of a folder
+/// that another one has replaced since is left out.
 #[tactic(auto, using(crate::proofs::Starting::raised_by))]
 fn make_ready<S: Store>(
     alloc: Global,
@@ -376,8 +379,8 @@ fn make_ready<S: Store>(
     }
 }
 
-/// Counts the start in the folder's file, raised to how far the node is. Ok is what was heard of the peers before, and the file as it was
-/// written.
+/// Counts the start in the folder's file, raised to how far the node is. Ok is what was heard of
+/// the peers before, and the file as it was written.
 #[tactic(auto, using(crate::proofs::Starting::counted_by, crate::proofs::Starting::unwritten_by))]
 fn count_start<S: Store>(
     alloc: Global,

@@ -23,8 +23,9 @@ pub(crate) struct ReplacementFiles {
     pub(crate) joining: Option<Joiner>,
 }
 
-/// What a folder with this file `farm` says of replacements. Without a file `replaced` its node knows of none; without a file `joins`, or
-/// with an empty one, it doesn't join. A file that can't be read as one is an error, and a file `joins` of another folder.
+/// What a folder with this file `farm` says of replacements. Without a file `replaced` its node
+/// knows of none; without a file `joins`, or with an empty one, it doesn't join. A file that can't
+/// be read as one is an error, and a file `joins` of another folder.
 #[tactic(auto, using(wf_store::specs::CallTheorems::reads_both, crate::proofs::ReplacementFiles::cause_of_joins, crate::proofs::ReplacementFiles::cause_of_replaced))]
 pub(crate) fn read_replacement_files<S: Store>(
     store: &mut S,

@@ -9,8 +9,9 @@ use wf_loop::{FolderError, NotReopened};
 use wf_past::Past;
 use wf_store::{FileName, FolderFault, Store};
 
-/// The folder of a node while it is served. A clause sees the folder as it was when that began, which only proofs read. The calls that came
-/// later made no tape, and put none in the place of another; and only the folder that is locked is written to.
+/// The folder of a node while it is served. A clause sees the folder as it was when that began,
+/// which only proofs read. The calls that came later made no tape, and put none in the place of
+/// another; and only the folder that is locked is written to.
 pub(crate) struct RunningStore<S: Store> {
     store: S,
     pub(crate) began: Past<S, usize>,
@@ -94,8 +95,9 @@ impl<S: Store> RunningStore<S> {
         }
     }
 
-    /// Puts a text in the place of a file that is no tape, in the folder that is locked. Meanwhile another folder may have come to the path, which is an error. After an
-    /// error the text from before or this one is there.
+    /// Puts a text in the place of a file that is no tape, in the folder that is locked. Meanwhile
+    /// another folder may have come to the path, which is an error. After an error the text from
+    /// before or this one is there.
     #[tactic(auto, using(crate::proofs::Stays::stays_replacing, crate::proofs::Stays::heard_put, crate::proofs::Stays::heard_not_put))]
     pub(crate) fn replace(&mut self, file: FileName, text: Vec<u8>) -> Result<(), FolderError>
         requires file { is_tape file ≡ false }

@@ -28,8 +28,8 @@ use wf_sockets::{Network, SystemNetwork};
 use wf_store::Store;
 use wf_tape::Tape;
 
-/// A node that runs on its folder, which it has locked, over a network: its caller waits for sockets and steps it. A clause sees its hub
-/// and its folder.
+/// A node that runs on its folder, which it has locked, over a network: its caller waits for
+/// sockets and steps it. A clause sees its hub and its folder.
 pub struct RunningNode<S: Store, N: Network = SystemNetwork> {
     hub: Hub<S::Tape, N>,
     folder: HeldFolder<S>,
@@ -42,8 +42,8 @@ impl<S: Store + Drop, N: Network + Drop> Drop for RunningNode<S, N> {
 }
 
 impl<S: Store, N: Network + Drop> RunningNode<S, N> {
-    /// Starts a node on its folder, which is locked first, and binds its addresses on a network, at this time in milliseconds. Err: the
-    /// cause, as that of `wfarm node`, and the folder.
+    /// Starts a node on its folder, which is locked first, and binds its addresses on a network, at
+    /// this time in milliseconds. Err: the cause, as that of `wfarm node`, and the folder.
     #[tactic(auto, using(crate::proofs::Served::running_by, crate::proofs::Served::not_started, crate::proofs::Served::fresh_by))]
     pub fn start<R: Files<File = File> + Clock + Eprint + Net + AllocGlobal>(
         rt: &R,
@@ -133,22 +133,24 @@ impl<S: Store, N: Network + Drop> RunningNode<S, N> {
         self.hub.always_lived();
     }
 
-    /// Whether what its process wrote is for the next start of its folder: it is given nothing any more, and is to end without an error.
+    /// Whether what its process wrote is for the next start of its folder: it is given nothing any
+    /// more, and is to end without an error.
     pub fn is_over(&self) -> bool
         ensures { IsTrue result ↔ IsOver self.now.hub }
     {
         self.hub.is_over()
     }
 
-    /// For how long the next turn may be waited for at most where no socket is ready, in milliseconds.
+    /// For how long the next turn may be waited for at most where no socket is ready, in
+    /// milliseconds.
     pub fn patience(&self, time: u64) -> u64
         ensures { result ≤ 100 }
     {
         self.hub.patience(time)
     }
 
-    /// One turn, at this time in milliseconds, for the sockets with these tokens, which may be ready; it waits for nothing. Where the tape
-    /// has failed, it is opened again once that is due.
+    /// One turn, at this time in milliseconds, for the sockets with these tokens, which may be
+    /// ready; it waits for nothing. Where the tape has failed, it is opened again once that is due.
     #[tactic(auto, using(crate::proofs::Learned::learner_on, crate::proofs::Served::kept_still))]
     pub fn turn<R: Files<File = File> + Clock + Eprint + Net + AllocGlobal>(
         &mut self,
@@ -157,9 +159,11 @@ impl<S: Store, N: Network + Drop> RunningNode<S, N> {
         ready: &[usize],
         time: u64,
     )
-        // Whatever came, the node has lived by its acts, was given only what receivers returned, and sent only what it returned.
+        // Whatever came, the node has lived by its acts, was given only what receivers returned,
+        // and sent only what it returned.
         ensures lived { HasLived S.Tape.Tape (process_of self.new.hub) }
-        // Each client was sent the response to exactly what had come of its request, by a process that had lived so.
+        // Each client was sent the response to exactly what had come of its request, by a process
+        // that had lived so.
         ensures answered { HasAnswered S.Tape.Tape self.new.hub }
         // It goes on in its run, or its run has ended and another began.
         ensures earlier { KeepsEarlier S.Tape.Tape (process_of self.old.hub)
@@ -177,8 +181,8 @@ impl<S: Store, N: Network + Drop> RunningNode<S, N> {
         hub.always_lived();
     }
 
-    /// Ends the node. Its folder is handed back, unlocked where it is dropped: no tape of it was made or put in the place of another, and
-    /// only the folder that was locked was written to.
+    /// Ends the node. Its folder is handed back, unlocked where it is dropped: no tape of it was
+    /// made or put in the place of another, and only the folder that was locked was written to.
     pub fn close(self) -> S
         ensures same { S.calls result ≡ S.calls self.folder.running.store }
         ensures stays { ∥ StaysFrom (calls_in S.calls self.folder.running.began.items)

@@ -21,7 +21,8 @@ use wf_line::NodeLine;
 use wf_loop::{Hub, Log};
 use wf_store::Store;
 
-/// Serves a node that is ready for this many turns, or until its process is over, over the network of the system, and hands its folder back.
+/// Serves a node that is ready for this many turns, or until its process is over, over the network
+/// of the system, and hands its folder back.
 #[tactic(auto, using(crate::proofs::Served::not_served))]
 pub(crate) fn serve<R: Files<File = File> + Clock + Eprint + Net + AllocGlobal, S: Store>(
     rt: &R,
@@ -80,10 +81,11 @@ fn go_on<R: Files<File = File> + Clock + Eprint + Net + AllocGlobal, S: Store>(
     node: &mut RunningNode<S>,
     turns: u64,
 )
-    // Whatever came in however many turns, the node has lived by its acts, was given only what receivers returned, and sent only what it
-    // returned.
+    // Whatever came in however many turns, the node has lived by its acts, was given only what
+    // receivers returned, and sent only what it returned.
     ensures lived { HasLived S.Tape.Tape (process_of node.new.hub) }
-    // Each client was sent the response to exactly what had come of its request, by a process that had lived so.
+    // Each client was sent the response to exactly what had come of its request, by a process that
+    // had lived so.
     ensures answered { HasAnswered S.Tape.Tape node.new.hub }
     // It goes on in its run, or its run has ended and others began.
     ensures earlier { KeepsEarlier S.Tape.Tape (process_of node.old.hub)

@@ -8,7 +8,8 @@ use wf_journal::{Journal, OpenFault, records_are_read_one_way};
 use wf_recovery::drop_unsynced;
 use wf_tape::{Tape, TapeFault};
 
-/// A tape written anew, with its whole records alone, and how many zeros were dropped that were behind them and never synced.
+/// A tape written anew, with its whole records alone, and how many zeros were dropped that were
+/// behind them and never synced.
 #[tactic(auto, using(crate::proofs::Kept::alike_back))]
 pub(crate) fn settle<T: Tape + Drop>(alloc: Global, tape: T) -> Result<(T, usize), OpenFault>
     ensures { T.durable →
@@ -85,8 +86,8 @@ fn settle_front<T: Tape + Drop>(
     }
 }
 
-/// A tape that is bad at this offset, without the zeros there, which were never synced, and their number. Err: it has something else
-/// there.
+/// A tape that is bad at this offset, without the zeros there, which were never synced, and their
+/// number. Err: it has something else there.
 fn drop_zeros<T: Tape + Drop>(
     alloc: Global,
     tape: T,

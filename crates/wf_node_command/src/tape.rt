@@ -33,7 +33,8 @@ use wf_tape::{MemoryTape, Tape};
 /// The greatest length of a tape, in bytes.
 pub(crate) const MOST_TAPE_BYTES: usize = 8_589_934_592;
 
-/// The node of this file on a copy of its tape's bytes in memory, if it holds all that is known of it: no file is changed.
+/// The node of this file on a copy of its tape's bytes in memory, if it holds all that is known of
+/// it: no file is changed.
 #[tactic(auto, using(crate::proofs::Opening::compared_by, crate::proofs::Opening::read_by, crate::proofs::Opening::not_compared_by, crate::proofs::Opening::uncompared_of_system))]
 pub(crate) fn examine_tape<S: Store>(
     alloc: Global,
@@ -105,7 +106,8 @@ fn examine_bytes(alloc: Global, file: &NodeFile, bytes: Vec<u8>) -> Result<ReadN
     }
 }
 
-/// The node of this file on a tape of these bytes, in memory, and how many zeros were dropped behind its records.
+/// The node of this file on a tape of these bytes, in memory, and how many zeros were dropped
+/// behind its records.
 #[tactic(auto, using(crate::proofs::Kept::stands_back))]
 fn open_copy(
     alloc: Global,
@@ -156,8 +158,9 @@ fn copy_fault(fault: OpenFault) -> CommandFault
     }
 }
 
-/// The process of a node that was read, on its tape, and how far the node is: what it has stored replaces what the tape held, in one
-/// call, and nothing is read of the tape. Zeros behind the records that were read are gone then.
+/// The process of a node that was read, on its tape, and how far the node is: what it has stored
+/// replaces what the tape held, in one call, and nothing is read of the tape. Zeros behind the
+/// records that were read are gone then.
 pub(crate) fn open_process<R: Files + Clock + Eprint + AllocGlobal, T: Tape + Drop>(
     rt: &R,
     log: &Log<'_, R>,
@@ -216,8 +219,8 @@ fn fault_of_move<R: Files + AllocGlobal>(rt: &R, path: &str, fault: NodeFault) -
     }
 }
 
-/// Why a tape has failed. A start writes a second copy beside it, which then gets its name: it is read, and that is tried once more,
-/// for the system's cause.
+/// Why a tape has failed. A start writes a second copy beside it, which then gets its name: it is
+/// read, and that is tried once more, for the system's cause.
 fn cause_of_failure<R: Files + AllocGlobal>(rt: &R, path: &str) -> CommandFault
     ensures { IsFromSystem result }
 {

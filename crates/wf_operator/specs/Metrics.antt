@@ -1,5 +1,5 @@
--- A metric in Prometheus' text form: a line of what it tells, a line of its type, and its samples, each with a name and a number. Each
--- definition is a text, and after it what is appended.
+-- A metric in Prometheus' text form: a line of what it tells, a line of its type, and its samples,
+-- each with a name and a number. Each definition is a text, and after it what is appended.
 use Rattle.std.specs.Prelude.{ℕ, List, ◌++◌, ◌-◌, ◌/◌, ◌%◌, [], codes, decimal, false}
 use Rattle.std.specs.Fmt.{padded_integral, format_spec}
 use Rattle.wf_operator.specs.declared.metrics.MetricType.{MetricType}

@@ -37,8 +37,8 @@ pub(crate) fn text_of(alloc: Global, canon: &Canon) -> Result<Option<String>, Al
     }
 }
 
-/// Appends the line of a sequence: its number, the digest of the history up to it, the length of its canonical text, and the map's name
-/// and title in quotes.
+/// Appends the line of a sequence: its number, the digest of the history up to it, the length of
+/// its canonical text, and the map's name and title in quotes.
 pub(crate) fn push_line(
     text: &mut String,
     number: u16,

@@ -14,7 +14,8 @@ pub enum MetricType {
     Counter,
 }
 
-/// Appends the head of a metric: what it tells, which has no line break and no backslash, and its type. Its samples follow.
+/// Appends the head of a metric: what it tells, which has no line break and no backslash, and its
+/// type. Its samples follow.
 pub fn head(
     text: &mut String,
     name: &str,
@@ -56,7 +57,8 @@ pub fn counter(text: &mut String, name: &str, help: &str, value: u64) -> Result<
     push_sample(text, name, value)
 }
 
-/// Appends a counter of seconds: its head, and its one sample, in which so many microseconds are over.
+/// Appends a counter of seconds: its head, and its one sample, in which so many microseconds are
+/// over.
 pub fn seconds(text: &mut String, name: &str, help: &str, micros: u64) -> Result<(), AllocError>
     ensures { OnOk result
         (string_bytes text.new ≡ with_seconds (string_bytes text.old) name.now help.now micros) }

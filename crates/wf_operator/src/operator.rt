@@ -33,8 +33,9 @@ pub enum Health {
         address: SocketAddr,
         remembers: &'static str,
     },
-    /// Its history and that of this node at this address differ, up to this sequence, and those that it hears and that agree with it are
-    /// no majority: it answers no client, and doesn't vote.
+    /// Its history and that of this node at this address differ, up to this sequence, and those
+    /// that it hears and that agree with it are no majority: it answers no client, and doesn't
+    /// vote.
     Differs {
         peer: usize,
         address: SocketAddr,
@@ -68,8 +69,9 @@ pub trait Operated {
     /// Appends its metrics, without which build it is. The only error is allocation failure.
     fn push_metrics(&self, text: &mut String) -> Result<(), AllocError>;
 
-    /// Appends what it knows of replacements of nodes, and whether its own folder joins. Returns whether there is such a thing: there is
-    /// none where it isn't a node. The only error is allocation failure.
+    /// Appends what it knows of replacements of nodes, and whether its own folder joins. Returns
+    /// whether there is such a thing: there is none where it isn't a node. The only error is
+    /// allocation failure.
     fn push_replacements(&self, text: &mut String) -> Result<bool, AllocError> {
         let _ = text;
         Ok(false)
@@ -236,8 +238,8 @@ fn joining_page(alloc: Global, status: StatusCode, phase: Phase) -> Result<TextP
     Ok(TextPage::of_text(status, format!(in alloc; "{phase}\n")?))
 }
 
-/// Whether a map that is proposed to it can be published: it hears a majority, and nothing is wrong with it. That a reader's history
-/// differs stops nobody.
+/// Whether a map that is proposed to it can be published: it hears a majority, and nothing is wrong
+/// with it. That a reader's history differs stops nobody.
 fn vote_page<O: Operated>(alloc: Global, operated: &O) -> Result<TextPage, AllocError> {
     let health = operated.health();
     if let Health::Joins(phase) = health {

@@ -61,7 +61,8 @@ impl TextPage {
         Ok(page)
     }
 
-    /// Writes it as a response. Returns its status, and how many bytes were written: all, unless memory failed.
+    /// Writes it as a response. Returns its status, and how many bytes were written: all, unless
+    /// memory failed.
     pub(crate) fn send(self, outgoing: &mut Outgoing) -> (u16, u64) {
         let response = Response::new(self.status, self.media, self.allowed, self.text.as_bytes());
         let status = response.status();

@@ -6,7 +6,8 @@ use std::alloc::AllocError;
 /// The front of a response that is a picture.
 const PICTURE: &[u8] = b"HTTP/1.1 200 OK\r\nContent-Type: image/";
 
-/// How many pictures clients were answered with: those that were drawn, and the tiles that were cut out of a cached picture.
+/// How many pictures clients were answered with: those that were drawn, and the tiles that were cut
+/// out of a cached picture.
 #[derive(Clone, Copy, Default)]
 pub struct PictureCounts {
     drawn: u64,
@@ -26,7 +27,8 @@ impl PictureCounts {
         }
     }
 
-    /// Appends the counts as metrics, and how many pictures weren't cached. The only error is allocation failure.
+    /// Appends the counts as metrics, and how many pictures weren't cached. The only error is
+    /// allocation failure.
     pub fn push_to(&self, text: &mut String, unkept: u64) -> Result<(), AllocError> {
         counter(
             text,

@@ -66,8 +66,9 @@ fn digits_of<'a>(query: &'a str, key: &str, most: usize) -> Option<&'a str> {
     Some(digits)
 }
 
-/// The question about a replacement that a request with this path and query is: `POST /replace/ask?node=I&count=C&mark=HEX`,
-/// `/replace/agree` with such a query, both maybe with `&force` behind it, and `/replace/begin?count=C`. None: it is malformed.
+/// The question about a replacement that a request with this path and query is:
+/// `POST /replace/ask?node=I&count=C&mark=HEX`, `/replace/agree` with such a query, both maybe with
+/// `&force` behind it, and `/replace/begin?count=C`. None: it is malformed.
 pub(crate) fn replace_request_of(path: &str, query: &str) -> Option<ReplaceRequest> {
     match path {
         "/replace/ask" => Some(ReplaceRequest::Ask(proposed_of(query)?)),

@@ -6,8 +6,8 @@ use crate::metrics::gauge;
 use std::alloc::AllocError;
 use wf_ballot::SEQUENCES;
 
-/// Appends the last sequence that a process has, the last that it heard of, and how many are left to publish after its own. The only error
-/// is allocation failure.
+/// Appends the last sequence that a process has, the last that it heard of, and how many are left
+/// to publish after its own. The only error is allocation failure.
 pub fn push_sequences(text: &mut String, published: u16, heard: u16) -> Result<(), AllocError>
     ensures { OnOk result
         (string_bytes text.new ≡ with_sequences (string_bytes text.old) published heard) }

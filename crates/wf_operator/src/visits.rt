@@ -6,7 +6,8 @@ use crate::metrics::{gauge, seconds};
 use std::alloc::AllocError;
 use wf_visitors::Counts;
 
-/// Appends how many connections are open, of clients and of readers. The only error is allocation failure.
+/// Appends how many connections are open, of clients and of readers. The only error is allocation
+/// failure.
 pub fn push_open(text: &mut String, clients: u64, readers: u64) -> Result<(), AllocError>
     ensures { OnOk result
         (string_bytes text.new ≡ with_open (string_bytes text.old) clients readers) }
@@ -25,7 +26,8 @@ pub fn push_open(text: &mut String, clients: u64, readers: u64) -> Result<(), Al
     )
 }
 
-/// Appends how many requests were answered, by path and status, and how long pictures took. The only error is allocation failure.
+/// Appends how many requests were answered, by path and status, and how long pictures took. The
+/// only error is allocation failure.
 pub fn push_requests(text: &mut String, counts: &Counts) -> Result<(), AllocError> {
     // the counts write their type themselves
     text.push_str("# HELP wfarm_requests_total Requests that were answered, by path and status\n")?;

@@ -1,4 +1,5 @@
--- A canvas as a picture: the index of a column of a row, and the effect on a canvas in terms of its pixels.
+-- A canvas as a picture: the index of a column of a row, and the effect on a canvas in terms of its
+-- pixels.
 use Rattle.std.proofs.Common.{◌≡◌, ◌≢◌, ℕ, ◌+◌, ◌-◌, ◌*◌, ◌/◌, ◌%◌, ◌^◌, ◌<◌, ◌≤◌, inl, inr, Bool, true, false, nat_lt, List, length, slice_index, replicate, Option, Some, None, is_some, refl, sym, ap, ◌∙◌, arith}
 use Rattle.std.specs.Int.{bit_at}
 use Rattle.std.specs.Option.{option_or, unwrap_or}
@@ -19,7 +20,8 @@ use Rattle.wf_paint.proofs.CellsLemmas.{range_keeps, range_was_free, cells_kept,
 
 -- ---- the index of a pixel
 
--- the index of a pixel of this row, counted from the bottom: that of the row's first pixel plus its column
+-- the index of a pixel of this row, counted from the bottom: that of the row's first pixel plus its
+-- column
 pub index_in_row : (width height row index : ℕ) → 0 < width → row < height → index < width * height → row_of width height index ≡ row →
     index ≡ (height - 1 - row) * width + column_of width index
 unfolding row_of column_of

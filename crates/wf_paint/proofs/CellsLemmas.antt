@@ -1,4 +1,5 @@
--- Words of free pixels: what a write to the free pixels of a word does, and walks from word to word.
+-- Words of free pixels: what a write to the free pixels of a word does, and walks from word to
+-- word.
 use Rattle.std.proofs.Common.{◌≡◌, ℕ, ◌+◌, ◌-◌, ◌*◌, ◌/◌, ◌%◌, ◌^◌, ◌<◌, ◌≤◌, inl, inr, Bool, true, false, eqb, cond, nat_lt, min, List, length, slice_index, set, replicate, bit_and, Option, Some, None, w64, refl, sym, ap, ◌∙◌, arith}
 use Rattle.std.specs.Int.{bit_at, bit_not, trailing_zeros}
 use Rattle.std.specs.Option.{option_or}

@@ -1,4 +1,5 @@
--- The effect on a canvas of showing pixels in a colour: by one test after another, by equal tests, by a shape.
+-- The effect on a canvas of showing pixels in a colour: by one test after another, by equal tests,
+-- by a shape.
 use Rattle.std.proofs.Common.{◌≡◌, ℕ, zero, suc, ◌*◌, ◌<◌, ◌||◌, Bool, true, false, Option, Some, None, ℤ, pos, refl, sym, ap, ◌∙◌, arith}
 use Rattle.std.specs.Option.{option_or}
 use Rattle.wf_def.specs.declared.color.Color.{Color}

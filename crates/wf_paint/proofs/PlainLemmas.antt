@@ -1,4 +1,5 @@
--- Pixels that all have one colour: joined, cut, and written one after the other; and pixels after other bytes.
+-- Pixels that all have one colour: joined, cut, and written one after the other; and pixels after
+-- other bytes.
 use Rattle.std.proofs.Common.{◌≡◌, ℕ, ◌+◌, ◌-◌, ◌*◌, ◌^◌, ◌<◌, ◌≤◌, ◌++◌, ◌∷◌, inl, inr, List, [], length, get_or, set, take, drop, refl, sym, ap, subst, ◌∙◌, arith}
 use Rattle.std.proofs.Math.Nat.{mul-le-mul}
 use Rattle.std.proofs.lemmas.Bool.{cases_lt, cases_eq}

@@ -236,7 +236,8 @@ strip_row l rows columns span width row within from to levels = record {
       (cases_lt u columns.to);
 }
 
--- the pixels between the two ends, where both lie among the columns, are the row's part of the strip
+-- the pixels between the two ends, where both lie among the columns, are the row's part of the
+-- strip
 pub wide_row : (l : Levels) (step row count wide from : ℕ) (rows columns : Span) (low high : Quotient) → pos step ≡ product (pos pixel_side) l.across → columns.to ≤ wide →
     rows.from ≤ row → row < rows.to → IsStripEnd (opposite l.margin) l.origin (product (pos pixel_side) l.up) step row low →
     IsStripEnd l.margin l.origin (product (pos pixel_side) l.up) step row high → pos from ≡ plus low.whole (pos 1) → pos (from + count) ≡ plus high.whole (pos 1) →

@@ -1,5 +1,5 @@
--- The columns that a walk through a row's sorted reaches covers, and the pixels that the rows of a canvas cover, one after
--- another.
+-- The columns that a walk through a row's sorted reaches covers, and the pixels that the rows of a
+-- canvas cover, one after another.
 use Rattle.std.proofs.Common.{◌≡◌, ℕ, ◌+◌, ◌-◌, ◌%◌, ◌<◌, ◌≤◌, ◌==◌, ◌&&◌, ◌||◌, Bool, true, false, not, nat_lt, List, length, get_or, pos, refl, sym, ap, ◌∙◌, subst, ⊎_elim, arith}
 use Rattle.std.specs.List.{count_by}
 use Rattle.std.specs.List.Sorted.{IsNonDecreasing}
@@ -56,8 +56,8 @@ parity_turns n k within = grind (arith, nat_tests)
 
 -- ---- the walk
 
--- the first k reaches are passed, up to `from`, and of the columns before it those with an odd number of reaches after them are
--- covered
+-- the first k reaches are passed, up to `from`, and of the columns before it those with an odd
+-- number of reaches after them are covered
 pub record IsWalked (row : ℕ) (reaches : List ℕ) (k from : ℕ) (is_covered : Bool) (color : Color) (old new : CanvasValue) : Type 0 where
   pub colored : IsColored (λ column r. (r == row) && (nat_lt column from && is_odd_behind reaches column)) color old new
   pub parity : is_covered ≡ ((length reaches - k) % 2 == 1)

@@ -1,5 +1,5 @@
--- A picture while it is painted, from the last operation to the first. A painted pixel keeps its colour; a free one has none yet,
--- and its bytes are the background's.
+-- A picture while it is painted, from the last operation to the first. A painted pixel keeps its
+-- colour; a free one has none yet, and its bytes are the background's.
 use Rattle.std.specs.Prelude.{◌≡◌, ℕ, ◌+◌, ◌*◌, ◌/◌, ◌<◌, ◌≤◌, true, false, List, length, Option, None, is_some}
 use Rattle.std.specs.Option.{unwrap_or}
 use Rattle.wf_def.specs.declared.color.Color.{Color}
@@ -7,8 +7,9 @@ use Rattle.wf_geometry.specs.Limit.{most_pixels}
 use Rattle.wf_paint.specs.Pixmap.{PixmapValue, pixel_at, column_of, row_of}
 use Rattle.wf_paint.specs.Cells.{IsCells, AreBlocks, is_free, painted_in}
 
--- a size in pixels, the background, three bytes a pixel, words with a bit for each pixel, set where it is free, how many of the first
--- words are known to have no free pixel, and words with a bit for each block of pixels
+-- a size in pixels, the background, three bytes a pixel, words with a bit for each pixel, set where
+-- it is free, how many of the first words are known to have no free pixel, and words with a bit for
+-- each block of pixels
 pub record CanvasValue : Type 0 where
   pub width : ℕ
   pub height : ℕ

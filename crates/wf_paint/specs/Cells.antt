@@ -1,4 +1,5 @@
--- The pixels of a canvas, index by index: three bytes each, and a bit, 1 where the pixel is free. A word has the bits of 64 pixels.
+-- The pixels of a canvas, index by index: three bytes each, and a bit, 1 where the pixel is free. A
+-- word has the bits of 64 pixels.
 use Rattle.std.specs.Prelude.{◌≡◌, ◌≢◌, ℕ, ◌+◌, ◌-◌, ◌*◌, ◌/◌, ◌%◌, ◌^◌, ◌<◌, ◌≤◌, ◌==◌, Bool, true, false, List, length, slice_index, Option, Some, None, if◌then◌else◌}
 use Rattle.std.specs.Int.{bit_at}
 use Rattle.std.specs.Option.{option_or}
@@ -33,7 +34,8 @@ pub record IsSized (width height : ℕ) (free : List ℕ) : Type 0 where
   pub height_most : height ≤ most_pixels
   pub words : length free ≡ width * height / 64 + 1
 
--- a word for each 16 rows, counted from the bottom, with a bit for each 16 columns: no pixel of a block is free whose bit is clear
+-- a word for each 16 rows, counted from the bottom, with a bit for each 16 columns: no pixel of a
+-- block is free whose bit is clear
 pub record AreBlocks (width height : ℕ) (free blocks : List ℕ) : Type 0 where
   pub size : length blocks ≡ 64
   pub painted : (column row : ℕ) → row < height → column < width → bit_at (slice_index blocks (row / 16)) (column / 16) ≡ 0 →
@@ -50,13 +52,15 @@ pub record IsPixelWritten (index : ℕ) (color : Color) (old new : List ℕ) : T
   pub changed : pixel_at new index ≡ color
   pub others : (i : ℕ) → i ≢ index → pixel_at new i ≡ pixel_at old i
 
--- of the pixels from `first` on, the `count` first ones whose bit is set have the colour; every other pixel has its old one
+-- of the pixels from `first` on, the `count` first ones whose bit is set have the colour; every
+-- other pixel has its old one
 pub record ArePainted (count first bits : ℕ) (color : Color) (old new : List ℕ) : Type 0 where
   pub size : length new ≡ length old
   pub changed : (k : ℕ) → k < count → bit_at bits k ≡ 1 → pixel_at new (first + k) ≡ color
   pub others : (i : ℕ) → ((k : ℕ) → k < count → bit_at bits k ≡ 1 → i ≢ first + k) → pixel_at new i ≡ pixel_at old i
 
--- the pixels from `start` on and before `end` are painted: those that were free have the colour; those still free have their old bytes
+-- the pixels from `start` on and before `end` are painted: those that were free have the colour;
+-- those still free have their old bytes
 pub record IsRangePainted (start end : ℕ) (color : Color) (old_free old_bytes free bytes : List ℕ) : Type 0 where
   pub free_size : length free ≡ length old_free
   pub bytes_size : length bytes ≡ length old_bytes

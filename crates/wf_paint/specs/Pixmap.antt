@@ -30,7 +30,8 @@ column_of width index = index % width
 unfoldable pub row_of : ℕ → ℕ → ℕ → ℕ
 row_of width height index = height - 1 - index / width
 
--- a picture of this size in which each pixel has the colour that the function gives for its column and row
+-- a picture of this size in which each pixel has the colour that the function gives for its column
+-- and row
 pub record IsPicture (width height : ℕ) (picture : ℤ → ℤ → Color) (p : PixmapValue) : Type 0 where
   pub wide : p.width ≡ width
   pub high : p.height ≡ height

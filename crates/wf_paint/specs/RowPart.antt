@@ -9,8 +9,8 @@ use Rattle.wf_geometry.specs.declared.levels.Levels.{Levels}
 use Rattle.wf_geometry.specs.declared.row.Quotient.{Quotient}
 use Rattle.wf_geometry.specs.declared.level.Span.{Span}
 
--- a number counts u if u times the divisor isn't greater: the span has those of the columns that the high number counts and the low one
--- doesn't
+-- a number counts u if u times the divisor isn't greater: the span has those of the columns that
+-- the high number counts and the low one doesn't
 pub record IsRowPart (columns : Span) (low high : Quotient) (span : Span) : Type 0 where
   pub within : Span
   pub to_within : within.to ≤ columns.to
@@ -36,7 +36,8 @@ pub record StaysBetween (l : Levels) (step width : ℕ) (rows columns : Span) : 
   pub each : (row : ℕ) → rows.from ≤ row → row < rows.to → (q : Quotient) →
       IsStripEnd (opposite l.margin) l.origin (product (pos pixel_side) l.up) step row q → IsBetween columns width q
 
--- all pixels of 16 rows are painted in columns among which the `width` pixels of the first row and those of the row after them lie
+-- all pixels of 16 rows are painted in columns among which the `width` pixels of the first row and
+-- those of the row after them lie
 pub record IsHiddenBlock (row width : ℕ) (low next : Quotient) (c : CanvasValue) : Type 0 where
   pub columns : Span
   pub first : IsBetween columns width low

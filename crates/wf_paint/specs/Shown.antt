@@ -15,11 +15,13 @@ seen ops column row = option_map (λ op. op.color) (find (λ op. covers op colum
 unfoldable pub color_where : Bool → Color → Option Color
 color_where shown color = cond shown (Some color) None
 
--- the pixel in column `column` and row `r` lies in row `row`, in the columns from `from` on and before `to`
+-- the pixel in column `column` and row `r` lies in row `row`, in the columns from `from` on and
+-- before `to`
 unfoldable pub is_in_run : ℕ → ℕ → ℕ → ℕ → ℕ → Bool
 is_in_run row from to column r = (r == row) && (not (nat_lt column from) && nat_lt column to)
 
--- every free pixel that an operation covers now has the colour of the last one that does; every other pixel is unchanged
+-- every free pixel that an operation covers now has the colour of the last one that does; every
+-- other pixel is unchanged
 pub record IsShown (ops : List OperationValue) (old new : CanvasValue) : Type 0 where
   pub width : new.width ≡ old.width
   pub height : new.height ≡ old.height
@@ -27,7 +29,8 @@ pub record IsShown (ops : List OperationValue) (old new : CanvasValue) : Type 0 
   pub pixels : (i : ℕ) → i < old.width * old.height →
       painted_at new i ≡ option_or (painted_at old i) (seen ops (pos (column_of old.width i)) (pos (row_of old.width old.height i)))
 
--- every free pixel whose column and row pass the test now has the colour; every other pixel is unchanged
+-- every free pixel whose column and row pass the test now has the colour; every other pixel is
+-- unchanged
 pub record IsColored (shown : ℕ → ℕ → Bool) (color : Color) (old new : CanvasValue) : Type 0 where
   pub width : new.width ≡ old.width
   pub height : new.height ≡ old.height

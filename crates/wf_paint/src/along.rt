@@ -1,4 +1,5 @@
-//! Lines of a given width along segments. Each is a strip of the picture, which is drawn row by row.
+//! Lines of a given width along segments. Each is a strip of the picture, which is drawn row by
+//! row.
 ghost use Rattle.std.specs.Prelude.{◌<◌};
 ghost use Rattle.wf_geometry.specs.Operation.{in_color, LineOf};
 ghost use Rattle.wf_paint.specs.Canvas.{IsAlike};
@@ -32,7 +33,8 @@ pub(crate) fn draw_along(canvas: &mut Canvas, width: u8, edges: &Edges, color: O
     }
 }
 
-/// Counts the long segments. After each `MANY_LONG` of them painted blocks are looked for, which takes about as long as to draw a few.
+/// Counts the long segments. After each `MANY_LONG` of them painted blocks are looked for, which
+/// takes about as long as to draw a few.
 fn find_blocks(canvas: &mut Canvas, segment: &Segment, long: u32) -> u32
     requires { long < 256 }
     ensures alike { IsAlike canvas.old canvas.new }

@@ -1,5 +1,5 @@
-//! A picture while it is painted, from the last operation to the first. A word has a bit for each of 64 pixels, set where the pixel
-//! is free, so one test passes over all painted pixels of a word.
+//! A picture while it is painted, from the last operation to the first. A word has a bit for each
+//! of 64 pixels, set where the pixel is free, so one test passes over all painted pixels of a word.
 ghost use Rattle.std.specs.Prelude.{◌≡◌, ◌≤◌, ◌<◌, ◌*◌, ◌+◌, ◌/◌, ◌-◌, ◌^◌, ℕ, true, false, length, slice_index, nat_lt, IfOk};
 ghost use Rattle.std.specs.Int.{bit_at};
 ghost use Rattle.wf_geometry.specs.Limit.{most_pixels};
@@ -19,20 +19,21 @@ pub(crate) const BLOCK_SIDE: u32 = 16;
 /// How many rows of blocks the highest picture has.
 const BLOCK_ROWS: usize = 64;
 
-/// A picture that records which pixels are painted. A painted pixel keeps its colour; the bytes of a free one are the
-/// background's, so that a canvas is a picture at any time.
+/// A picture that records which pixels are painted. A painted pixel keeps its colour; the bytes of
+/// a free one are the background's, so that a canvas is a picture at any time.
 #[derive(Drop)]
 pub(crate) struct Canvas {
     width: u32,
     height: u32,
     background: Color,
     pixels: Pixels,
-    /// A bit for each pixel, set where it is free, from the lowest bit of a word on. Bits after the last pixel are clear.
+    /// A bit for each pixel, set where it is free, from the lowest bit of a word on. Bits after the
+    /// last pixel are clear.
     free: Vec<u64>,
     /// So many of the first words have no free pixel.
     known: u32,
-    /// A word for each 16 rows, from the bottom, with a bit for each 16 columns: clear where all pixels of that block are known to be
-    /// painted.
+    /// A word for each 16 rows, from the bottom, with a bit for each 16 columns: clear where all
+    /// pixels of that block are known to be painted.
     blocks: Vec<u64>,
 }
 
@@ -63,8 +64,8 @@ impl Model for Canvas {
 }
 
 impl Canvas {
-    /// A canvas of this size, 1 to 1,024 pixels on each side, with all pixels free, and with room for so many bytes before the
-    /// picture's. Returns Ok unless allocation fails.
+    /// A canvas of this size, 1 to 1,024 pixels on each side, with all pixels free, and with room
+    /// for so many bytes before the picture's. Returns Ok unless allocation fails.
     pub(crate) fn plain(
         alloc: Global,
         room: u8,
@@ -107,14 +108,16 @@ impl Canvas {
         self.height
     }
 
-    /// Both sides are 1 to 1,024 pixels. A caller can't see the invariant that says so. The call does nothing.
+    /// Both sides are 1 to 1,024 pixels. A caller can't see the invariant that says so. The call
+    /// does nothing.
     pub(crate) fn sides_are_limited(&self)
         ensures { IsCanvas self.now }
     {
         let _ = &self.width;
     }
 
-    /// Writes the colour to the free pixels in columns from..to of a row; rows count from the bottom.
+    /// Writes the colour to the free pixels in columns from..to of a row; rows count from the
+    /// bottom.
     pub(crate) fn cover(&mut self, row: u32, from: u32, to: u32, color: Color)
         requires row_within { row < self.old.height }
         requires to_within { to ≤ self.old.width }
@@ -129,7 +132,8 @@ impl Canvas {
         }
     }
 
-    /// Writes the colour to the free ones of 1 to 64 pixels of a row, from a column on; rows count from the bottom.
+    /// Writes the colour to the free ones of 1 to 64 pixels of a row, from a column on; rows count
+    /// from the bottom.
     #[inline(always)]
     pub(crate) fn cover_few(&mut self, row: u32, from: u32, count: u32, color: Color)
         requires row_within { row < self.old.height }
@@ -155,8 +159,8 @@ impl Canvas {
         self.known == self.width * self.height / 64 + 1
     }
 
-    /// Whether painted blocks hide the pixels of 16 rows, from this one on, in columns from..to. May be false where they don't but all
-    /// these pixels are painted.
+    /// Whether painted blocks hide the pixels of 16 rows, from this one on, in columns from..to.
+    /// May be false where they don't but all these pixels are painted.
     #[inline]
     pub(crate) fn hides(&self, row: u32, from: u32, to: u32) -> bool
         requires row_within { row + 16 ≤ self.now.height }
@@ -220,8 +224,8 @@ fn write_set(pixels: &mut Pixels, first: u32, bits: u64, color: Color)
     }
 }
 
-/// Whether none of these pixels is free. False for more than 64 of them. Most lines that make a picture dear run over painted pixels, so
-/// that is tested before they are painted.
+/// Whether none of these pixels is free. False for more than 64 of them. Most lines that make a
+/// picture dear run over painted pixels, so that is tested before they are painted.
 #[inline(always)]
 fn is_range_painted(free: &Vec<u64>, start: u32, end: u32) -> bool
     requires order { start < end }
@@ -244,7 +248,8 @@ fn is_window_painted(free: &Vec<u64>, start: u32, end: u32) -> bool
     word_across(first, last, start % 64) << (64 - (end - start)) == 0
 }
 
-/// The bits of the first word from `bit` on, and above them those of the last word from its lowest on.
+/// The bits of the first word from `bit` on, and above them those of the last word from its lowest
+/// on.
 #[inline(always)]
 fn word_across(first: u64, last: u64, bit: u32) -> u64
     requires { bit < 64 }
@@ -313,7 +318,8 @@ pub fn ones(from: u32, to: u32) -> u64
     (u64::MAX << from) & (u64::MAX >> (64 - to))
 }
 
-/// The index of the first word with a free pixel, or the number of words if there is none. The first `known` words have none.
+/// The index of the first word with a free pixel, or the number of words if there is none. The
+/// first `known` words have none.
 fn first_free(free: &Vec<u64>, known: u32) -> u32
     requires most { length free.now.items ≤ 2 ^ 14 + 1 }
     requires within { known ≤ length free.now.items }

@@ -10,8 +10,9 @@ use wf_geometry::{Position, Segment};
 /// From so many segments on equal ones are looked for. Fewer are drawn sooner than sorted.
 const MANY: usize = 256;
 
-/// Segments. Beside many of them are kept those that differ, since a line along these covers what one along all does, and those that
-/// are there an odd number of times, since they have the same inside.
+/// Segments. Beside many of them are kept those that differ, since a line along these covers what
+/// one along all does, and those that are there an odd number of times, since they have the same
+/// inside.
 #[derive(Drop)]
 pub(crate) struct Edges {
     all: Vec<Segment>,
@@ -134,7 +135,8 @@ fn odd_neighbours(alloc: Global, segments: &[Segment]) -> Result<Vec<Segment>, A
     Ok(odd)
 }
 
-/// Appends the segment; if the last one equals it, removes that instead: a ray that meets both meets an even number.
+/// Appends the segment; if the last one equals it, removes that instead: a ray that meets both
+/// meets an even number.
 fn push_or_cancel(segments: &mut Vec<Segment>, segment: &Segment) -> Result<(), AllocError>
     ensures { OnOk result (AreAround
         (segments.old.items ++ segment.now ∷ []) segments.new.items) }

@@ -18,8 +18,8 @@ use wf_geometry::{Segment, centres_below, find_reaches};
 /// From so many reaches in a row on, marks are faster than sorting.
 const MANY: usize = 128;
 
-/// Paints the inside of the edges, in the rows between their lowest and their highest end; nothing if `color` is None. Returns Ok unless
-/// allocation fails.
+/// Paints the inside of the edges, in the rows between their lowest and their highest end; nothing
+/// if `color` is None. Returns Ok unless allocation fails.
 pub(crate) fn draw_inside(
     alloc: Global,
     canvas: &mut Canvas,
@@ -97,8 +97,9 @@ fn fill_row(
     Ok(())
 }
 
-/// Sorts the reaches. Of many, only those stay that are there an odd number of times, each once: the number of reaches after a column
-/// then differs by an even number. No number is marked in `odd`, as before.
+/// Sorts the reaches. Of many, only those stay that are there an odd number of times, each once:
+/// the number of reaches after a column then differs by an even number. No number is marked in
+/// `odd`, as before.
 fn sort_reaches(reaches: &mut Vec<u32>, odd: &mut Vec<u8>) -> Result<(), AllocError>
     requires within { All (λ reach. reach < length odd.old.items) reaches.old.items }
     requires most { length odd.old.items ≤ most_pixels + 1 }

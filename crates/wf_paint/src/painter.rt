@@ -1,7 +1,7 @@
 //! The painter: paints a map's layers over a background.
 //!
-//! It paints from the last operation to the first. The first operation met that covers a pixel sets its colour; what lies under
-//! painted pixels costs nothing.
+//! It paints from the last operation to the first. The first operation met that covers a pixel sets
+//! its colour; what lies under painted pixels costs nothing.
 ghost use Rattle.std.specs.Prelude.{◌≡◌, ◌<◌, ◌≤◌, ◌+◌, None, is_some, cond, max, length, drop, slice_index, OnOk, IfOk};
 ghost use Rattle.std.specs.Bool.{Decides};
 ghost use Rattle.std.specs.List.{All, Contains, flat_map};
@@ -21,8 +21,9 @@ use std::alloc::{AllocError, Global};
 use wf_def::{Color, Feature, Layer, LayerKind, MapDef, Part, Point, Style};
 use wf_geometry::View;
 
-/// Paints the layers at these indices of the map, each over those before it, over a background. Each pixel has the colour of the
-/// last operation that covers it, else the background. Returns Ok unless allocation fails.
+/// Paints the layers at these indices of the map, each over those before it, over a background.
+/// Each pixel has the colour of the last operation that covers it, else the background. Returns Ok
+/// unless allocation fails.
 pub fn paint(
     alloc: Global,
     map: &MapDef,
@@ -37,8 +38,8 @@ pub fn paint(
     paint_after(alloc, 0, map, layers, view, background)
 }
 
-/// Paints as [`paint`] does, with room for so many bytes before the picture's own: [`Pixmap::into_file`] writes a head of that
-/// length there.
+/// Paints as [`paint`] does, with room for so many bytes before the picture's own:
+/// [`Pixmap::into_file`] writes a head of that length there.
 pub fn paint_after(
     alloc: Global,
     room: u8,
@@ -56,8 +57,8 @@ pub fn paint_after(
     Ok(canvas.finish())
 }
 
-/// Paints the layers from the last to the first. A layer that is listed again later is painted only there: it would cover the
-/// same pixels.
+/// Paints the layers from the last to the first. A layer that is listed again later is painted only
+/// there: it would cover the same pixels.
 #[tactic(auto, unfolding(wf_geometry::specs::Operation::operations))]
 fn draw_layers(
     alloc: Global,
@@ -142,8 +143,9 @@ fn draw_feature(
     }
 }
 
-/// Paints polygons by the styles from the last to the first, until the canvas is full. The inside is filled once, since all
-/// styles fill the same pixels; a border is painted if it is wider than the later ones.
+/// Paints polygons by the styles from the last to the first, until the canvas is full. The inside
+/// is filled once, since all styles fill the same pixels; a border is painted if it is wider than
+/// the later ones.
 fn draw_polygons(
     alloc: Global,
     canvas: &mut Canvas,
@@ -177,8 +179,8 @@ fn inner_color(style: &Style, filled: bool) -> Option<Color>
     if filled { None } else { style.color }
 }
 
-/// The colour of a line of this width; None if the widest later line along the same segments is at least as wide, since that
-/// covers all its pixels.
+/// The colour of a line of this width; None if the widest later line along the same segments is at
+/// least as wide, since that covers all its pixels.
 fn line_color(color: Option<Color>, width: u8, widest: u8) -> Option<Color>
     ensures hidden { width ≤ widest → result ≡ None }
     ensures visible { widest < width → result ≡ color }
@@ -197,8 +199,8 @@ fn widest_line(color: Option<Color>, width: u8, widest: u8) -> u8
     }
 }
 
-/// Paints lines along the segments by the styles from the last to the first, until the canvas is full. A line is painted if it is
-/// wider than the later ones.
+/// Paints lines along the segments by the styles from the last to the first, until the canvas is
+/// full. A line is painted if it is wider than the later ones.
 fn draw_lines(canvas: &mut Canvas, segments: &Edges, styles: &[Style])
     ensures { IsShown (flat_map (line_along segments.now) styles.now) canvas.old canvas.new }
 {
@@ -215,7 +217,8 @@ fn draw_lines(canvas: &mut Canvas, segments: &Edges, styles: &[Style])
     }
 }
 
-/// Paints squares about the points by the styles from the last to the first, until the canvas is full.
+/// Paints squares about the points by the styles from the last to the first, until the canvas is
+/// full.
 fn draw_markers(canvas: &mut Canvas, view: &View, parts: &[Part], styles: &[Style])
     ensures { IsShown
         (flat_map (λ style. squares view.now style parts.now) styles.now) canvas.old canvas.new }

@@ -1,4 +1,5 @@
-//! The bytes of pixels: three each, red, green and blue, in a buffer that may have room before them for the head of a file.
+//! The bytes of pixels: three each, red, green and blue, in a buffer that may have room before them
+//! for the head of a file.
 ghost use Rattle.std.specs.Prelude.{◌≡◌, ◌≤◌, ◌<◌, ◌+◌, ◌*◌, ◌^◌, ◌++◌, drop, length, IfOk};
 ghost use Rattle.wf_paint.specs.Cells.{IsPlain, IsPixelWritten};
 
@@ -34,7 +35,8 @@ impl Model for Pixels {
 }
 
 impl Pixels {
-    /// So many pixels of the colour. They are copies of a block, since a copy of bytes is faster than a write of each pixel.
+    /// So many pixels of the colour. They are copies of a block, since a copy of bytes is faster
+    /// than a write of each pixel.
     pub(crate) fn plain(
         alloc: Global,
         room: u8,
@@ -67,7 +69,8 @@ impl Pixels {
         self.bytes[start + 2] = color.b;
     }
 
-    /// The bytes after a head, in one buffer: where there is room for a head of this length, in the pixels' own.
+    /// The bytes after a head, in one buffer: where there is room for a head of this length, in the
+    /// pixels' own.
     pub(crate) fn into_file(self, alloc: Global, head: &[u8]) -> Result<Vec<u8>, AllocError>
         ensures { IfOk result (λ file. file.items ≡ head.now ++ self) }
     {

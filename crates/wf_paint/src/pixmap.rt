@@ -95,8 +95,8 @@ impl Pixmap {
         self.pixels.write(index, color);
     }
 
-    /// The bytes after a head, in one buffer. A picture that was painted with room for a head of this length isn't copied. Returns
-    /// Ok unless allocation fails.
+    /// The bytes after a head, in one buffer. A picture that was painted with room for a head of
+    /// this length isn't copied. Returns Ok unless allocation fails.
     pub fn into_file(self, alloc: Global, head: &[u8]) -> Result<Vec<u8>, AllocError>
         ensures { IfOk result (λ file. file.items ≡ head.now ++ self.bytes) }
     {

@@ -19,7 +19,8 @@ pub(crate) fn paths(alloc: Global, view: &View, parts: &[Part]) -> Result<Vec<Se
     Ok(segments)
 }
 
-/// The segments from each point of a part to the next and from its last back to its first, part by part.
+/// The segments from each point of a part to the next and from its last back to its first, part by
+/// part.
 #[tactic(auto, unfolding(wf_geometry::specs::Segments::rings))]
 pub(crate) fn rings(alloc: Global, view: &View, parts: &[Part]) -> Result<Vec<Segment>, AllocError>
     ensures { IfOk result (λ s. s.items ≡ rings view.now parts.now) }
@@ -72,9 +73,8 @@ fn push_ring(segments: &mut Vec<Segment>, view: &View, points: &[Point]) -> Resu
     Ok(())
 }
 
-/// Appends the segments from each point to the next, and returns the last position. Followed by the segments from there through any
-/// further positions, they are those of the
-/// whole path.
+/// Appends the segments from each point to the next, and returns the last position. Followed by the
+/// segments from there through any further positions, they are those of the whole path.
 fn push_from(
     segments: &mut Vec<Segment>,
     view: &View,

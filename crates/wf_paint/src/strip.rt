@@ -1,5 +1,6 @@
-//! Strips, painted row by row. The ends of a row's pixels are those of the row before, moved by a constant, so no row but the first
-//! takes a division. Only lines whose numbers are too large for it take one in each row.
+//! Strips, painted row by row. The ends of a row's pixels are those of the row before, moved by a
+//! constant, so no row but the first takes a division. Only lines whose numbers are too large for
+//! it take one in each row.
 ghost use Rattle.std.specs.Prelude.{◌≡◌, ℕ, ◌+◌, ◌*◌, ◌^◌, ◌<◌, ◌≤◌, nat_abs, pos, ◌≤ℤ◌, ◌<ℤ◌, true, false};
 ghost use Rattle.wf_geometry.specs.Near.{IsDistance, IsArea};
 ghost use Rattle.wf_geometry.specs.Exact.{plus, product, opposite};
@@ -81,8 +82,9 @@ fn is_empty(strip: Strip) -> bool
     strip.rows.from >= strip.rows.to || strip.columns.from >= strip.columns.to
 }
 
-/// Paints 16 rows of a strip; `next` is the lower end of the row after them. Nothing is left to do if painted blocks hide all that lies
-/// between the first of them and that row. In most blocks the ends of the columns cut off no pixel.
+/// Paints 16 rows of a strip; `next` is the lower end of the row after them. Nothing is left to do
+/// if painted blocks hide all that lies between the first of them and that row. In most blocks the
+/// ends of the columns cut off no pixel.
 fn draw_block(canvas: &mut Canvas, strip: Strip, ends: RowEnds, next: Quotient, color: Color)
     requires block { strip.rows.to ≡ strip.rows.from + 16 }
     requires rows { strip.rows.to ≤ canvas.old.height }
@@ -103,7 +105,8 @@ fn draw_block(canvas: &mut Canvas, strip: Strip, ends: RowEnds, next: Quotient, 
     }
 }
 
-/// The most pixels of a row whose ends lie so far apart; 0 if there may be none of them, or more than 64.
+/// The most pixels of a row whose ends lie so far apart; 0 if there may be none of them, or more
+/// than 64.
 #[tactic(auto, unfolding(crate::specs::RowPart::most_between))]
 fn most_between(gap: Quotient) -> u8
     ensures some { 1 ≤ result → pos 1 ≤ℤ gap.whole }
@@ -118,7 +121,8 @@ fn most_between(gap: Quotient) -> u8
     }
 }
 
-/// Whether the `width` pixels from either lower end on, at least one and at most 64, lie in the columns.
+/// Whether the `width` pixels from either lower end on, at least one and at most 64, lie in the
+/// columns.
 fn are_between(columns: Span, low: Quotient, next: Quotient, width: u8) -> bool
     requires low { nat_abs low.whole ≤ 2 ^ 62 }
     requires next { nat_abs next.whole ≤ 2 ^ 62 }
@@ -128,7 +132,8 @@ fn are_between(columns: Span, low: Quotient, next: Quotient, width: u8) -> bool
     is_between(columns, low, width) && is_between(columns, next, width)
 }
 
-/// Whether the `width` pixels from this lower end of a row on, at least one and at most 64, lie in the columns.
+/// Whether the `width` pixels from this lower end of a row on, at least one and at most 64, lie in
+/// the columns.
 fn is_between(columns: Span, low: Quotient, width: u8) -> bool
     requires { nat_abs low.whole ≤ 2 ^ 62 }
     ensures { result ≡ true → IsBetween columns width low }
@@ -137,7 +142,8 @@ fn is_between(columns: Span, low: Quotient, width: u8) -> bool
     width <= 64 && lies_in(columns, from, from + i64::from(width))
 }
 
-/// Whether painted blocks hide what lies between the `width` pixels of a row and those of the 16th row after it.
+/// Whether painted blocks hide what lies between the `width` pixels of a row and those of the 16th
+/// row after it.
 #[inline(always)]
 fn is_hidden(canvas: &Canvas, low: Quotient, next: Quotient, width: u8, row: u32) -> bool
     requires row { row + 16 ≤ canvas.now.height }
@@ -152,7 +158,8 @@ fn is_hidden(canvas: &Canvas, low: Quotient, next: Quotient, width: u8, row: u32
     }
 }
 
-/// Whether painted blocks hide the pixels of 16 rows after the one column and up to `width` after the other.
+/// Whether painted blocks hide the pixels of 16 rows after the one column and up to `width` after
+/// the other.
 #[inline(always)]
 #[tactic(auto, unfolding(wf_geometry::specs::Exact::plus))]
 fn is_box_hidden(canvas: &Canvas, left: i64, right: i64, width: u8, row: u32) -> bool
@@ -216,8 +223,8 @@ fn draw_cut(canvas: &mut Canvas, strip: Strip, ends: RowEnds, color: Color)
     }
 }
 
-/// Paints a strip so long, far away or close to level that 64 bits don't hold the ends of its rows: each row takes divisions. Such a
-/// strip has few rows.
+/// Paints a strip so long, far away or close to level that 64 bits don't hold the ends of its rows:
+/// each row takes divisions. Such a strip has few rows.
 fn draw_far(canvas: &mut Canvas, strip: Strip, color: Color)
     requires origin { nat_abs strip.levels.origin ≤ 2 ^ 110 }
     requires across { IsDistance strip.levels.across }
@@ -238,8 +245,8 @@ fn draw_far(canvas: &mut Canvas, strip: Strip, color: Color)
     }
 }
 
-/// The columns that the high number counts and the low one doesn't. In most rows they lie between the ends of `columns`, which is
-/// tested first.
+/// The columns that the high number counts and the low one doesn't. In most rows they lie between
+/// the ends of `columns`, which is tested first.
 #[inline(always)]
 fn part(columns: Span, low: Quotient, high: Quotient) -> Span
     requires low { nat_abs low.whole ≤ 2 ^ 62 }

@@ -1,6 +1,7 @@
 //! A list of what there was, which only proofs read.
 //!
-//! **Model.** A [`Past`] has `items`, a list of pairs. It takes no memory, and its calls do nothing at run time.
+//! **Model.** A [`Past`] has `items`, a list of pairs. It takes no memory, and its calls do nothing
+//! at run time.
 //!
 //! **Promises.** A new one is empty; [`Past::and`] has one pair more at its end.
 //!

@@ -54,7 +54,8 @@ vote_no_more : (known : Option HighestVote) (v : HighestVote) (n : ℕ) (claimed
 vote_no_more None v n claimed at kept = open_no_more v n claimed at
 vote_no_more (Some k) v n claimed at kept = vote_by_test k v n claimed (vote_below k v) kept at
 
--- a message whose round was tried, whose ballot is promised, whose vote isn't above the highest, or whose sequence is published tells no more
+-- a message whose round was tried, whose ballot is promised, whose vote isn't above the highest, or
+-- whose sequence is published tells no more
 by_round : (h p : Progress) (r : ℕ) → r ≤ p.round → IsNoLess (owed h p.published) p → IsNoLess (owed (record h { round = max h.round r }) p.published) p
 by_round h p r at kept = record { mark = kept.mark; starts = kept.starts; life = kept.life; round = omega (arith, at, kept.round); promise = kept.promise; vote = kept.vote; published = kept.published }
 

@@ -38,7 +38,8 @@ replacement_parts bytes r s p q of_p of_q e f =
     let rest : r ≡ s = sym (drop_front 16 (p.mark ++ r) p.mark r of_p.size refl) ∙ drop_front 16 (p.mark ++ r) q.mark s of_q.size behind in
     (same_replacement p q count mark, rest)
 
--- of bytes that go on with no replacement of the node, the one that they begin with, and what follows
+-- of bytes that go on with no replacement of the node, the one that they begin with, and what
+-- follows
 pub same_entry : (i : ℕ) (bytes r s : List ℕ) (x y : Option Replacement) → IsToldOrNone x → IsToldOrNone y → (x ≡ None → ¬ StartsWith i bytes) → ¬ StartsWith i s →
     bytes ≡ entry_then i x r → bytes ≡ entry_then i y s → (x ≡ y) × (r ≡ s)
 unfolding entry_then

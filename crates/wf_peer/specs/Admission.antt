@@ -60,8 +60,8 @@ hindrance_of states.Outvoted = Some hindrances.Outvoted
 
 -- ---- who is let in, and who isn't
 
--- A peer of the same farm, at its place, whose folder is the node's and wasn't accused, that forgot nothing of what was heard of it, and
--- whose history agrees.
+-- A peer of the same farm, at its place, whose folder is the node's and wasn't accused, that forgot
+-- nothing of what was heard of it, and whose history agrees.
 pub record IsAdmitted (own : Own) (replaced : List (Option Replacement)) (index : Option ℕ) (heard : Option Heard) (digest : Option (List ℕ)) (g : Greeting) : Type 0 where
   pub farm : g.farm ≡ own.farm
   pub nodes : g.nodes ≡ own.nodes
@@ -87,7 +87,8 @@ abbrev pub IsForgotten : Option Progress → Progress → PeerRejection → Type
 IsForgotten None claimed why = ⊥
 IsForgotten (Some known) claimed why = (¬ IsSameStart known claimed) × IsLess known claimed why
 
--- it says that it is of this farm, and the node that it has to be; a node that doesn't is told of nothing that it forgot
+-- it says that it is of this farm, and the node that it has to be; a node that doesn't is told of
+-- nothing that it forgot
 pub record IsPeer (own : Own) (index : Option ℕ) (g : Greeting) : Type 0 where
   pub farm : g.farm ≡ own.farm
   pub nodes : g.nodes ≡ own.nodes

@@ -79,7 +79,8 @@ state_byte states.Suspended = 3
 state_byte states.Joins = 4
 state_byte states.Outvoted = 5
 
--- the mark, the starts (4 bytes), the life (16), the round (4), the promise (5), the vote (7) and the published sequence (2)
+-- the mark, the starts (4 bytes), the life (16), the round (4), the promise (5), the vote (7) and
+-- the published sequence (2)
 unfoldable pub progress_bytes : Progress → List ℕ
 progress_bytes p = p.mark ++ (to_be_bytes w32 p.starts ++ (p.life ++ (to_be_bytes w32 p.round ++ (promise_bytes p.promise ++ (vote_bytes p.vote ++ seq_bytes p.published)))))
 
@@ -90,7 +91,8 @@ greeting_mark = codes "wf-node\n"
 abbrev pub peer_version : ℕ
 peer_version = 2
 
--- the replacement of node i, if there is one: the node (1), its count (4) and its mark (16); and what follows
+-- the replacement of node i, if there is one: the node (1), its count (4) and its mark (16); and
+-- what follows
 unfoldable pub entry_then : ℕ → Option Replacement → List ℕ → List ℕ
 entry_then i None rest = rest
 entry_then i (Some r) rest = i ∷ (to_be_bytes w32 r.count ++ (r.mark ++ rest))
@@ -110,7 +112,8 @@ told_after (suc k) known voted = entries_from 0 known ++ seq_bytes voted
 unfoldable pub told_bytes : List (Option Replacement) → ℕ → List ℕ
 told_bytes known voted = known_count known ∷ told_after (known_count known) known voted
 
--- after the version: the farm's name (32 bytes), its number of nodes (1), the node (1), its progress (54), the digest (32), the state (1)
+-- after the version: the farm's name (32 bytes), its number of nodes (1), the node (1), its
+-- progress (54), the digest (32), the state (1)
 unfoldable pub fixed_bytes : Greeting → List ℕ
 fixed_bytes g = g.farm ++ ((g.nodes ∷ g.node ∷ []) ++ (progress_bytes g.progress ++ (g.digest ++ (state_byte g.state ∷ []))))
 

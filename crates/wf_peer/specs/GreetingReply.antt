@@ -24,7 +24,8 @@ rejection_byte causes.NotBegun = 12
 rejection_byte causes.NotTold = 13
 rejection_byte causes.Retired = 14
 
--- what each rejection begins with, the version (2 bytes), the cause (1), and what is remembered of the peer: 0, or 1 and its progress
+-- what each rejection begins with, the version (2 bytes), the cause (1), and what is remembered of
+-- the peer: 0, or 1 and its progress
 abbrev pub rejection_mark : List ℕ
 rejection_mark = codes "wf-nope\n"
 

@@ -35,7 +35,8 @@ unfoldable pub lines_of : List (Option Heard) → List ℕ
 lines_of [] = []
 lines_of (node ∷ rest) = line_then node (lines_of rest)
 
--- the text, and that of version 1, which differs in its first line: no program wrote votes and accusations after that one
+-- the text, and that of version 1, which differs in its first line: no program wrote votes and
+-- accusations after that one
 abbrev pub peer_progress_line : List ℕ
 peer_progress_line = codes "wfarm heard 2\n"
 

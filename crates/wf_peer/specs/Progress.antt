@@ -24,7 +24,8 @@ pub record IsNoLess (known claimed : Progress) : Type 0 where
   pub vote : IsNoLowerVote known.vote claimed.vote
   pub published : known.published ≤ claimed.published
 
--- what a node has to have still, once it has published so far: a vote at a sequence that it has published needn't be there
+-- what a node has to have still, once it has published so far: a vote at a sequence that it has
+-- published needn't be there
 abbrev pub owed : Progress → ℕ → Progress
 owed known published = record known { vote = open_vote known.vote published }
 
@@ -34,8 +35,8 @@ pub record IsSameStart (known claimed : Progress) : Type 0 where
   pub starts : claimed.starts ≡ known.starts
   pub life : claimed.life ≡ known.life
 
--- Nothing that was heard is forgotten: one start forgets nothing, but what it says comes on several connections, so less may come after
--- more; a later start says no less than it has to have still.
+-- Nothing that was heard is forgotten: one start forgets nothing, but what it says comes on several
+-- connections, so less may come after more; a later start says no less than it has to have still.
 abbrev pub HasKept : Option Progress → Progress → Type 0
 HasKept None claimed = Unit {0}
 HasKept (Some known) claimed = IsSameStart known claimed ⊎ IsNoLess (owed known claimed.published) claimed

@@ -18,12 +18,14 @@ pub record IsHighest {V : Type 0} (stored : DurableState V) (highest : Option Hi
 abbrev pub progress_of : {V : Type 0} → Progress → Option HighestVote → DurableState V → Progress
 progress_of start highest stored = record start { round = stored.tried; promise = stored.promise; vote = highest; published = published stored }
 
--- what was heard, if the node's progress has all of it that it has to have still, is so after each of these messages
+-- what was heard, if the node's progress has all of it that it has to have still, is so after each
+-- of these messages
 abbrev pub ReportNoMore : {V : Type 0} → Progress → List (Message V) → Type 0
 ReportNoMore progress [] = ⊤
 ReportNoMore progress (m ∷ rest) = ((known : Progress) → IsNoLess (owed known progress.published) progress → IsNoLess (owed (advance_by known m) progress.published) progress) × ReportNoMore progress rest
 
--- a transition's record takes back no round, promise and publication, and its messages tell no more than is stored by then, votes included
+-- a transition's record takes back no round, promise and publication, and its messages tell no more
+-- than is stored by then, votes included
 pub record ReportsNoMore {V : Type 0} (start : Progress) (stored : DurableState V) (transition : Transition V) : Type 0 where
   pub grows : (highest : Option HighestVote) → IsNoLess (progress_of start highest stored) (progress_of start highest (store stored transition.entry))
   pub reports : (highest : Option HighestVote) → IsHighest (store stored transition.entry) highest → ReportNoMore (progress_of start highest (store stored transition.entry)) transition.messages
@@ -38,8 +40,8 @@ pub record RunningNode (V : Type 0) : Type 0 where
 abbrev pub node_at_start : {V : Type 0} → DurableState V → RunningNode V
 node_at_start stored = record { stored = stored; volatile = at_start }
 
--- What happens to it: a step with any input, or a restart. A crash within a step is a restart, after
--- the step or instead of it.
+-- What happens to it: a step with any input, or a restart. A crash within a step is a restart,
+-- after the step or instead of it.
 pub data Occurrence (V : Type 0) : Type 0 where
   Handled : (input : Input V) → Occurrence V
   Restarted : Occurrence V
@@ -58,12 +60,13 @@ module _ {V : Type 0} (same : V → V → Bool) (n me : ℕ) where
   after_all node [] = node
   after_all node (first ∷ rest) = after_all (after_occurrence node first) rest
 
-  -- the next transition, with this input, takes nothing back, and tells no more than is stored by then
+  -- the next transition, with this input, takes nothing back, and tells no more than is stored by
+  -- then
   abbrev pub NextReportsNoMore : Progress → RunningNode V → Input V → Type 0
   NextReportsNoMore start node input = ReportsNoMore start node.stored (transition same n me node.stored node.volatile input)
 
--- So it is of each node that started from a tape with these records, or with none, whatever happened
--- to it since.
+-- So it is of each node that started from a tape with these records, or with none, whatever
+-- happened to it since.
 abbrev pub StepsReportNoMore : Type 0 → Type 0
 StepsReportNoMore V = (same : V → V → Bool) (n me : ℕ) (records : List (Record V)) (first : DurableState V) → fold records ≡ Some first →
     (occurred : List (Occurrence V)) (input : Input V) (start : Progress) →

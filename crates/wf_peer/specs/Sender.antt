@@ -9,7 +9,8 @@ use Rattle.wf_peer.specs.declared.progress.Progress.{Progress}
 use Rattle.wf_peer.specs.declared.rejection.PeerRejection.{PeerRejection}
 use Rattle.wf_peer.specs.Progress.{IsNoLess, accused}
 
--- an answer names its sender, and a request's ballot is its sender's; a Chosen or an Ask may be any node's
+-- an answer names its sender, and a request's ballot is its sender's; a Chosen or an Ask may be any
+-- node's
 abbrev pub IsFrom : {V : Type 0} → ℕ → Message V → Type 0
 IsFrom node (Prepare s b) = b.node ≡ node
 IsFrom node (Promise sender s b votes) = sender ≡ node
@@ -20,7 +21,8 @@ IsFrom node (Chosen s d) = Unit {0}
 IsFrom node (Ask s) = Unit {0}
 
 -- ---- what a message tells of its sender: it tried the round of its ballot; it made the promise of its answer, and stored the vote of an
--- Accepted; it published what it says is chosen, and what comes before the sequence that it asks for
+-- Accepted; it published what it says is chosen, and what comes before the sequence that it asks
+-- for
 abbrev pub tried : Progress → ℕ → Progress
 tried p round = record p { round = max p.round round }
 

@@ -52,8 +52,8 @@ ArePast earlier later = (i : ℕ) → IsPast (heard_of earlier i) (heard_of late
 
 -- ---- once folders have taken the place of others
 
--- What was heard of a node is left where its folder is that of the node's latest replacement, or the
--- node was never replaced.
+-- What was heard of a node is left where its folder is that of the node's latest replacement, or
+-- the node was never replaced.
 abbrev pub IsLeft : Option Heard → Option Replacement → Option Heard → Type 0
 IsLeft None latest left = left ≡ None
 IsLeft (Some h) None left = left ≡ Some h

@@ -25,10 +25,11 @@ pub struct Own {
     pub node: NodeId,
 }
 
-/// Whether a peer that greets so is let in, by what this node knows of replacements, what was last heard of this peer, if anything was, what
-/// it was accused of, and this node's
-/// digest of its own history up to the sequence that the peer published last, if this node has published that one. `index` is the node that is listed
-/// at the address that was dialed; None for a peer that connected, which may be any other node of the farm.
+/// Whether a peer that greets so is let in, by what this node knows of replacements, what was last
+/// heard of this peer, if anything was, what it was accused of, and this node's digest of its own
+/// history up to the sequence that the peer published last, if this node has published that one.
+/// `index` is the node that is listed at the address that was dialed; None for a peer that
+/// connected, which may be any other node of the farm.
 ///
 /// A peer that is let in takes the place of an older connection from it: its start is no older.
 pub fn admit(

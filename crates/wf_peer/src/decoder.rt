@@ -31,7 +31,8 @@ const FIXED: usize = 121;
 /// The number of bytes of a node's progress.
 pub(crate) const PROGRESS: usize = 54;
 
-/// The greeting that bytes begin with. `Short`: they may go on as one, and more are needed. Any other error stays, whatever follows.
+/// The greeting that bytes begin with. `Short`: they may go on as one, and more are needed. Any
+/// other error stays, whatever follows.
 #[tactic(auto, unfolding(crate::specs::Greeting::greeting_bytes))]
 pub fn decode(bytes: &[u8]) -> Result<Greeting, GreetingFault>
     ensures greeting { IfOk result IsGreeting }
@@ -48,8 +49,9 @@ pub fn decode(bytes: &[u8]) -> Result<Greeting, GreetingFault>
     }
 }
 
-/// How many bytes the greeting has that begins so; while fewer than 132 are there, the least that it has. A reader that reads no more than
-/// these before it decodes reads nothing of what follows a greeting.
+/// How many bytes the greeting has that begins so; while fewer than 132 are there, the least that
+/// it has. A reader that reads no more than these before it decodes reads nothing of what follows a
+/// greeting.
 pub fn greeting_length(bytes: &[u8]) -> usize
     ensures value { result ≡ greeting_length bytes.now }
     ensures within { (g : GreetingValue) (more rest : List ℕ) → IsGreeting g → bytes.now ++ more ≡ greeting_bytes g ++ rest → result ≤ length (greeting_bytes g) }

@@ -20,7 +20,8 @@ pub(crate) const ENTRY: usize = 21;
 /// What a greeting begins with.
 pub(crate) const GREETING_MARK: &[u8] = b"wf-node\n";
 
-/// Appends the greeting's encoding. The only error is allocation failure; the bytes are then unchanged.
+/// Appends the greeting's encoding. The only error is allocation failure; the bytes are then
+/// unchanged.
 #[tactic(auto, using(crate::proofs::Bodies::greeting_put))]
 pub fn encode(greeting: &Greeting, out: &mut Vec<u8>) -> Result<(), AllocError>
     ensures ok { OnOk result (out.new.items ≡ out.old.items ++ greeting_bytes greeting.now) }

@@ -4,11 +4,12 @@ use wf_ballot::{NodeId, Seq};
 use wf_folder::FarmName;
 use wf_rejoin::Replacements;
 
-/// The version of what nodes say to each other: of greetings and replies, and that messages follow. It isn't the program's. Nodes of
-/// unequal versions don't talk.
+/// The version of what nodes say to each other: of greetings and replies, and that messages follow.
+/// It isn't the program's. Nodes of unequal versions don't talk.
 pub const PEER_VERSION: u16 = 2;
 
-/// The number of bytes of a greeting that tells of no replacement, and the least of any: the last of them is the number of replaced nodes.
+/// The number of bytes of a greeting that tells of no replacement, and the least of any: the last
+/// of them is the number of replaced nodes.
 pub const GREETING_BYTES: usize = 132;
 
 /// What a node says first on a connection to a peer.
@@ -28,6 +29,7 @@ pub struct Greeting {
     pub state: NodeState,
     /// What it knows of replacements.
     pub replacements: Replacements,
-    /// The highest sequence at which it has a vote, 0 if it has none. It is told with replacements alone, and is 0 where none are known.
+    /// The highest sequence at which it has a vote, 0 if it has none. It is told with replacements
+    /// alone, and is 0 where none are known.
     pub voted: Seq,
 }

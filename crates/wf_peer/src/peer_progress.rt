@@ -7,7 +7,8 @@ use wf_ballot::{Ballot, NodeId, Seq, Slot};
 use wf_codec::Message;
 use wf_folder::{HighestVote, higher_promise, higher_vote, raise_promise, raise_vote};
 
-/// What was last heard of each node that a farm may have, in the order of the nodes; nothing of one that never greeted.
+/// What was last heard of each node that a farm may have, in the order of the nodes; nothing of one
+/// that never greeted.
 #[derive(Clone, Copy)]
 pub struct PeerProgress {
     pub(crate) nodes: [Option<Heard>; 64],
@@ -57,7 +58,8 @@ impl PeerProgress {
         }
     }
 
-    /// A node that was let in greeted with this progress: together with what was heard of it, that is kept.
+    /// A node that was let in greeted with this progress: together with what was heard of it, that
+    /// is kept.
     pub fn greet(&mut self, node: NodeId, progress: Progress)
         requires { HasKept (progress_in (heard_of self.old node)) progress }
         ensures value { self.new ≡ slice_set self.old node (Some (greeted (heard_of self.old node) progress)) }
@@ -74,7 +76,8 @@ impl PeerProgress {
         self.nodes[node.number() as usize] = Some(heard);
     }
 
-    /// A message came from a node that greeted: what it tells of the node's progress is kept. From another one nothing is.
+    /// A message came from a node that greeted: what it tells of the node's progress is kept. From
+    /// another one nothing is.
     #[tactic(auto, using(crate::proofs::Kept::nothing_falls))]
     pub fn receive(&mut self, node: NodeId, message: &Message)
         ensures value { self.new ≡ with_reported self.old node (heard_of self.old node) (view message.now) }
@@ -87,8 +90,9 @@ impl PeerProgress {
         self.put(node, heard);
     }
 
-    /// A node was told that it forgot something: that is kept, and its folder is rejected for it from then on. The first accusation stays.
-    /// Nothing is kept of a node of which nothing was heard, nor for a cause that accuses no folder.
+    /// A node was told that it forgot something: that is kept, and its folder is rejected for it
+    /// from then on. The first accusation stays. Nothing is kept of a node of which nothing was
+    /// heard, nor for a cause that accuses no folder.
     #[tactic(auto, using(crate::proofs::Kept::nothing_falls))]
     pub fn accuse(&mut self, node: NodeId, why: PeerRejection)
         ensures value { self.new ≡ with_accusation self.old node (heard_of self.old node) why }

@@ -21,8 +21,8 @@ impl PeerProgress {
     ghost use Rattle.wf_peer.specs.PeerProgressText.{ArePeerProgress, IsProgressTextOf};
     ghost use Rattle.wf_peer.specs.declared.heard.Heard.{Heard as HeardValue};
 
-    /// What was heard, by its text, of this version or of version 1. Err: the bytes aren't the text of any, and the first line at which they
-    /// aren't.
+    /// What was heard, by its text, of this version or of version 1. Err: the bytes aren't the text
+    /// of any, and the first line at which they aren't.
     #[tactic(auto, using(crate::proofs::Lines::not_lines, crate::proofs::Lines::not_old_lines, crate::proofs::Lines::is_text, crate::proofs::Lines::is_old_text))]
     pub fn read(bytes: &[u8]) -> Result<PeerProgress, PeerProgressFault>
         ensures known { IfOk result (λ known. (length known ≡ 64) × ArePeerProgress known) }

@@ -21,7 +21,8 @@ impl PeerProgress {
     ghost use Rattle.std.specs.Prelude.{◌≡◌, IfOk, length};
     ghost use Rattle.wf_peer.specs.PeerProgressText.{ArePeerProgress, peer_progress_text};
 
-    /// Its text: a line for each of 64 nodes, in their order. Numbers are in hexadecimal digits. The only error is allocation failure.
+    /// Its text: a line for each of 64 nodes, in their order. Numbers are in hexadecimal digits.
+    /// The only error is allocation failure.
     ///
     /// ```text
     /// wfarm heard 2

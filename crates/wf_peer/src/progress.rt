@@ -1,7 +1,8 @@
 use wf_ballot::{Ballot, Seq};
 use wf_folder::HighestVote;
 
-/// How far a node is: of a sound one no number ever falls, a vote goes only once its sequence is published, and the mark stays.
+/// How far a node is: of a sound one no number ever falls, a vote goes only once its sequence is
+/// published, and the mark stays.
 #[derive(Clone, Copy, Debug, PartialEq, Eq)]
 pub struct Progress {
     /// The mark of its folder.

@@ -6,7 +6,8 @@ use crate::progress::Progress;
 use wf_folder::Reach;
 
 impl Progress {
-    /// What a node says of itself: the mark of its folder, how often it started on it, the mark of this start, and how far it is.
+    /// What a node says of itself: the mark of its folder, how often it started on it, the mark of
+    /// this start, and how far it is.
     pub fn new(mark: [u8; 16], starts: u32, life: [u8; 16], reach: &Reach) -> Progress
         ensures mark { result.mark ≡ mark }
         ensures starts { result.starts ≡ starts }

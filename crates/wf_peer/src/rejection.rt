@@ -1,6 +1,7 @@
 use thiserror::Error;
 
-/// Why a peer isn't let in. Its line is for both: the node that rejects a peer logs it, and so does the peer that is told.
+/// Why a peer isn't let in. Its line is for both: the node that rejects a peer logs it, and so does
+/// the peer that is told.
 #[derive(Clone, Copy, Debug, PartialEq, Eq, Error)]
 pub enum PeerRejection {
     /// Its farm has another name.
@@ -52,7 +53,8 @@ impl PeerRejection {
     ghost use Rattle.wf_peer.specs.GreetingReply.{EndsANode, accuses, rejection_byte};
     ghost use Rattle.wf_peer.specs.declared.rejection.PeerRejection.{PeerRejection as RejectionValue};
 
-    /// Whether a node that is told this has forgotten something, runs on a copy, or is retired: it is suspended.
+    /// Whether a node that is told this has forgotten something, runs on a copy, or is retired: it
+    /// is suspended.
     pub fn ends_a_node(self) -> bool
         ensures { IsTrue result ↔ EndsANode self }
     {
@@ -69,7 +71,8 @@ impl PeerRejection {
         )
     }
 
-    /// Whether it is kept as an accusation of the folder of which it was heard before. Another folder is rejected without one.
+    /// Whether it is kept as an accusation of the folder of which it was heard before. Another
+    /// folder is rejected without one.
     pub fn accuses(self) -> bool
         ensures { result ≡ accuses self }
     {

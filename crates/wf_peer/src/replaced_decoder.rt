@@ -90,7 +90,8 @@ fn replacements_of(bytes: &[u8]) -> Option<Replacements>
     }
 }
 
-/// Reads the replacements of the last nodes, and nothing is to follow. Whether the bytes are those of any.
+/// Reads the replacements of the last nodes, and nothing is to follow. Whether the bytes are those
+/// of any.
 fn read_entries(bytes: &[u8], nodes: &mut [Option<Replacement>]) -> bool
     requires { length nodes.old ≤ 64 }
     ensures { ReadsEntries bytes.now (length nodes.old) nodes.new result }
@@ -106,7 +107,8 @@ fn read_entries(bytes: &[u8], nodes: &mut [Option<Replacement>]) -> bool
     read_entries(rest, others)
 }
 
-/// The replacement of this node, if bytes begin with one, and what follows it. None: they begin with its number and are none.
+/// The replacement of this node, if bytes begin with one, and what follows it. None: they begin
+/// with its number and are none.
 #[tactic(auto, unfolding(crate::specs::Greeting::entry_then))]
 fn split_entry(node: u8, bytes: &[u8]) -> Option<(Option<Replacement>, &[u8])>
     ensures told { IfSome result (λ x. IsToldOrNone x.0) }

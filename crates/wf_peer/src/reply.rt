@@ -34,7 +34,8 @@ pub enum GreetingReply {
     Rejected(PeerRejection, Option<Progress>),
 }
 
-/// Appends a rejection's encoding, with what is remembered of the peer. The only error is allocation failure, which changes nothing.
+/// Appends a rejection's encoding, with what is remembered of the peer. The only error is
+/// allocation failure, which changes nothing.
 pub fn encode_rejection(
     why: PeerRejection,
     remembered: &Option<Progress>,
@@ -96,7 +97,8 @@ fn put_remembered(remembered: &Option<Progress>, out: &mut Vec<u8>)
     }
 }
 
-/// The reply that bytes begin with. `Short`: they may go on as one, and more are needed. Any other error stays, whatever follows.
+/// The reply that bytes begin with. `Short`: they may go on as one, and more are needed. Any other
+/// error stays, whatever follows.
 #[tactic(auto, unfolding(crate::specs::GreetingReply::rejection_bytes, crate::specs::Greeting::greeting_bytes))]
 pub fn decode_reply(bytes: &[u8]) -> Result<GreetingReply, GreetingFault>
     ensures reply { IfOk result IsGreetingReply }
@@ -117,8 +119,9 @@ pub fn decode_reply(bytes: &[u8]) -> Result<GreetingReply, GreetingFault>
     }
 }
 
-/// How many bytes the reply has that begins so; while fewer than 12 are there, or fewer than 132 of a greeting, the least that it has. A
-/// reader that reads no more than these before it decodes reads nothing of what follows a reply.
+/// How many bytes the reply has that begins so; while fewer than 12 are there, or fewer than 132 of
+/// a greeting, the least that it has. A reader that reads no more than these before it decodes
+/// reads nothing of what follows a reply.
 pub fn reply_length(bytes: &[u8]) -> usize
     ensures value { result ≡ reply_length bytes.now }
     ensures within { (reply : ReplyValue) (more rest : List ℕ) → IsGreetingReply reply → bytes.now ++ more ≡ reply_bytes reply ++ rest → result ≤ length (reply_bytes reply) }

@@ -6,8 +6,8 @@ ghost use Rattle.wf_peer.specs.Sender.{IsFrom};
 use wf_ballot::NodeId;
 use wf_codec::Message;
 
-/// Whether the node may send the message: an answer names its sender, and a request's ballot is its sender's. A Chosen or an Ask names
-/// nobody, so any node may send it.
+/// Whether the node may send the message: an answer names its sender, and a request's ballot is its
+/// sender's. A Chosen or an Ask names nobody, so any node may send it.
 pub fn is_from(message: &Message, node: NodeId) -> bool
     ensures { IsTrue result ↔ IsFrom node (view message.now) }
 {

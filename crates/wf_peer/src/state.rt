@@ -9,7 +9,8 @@ pub enum NodeState {
     Suspended,
     /// Its folder is new, in the place of a lost one: it doesn't vote yet.
     Joins,
-    /// A peer has another history, and no majority agrees with its own: it only answers who asks for what is published.
+    /// A peer has another history, and no majority agrees with its own: it only answers who asks
+    /// for what is published.
     Outvoted,
 }
 

@@ -14,14 +14,16 @@ use wf_folder::is_no_lower;
 use wf_rejoin::{Replacement, Replacements};
 
 impl PeerProgress {
-    /// Whether a node has greeted, and a message of it raises neither the round nor the promise that was heard of it.
+    /// Whether a node has greeted, and a message of it raises neither the round nor the promise
+    /// that was heard of it.
     pub fn has_heard(&self, node: NodeId, message: &Message) -> bool
         ensures { IsTrue result ↔ IsHeardOf self.now node (view message.now) }
     {
         tells_no_more_of(&self.heard(node), message)
     }
 
-    /// Whether this has all that was heard earlier, of each node: its round and its promise are no lower.
+    /// Whether this has all that was heard earlier, of each node: its round and its promise are no
+    /// lower.
     #[tactic(auto, using(crate::proofs::HeardLater::hear_past))]
     pub fn has_all_of(&self, earlier: &PeerProgress) -> bool
         ensures past { IsTrue result ↔ ArePast earlier.now self.now }
@@ -30,7 +32,8 @@ impl PeerProgress {
         have_all_of(&self.nodes, &earlier.nodes)
     }
 
-    /// What was heard of the folders that are the nodes' now: nothing is left of one whose place another one has taken.
+    /// What was heard of the folders that are the nodes' now: nothing is left of one whose place
+    /// another one has taken.
     #[tactic(auto, using(crate::proofs::HeardLater::hear_left))]
     pub fn without(&self, replacements: &Replacements) -> PeerProgress
         ensures value { AreLeft self.now replacements.now result }

@@ -30,7 +30,8 @@ take_three count color rest =
     let more : 3 * suc count ≡ suc (suc (suc (3 * count))) = omega arith in
     ap (λ (n : ℕ). take n (color_bytes color ++ rest)) more
 
--- where `count` pixels have the colours that the function gives for them, the bytes are those colours
+-- where `count` pixels have the colours that the function gives for them, the bytes are those
+-- colours
 pub colors_shown : (bytes : List ℕ) (color : ℕ → Color) (first k count : ℕ) → 3 * (first + k + count) ≤ length bytes →
     ((j : ℕ) → j < k + count → pixel_at bytes (first + j) ≡ color j) →
     take (3 * count) (drop (3 * (first + k)) bytes) ≡ flat_map (λ j. color_bytes (color j)) (range_with_len k count)

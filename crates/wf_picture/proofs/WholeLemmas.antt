@@ -1,4 +1,5 @@
--- Whole pictures: their pixels are those of their files, and a part that is as large as the view is all of it.
+-- Whole pictures: their pixels are those of their files, and a part that is as large as the view is
+-- all of it.
 use Rattle.std.proofs.Common.{◌≡◌, ℕ, zero, suc, ◌+◌, ◌-◌, ◌*◌, ◌<◌, ◌≤◌, List, [], ◌++◌, take, drop, length, reverse, ℤ, pos, refl, sym, ap, ◌∙◌, arith}
 use Rattle.std.proofs.lemmas.Int.{ints}
 use Rattle.std.specs.List.{flat_map, range_with_len}

@@ -1,4 +1,5 @@
--- The picture of a map that a request is answered with: what is painted and labelled in its view, cut to its part of it.
+-- The picture of a map that a request is answered with: what is painted and labelled in its view,
+-- cut to its part of it.
 use Rattle.std.specs.Prelude.{◌≡◌, ◌≤◌, ◌+◌, ℕ, List, ℤ, pos}
 use Rattle.std.specs.Option.{unwrap_or}
 use Rattle.wf_def.specs.Definition.{Definition}
@@ -22,8 +23,8 @@ use Rattle.wf_picture.specs.declared.request.Size.{Size}
 unfoldable pub placed : Definition → List ℕ → ViewValue → List PlacedValue
 placed map layers view = placed_of view (candidates map layers view)
 
--- the picture of the whole view: the colour of the first placed label that inks the pixel, else of the last operation that covers
--- it, else the background
+-- the picture of the whole view: the colour of the first placed label that inks the pixel, else of
+-- the last operation that covers it, else the background
 unfoldable pub labelled : Definition → List ℕ → ViewValue → Color → ℤ → ℤ → Color
 labelled map layers view background column row =
     inked (placed map layers view) (color_at (operations map layers view) background column row) column row
@@ -54,13 +55,15 @@ picture map layers view background = crop (corner_of view) (labelled map layers 
 abbrev pub IsViewFor : ExtentValue → RequestValue → ViewValue → Type 0
 IsViewFor extent request view = IsViewOf extent request.bbox request.size.width request.size.height view
 
--- the bytes are the file of the picture of the request's layers in its box, in its size, over its background
+-- the bytes are the file of the picture of the request's layers in its box, in its size, over its
+-- background
 pub record IsImageOf (map : Definition) (request : RequestValue) (bytes : List ℕ) : Type 0 where
   pub view : ViewValue
   pub is : IsViewFor map.extent request view
   pub file : bytes ≡ image request.size.width request.size.height (picture map request.layers view request.background)
 
--- of whichever map and request of this size the pixmap is the picture of the view, the bytes are the request's image
+-- of whichever map and request of this size the pixmap is the picture of the view, the bytes are
+-- the request's image
 abbrev pub IsCutOut : PixmapValue → ViewValue → Size → List ℕ → Type 0
 IsCutOut pixmap view size bytes = (map : Definition) (request : RequestValue) → request.size ≡ size →
     IsViewFor map.extent request view →

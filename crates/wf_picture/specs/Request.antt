@@ -5,8 +5,8 @@ use Rattle.wf_def.specs.declared.color.Color.{Color}
 use Rattle.wf_geometry.specs.Limit.{least_cell, most_pixels}
 use Rattle.wf_picture.specs.declared.request.Size.{Size}
 
--- the layers as indices into the map's, the lowest in the picture first; the box; the size in pixels; the colour of what no layer
--- covers
+-- the layers as indices into the map's, the lowest in the picture first; the box; the size in
+-- pixels; the colour of what no layer covers
 pub record RequestValue : Type 0 where
   pub layers : List ℕ
   pub bbox : ExtentValue
@@ -20,7 +20,8 @@ pub record IsSize (size : Size) : Type 0 where
   pub height_least : 1 ≤ size.height
   pub height_most : size.height ≤ most_pixels
 
--- a box of which both sides are long enough: a thousandth of a unit, as the narrowest cell of the grid
+-- a box of which both sides are long enough: a thousandth of a unit, as the narrowest cell of the
+-- grid
 pub record IsLargeEnough (box : ExtentValue) : Type 0 where
   pub wide : (box.minx +ℤ pos least_cell) ≤ℤ box.maxx
   pub tall : (box.miny +ℤ pos least_cell) ≤ℤ box.maxy

@@ -10,7 +10,8 @@ use std::alloc::{AllocError, Global};
 use wf_geometry::Corner;
 use wf_paint::Pixmap;
 
-/// The file of a part of a picture, from its lower left corner: a header, then three bytes a pixel (Netpbm, PPM, raw form).
+/// The file of a part of a picture, from its lower left corner: a header, then three bytes a pixel
+/// (Netpbm, PPM, raw form).
 #[tactic(auto, unfolding(crate::specs::Image::image))]
 pub(crate) fn image(
     alloc: Global,
@@ -72,7 +73,8 @@ fn digits(side: u32) -> u8
     }
 }
 
-/// Adds the header: the form of the file, its width and height in pixels, and the greatest value of a byte.
+/// Adds the header: the form of the file, its width and height in pixels, and the greatest value of
+/// a byte.
 #[tactic(auto, unfolding(crate::specs::Image::header))]
 fn push_header(file: &mut Vec<u8>, width: u32, height: u32) -> Result<(), AllocError>
     ensures { OnOk result (file.new.items ≡ file.old.items ++ header width height) }

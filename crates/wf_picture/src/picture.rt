@@ -12,9 +12,10 @@ use wf_geometry::{Corner, View};
 use wf_label::{draw_labels, place, there_is_one_placed_set};
 use wf_paint::{Pixmap, paint_after};
 
-/// The picture of a request, as a file: its layers from the lowest to the uppermost over the background, with their labels over
-/// them (OGC 06-042, 7.3.3). Where box and size are those of a tile of the map's grid, the tile is cut out of the picture that
-/// sixteen tiles share, so that shapes and labels continue across neighbouring tiles. Allocation failure is the only error.
+/// The picture of a request, as a file: its layers from the lowest to the uppermost over the
+/// background, with their labels over them (OGC 06-042, 7.3.3). Where box and size are those of a
+/// tile of the map's grid, the tile is cut out of the picture that sixteen tiles share, so that
+/// shapes and labels continue across neighbouring tiles. Allocation failure is the only error.
 pub fn draw(alloc: Global, map: &MapDef, request: &PictureRequest) -> Result<Vec<u8>, AllocError>
     requires { All (λ i. i < length map.now.layers) request.now.layers }
     ensures { IfOk result (λ file. IsImageOf map.now request.now file.items) }
@@ -53,8 +54,8 @@ fn file_of(
     file(alloc, pixmap)
 }
 
-/// The view of a request: for a tile of the map's grid the one that sixteen tiles share. The picture of the request lies within
-/// it.
+/// The view of a request: for a tile of the map's grid the one that sixteen tiles share. The
+/// picture of the request lies within it.
 pub fn view_of(map: &MapDef, request: &PictureRequest) -> View
     ensures is { IsViewFor map.now.extent request.now result }
     ensures within { IsPartOfView request.now.size result }
@@ -63,9 +64,9 @@ pub fn view_of(map: &MapDef, request: &PictureRequest) -> View
     View::of(map, &request.bbox(), size.width, size.height)
 }
 
-/// The picture of the whole view: the map's layers at these indices, from the lowest to the uppermost, over the background's
-/// colour, with their labels over them. The pictures of all requests that have the view are parts of it. Allocation failure is
-/// the only error.
+/// The picture of the whole view: the map's layers at these indices, from the lowest to the
+/// uppermost, over the background's colour, with their labels over them. The pictures of all
+/// requests that have the view are parts of it. Allocation failure is the only error.
 pub fn draw_view(
     alloc: Global,
     map: &MapDef,
@@ -98,8 +99,9 @@ fn draw_labelled_after(
     Ok(pixmap)
 }
 
-/// The picture of a request of this size, cut out of the picture of its view, as a file. Of whichever map and request the view's
-/// picture is, the file is the request's image. Allocation failure is the only error.
+/// The picture of a request of this size, cut out of the picture of its view, as a file. Of
+/// whichever map and request the view's picture is, the file is the request's image. Allocation
+/// failure is the only error.
 pub fn cut(alloc: Global, pixmap: &Pixmap, view: &View, size: Size) -> Result<Vec<u8>, AllocError>
     requires within { IsPartOfView size view.now }
     requires wide { pixmap.now.width ≡ view.now.width }

@@ -12,9 +12,9 @@ pub struct Size {
     pub height: u32,
 }
 
-/// What a picture of a map shows and how large it is: the layers as indices into the map's, the lowest first; the box, in the
-/// axes of the map's EXTENT, with sides of at least a thousandth of a unit; the size, 1 to 1,024 pixels each way; and the colour
-/// of what no layer covers.
+/// What a picture of a map shows and how large it is: the layers as indices into the map's, the
+/// lowest first; the box, in the axes of the map's EXTENT, with sides of at least a thousandth of a
+/// unit; the size, 1 to 1,024 pixels each way; and the colour of what no layer covers.
 #[derive(Drop)]
 pub struct PictureRequest {
     layers: Vec<usize>,

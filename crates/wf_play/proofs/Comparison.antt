@@ -35,7 +35,8 @@ pub compared : (farm : MemoryFarm) (i j : ℕ) (query : List ℕ) (a b : AnswerV
     test ≡ is_same_answer a b → Compares farm i j query test
 compared farm i j query a b test first second is = record { answer = a; another = b; first = first; second = second; test = is }
 
--- By the theorem there is one answer, where the nodes are at one sequence, and where they are asked for one map.
+-- By the theorem there is one answer, where the nodes are at one sequence, and where they are asked
+-- for one map.
 pub true_where_one : (farm : MemoryFarm) (i j : ℕ) (query : List ℕ) (a b : AnswerValue) (test : Bool) → HasOneAnswer farm → HasOneMapAnswer farm →
     NodeAnswers farm i (sequence_at farm i) query a → NodeAnswers farm j (sequence_at farm j) query b → test ≡ is_same_answer a b → IsTrueWhereOne farm i j query test
 unfolding HasOneAnswer HasOneMapAnswer

@@ -16,7 +16,8 @@ is_same_kind a b = (kinds.ghosts).eq a b
 unfoldable pub is_same_answer : AnswerValue → AnswerValue → Bool
 is_same_answer a b = is_same_kind a.kind b.kind && bytes_eq a.media b.media && bytes_eq a.bytes b.bytes
 
--- The nodes i and j answer the query with these two answers, and the test is true iff they are equal.
+-- The nodes i and j answer the query with these two answers, and the test is true iff they are
+-- equal.
 pub record Compares (farm : MemoryFarm) (i j : ℕ) (query : List ℕ) (equal : Bool) : Type 0 where
   pub answer : AnswerValue
   pub another : AnswerValue
@@ -24,7 +25,8 @@ pub record Compares (farm : MemoryFarm) (i j : ℕ) (query : List ℕ) (equal : 
   pub second : NodeAnswers farm j (sequence_at farm j) query another
   pub test : equal ≡ is_same_answer answer another
 
--- The test is true where the nodes i and j are at one sequence, and where the query asks both for one map.
+-- The test is true where the nodes i and j are at one sequence, and where the query asks both for
+-- one map.
 pub record IsTrueWhereOne (farm : MemoryFarm) (i j : ℕ) (query : List ℕ) (equal : Bool) : Type 0 where
   pub one_sequence : sequence_at farm i ≡ sequence_at farm j → equal ≡ true
   pub one_map : (m : ℕ) → AsksForMap m (sequence_at farm i) query → AsksForMap m (sequence_at farm j) query → equal ≡ true

@@ -21,7 +21,8 @@ IsInputFault play.Read = ⊤
 IsInputFault play.Write = ⊥
 IsInputFault play.Wire = ⊥
 
--- why a script that was read isn't played to its end: an allocation, a write or the carrying of a message failed
+-- why a script that was read isn't played to its end: an allocation, a write or the carrying of a
+-- message failed
 abbrev pub IsPlayingFault : PlayFault → Type 0
 IsPlayingFault (play.Script fault) = IsMemory fault
 IsPlayingFault play.Read = ⊥
@@ -35,8 +36,8 @@ KeepsQuiet old new play.Read = Keeps old new
 KeepsQuiet old new play.Write = ⊤
 KeepsQuiet old new play.Wire = ⊤
 
--- A read error comes only where a read has failed, and a run whose reads have failed ends with that error or an allocation
--- failure.
+-- A read error comes only where a read has failed, and a run whose reads have failed ends with that
+-- error or an allocation failure.
 abbrev pub CountsReads : {T : Type 0} → Result T PlayFault → ℕ → ℕ → Type 0
 CountsReads (Ok x) old new = new ≡ old
 CountsReads (Err (play.Script fault)) old new = is_memory fault ≡ false → new ≡ old
@@ -49,20 +50,22 @@ abbrev pub CountsWrites : {T : Type 0} → Result T PlayFault → ℕ → ℕ �
 CountsWrites (Err play.Write) old new = Rises old new
 CountsWrites _ old new = new ≡ old
 
--- How the writing ended, of any writer: a failed write is the last call, and some bytes were written without a failure before it.
+-- How the writing ended, of any writer: a failed write is the last call, and some bytes were
+-- written without a failure before it.
 abbrev pub EndsWriting : {K : Type 0} → Sink K → K → K → PlayFault → Type 0
 EndsWriting sinks old new (play.Script fault) = ⊤
 EndsWriting sinks old new play.Read = ⊤
 EndsWriting sinks old new play.Write = (bytes : List ℕ) × EndsByFailing sinks.written sinks.failures sinks.fails bytes old new
 EndsWriting sinks old new play.Wire = ⊤
 
--- the error of an order, by why it isn't performed to its end: an allocation failed, at its line, or a message wasn't carried
+-- the error of an order, by why it isn't performed to its end: an allocation failed, at its line,
+-- or a message wasn't carried
 abbrev pub order_fault : CarrierFault → ℕ → PlayFault
 order_fault carrier.Memory line = play.Script (script.Memory line)
 order_fault carrier.Lost line = play.Wire
 
--- Why an order isn't performed to its end: an allocation failed, and the error is that of its line; or a message that it carries
--- wasn't carried.
+-- Why an order isn't performed to its end: an allocation failed, and the error is that of its line;
+-- or a message that it carries wasn't carried.
 abbrev pub IsOrderFault : Option Numbered → MemoryFarm → PlayFault → Type 0
 IsOrderFault numbered before (play.Script fault) = fault_at numbered ≡ Some fault
 IsOrderFault numbered before play.Wire = may_use_at numbered before ≡ true

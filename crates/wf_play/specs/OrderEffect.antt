@@ -17,7 +17,8 @@ use Rattle.wf_script.specs.Order.{Order}
 use Rattle.wf_script.specs.Order as order
 use Rattle.wf_script.specs.Script.{Numbered}
 
--- the step of an order on a farm, with the map of its script that it names; nothing where the script doesn't have that
+-- the step of an order on a farm, with the map of its script that it names; nothing where the
+-- script doesn't have that
 abbrev pub action_of : List Definition → Action ℕ ℕ → Option (table.Action Definition ℕ)
 action_of maps (action.Propose m) = option_map table.Propose (slice_get maps m)
 action_of maps action.Retry = Some table.Retry
@@ -32,8 +33,8 @@ event_at maps (order.Restart i) = Some (world.Restart i)
 event_at maps (order.Torn i a kept) = option_map (λ a. world.Torn i a (view_kept kept)) (action_of maps a)
 event_at maps other = None
 
--- Exactly these events have happened: the farm reports why the last one was rejected, if it was, and as many messages count as
--- pumped as before.
+-- Exactly these events have happened: the farm reports why the last one was rejected, if it was,
+-- and as many messages count as pumped as before.
 pub record HaveHappened (events : List (Event Definition)) (before after : MemoryFarm) : Type 0 where
   pub runs : Runs events before after
   pub refused : ReportsWhy (λ w. last_rejected w events) after.refused before.hosts before.sent
@@ -44,8 +45,8 @@ abbrev pub HappensIf : Option (Event Definition) → MemoryFarm → MemoryFarm �
 HappensIf None before after = after ≡ before
 HappensIf (Some event) before after = HaveHappened (event ∷ []) before after
 
--- Exactly these messages were delivered to node i, in turn. No delivery is rejected; the farm reports the rejection that it reported
--- before, and as many messages count as pumped as before.
+-- Exactly these messages were delivered to node i, in turn. No delivery is rejected; the farm
+-- reports the rejection that it reported before, and as many messages count as pumped as before.
 pub record Delivers (i : ℕ) (messages : List ℕ) (before after : MemoryFarm) : Type 0 where
   pub runs : Runs (map (λ k. world.deliver i k) messages) before after
   pub rejected : (w : World Definition) → Refines before w → last_rejected w (map (λ k. world.deliver i k) messages) ≡ None
@@ -57,8 +58,8 @@ pub record ArePumped (nodes : List ℕ) (before after : MemoryFarm) : Type 0 whe
   pub stopped : Bool
   pub pumped : IsPumped nodes before after stopped
 
--- What each order does. Any but deliveries, a pump and `skip` is one event or leaves the farm as it is: a question, and a message that
--- is cut off.
+-- What each order does. Any but deliveries, a pump and `skip` is one event or leaves the farm as it
+-- is: a question, and a message that is cut off.
 abbrev pub Performs : List Definition → Order → MemoryFarm → MemoryFarm → Type 0
 Performs maps (order.Deliver i messages) before after = Delivers i messages before after
 Performs maps (order.Pump nodes) before after = ArePumped nodes before after
@@ -81,7 +82,8 @@ carries (order.Cut i k bytes) = true
 carries (order.Pump nodes) = true
 carries other = false
 
--- Whether the order may use the carrier: it carries messages. A message is cut off only if it was sent and its node runs.
+-- Whether the order may use the carrier: it carries messages. A message is cut off only if it was
+-- sent and its node runs.
 abbrev pub may_use : Order → MemoryFarm → Bool
 may_use (order.Cut i k bytes) farm = is_some (node_at farm i) && is_some (slice_get farm.sent k)
 may_use other farm = carries other

@@ -1,4 +1,5 @@
--- How a play of a script ends before its last order, and what is written of it by then: a beginning of it.
+-- How a play of a script ends before its last order, and what is written of it by then: a beginning
+-- of it.
 use Rattle.std.specs.Io.KnownBytes.{Appends, Keeps}
 use Rattle.std.specs.Prelude.{◌≡◌, ◌⊎◌, ◌++◌, ℕ, true, Option, Some, Ok, List, slice_get, take, IfSome}
 use Rattle.wf_farm.specs.Farm.{MemoryFarm, Refines}
@@ -13,8 +14,8 @@ use Rattle.wf_script.specs.Text.{script_of}
 use Rattle.wf_script.specs.declared.fault.ScriptFault.{ScriptFault}
 use Rattle.wf_script.specs.declared.fault.ScriptFault.TheVariants as script_fault
 
--- An allocation failed at the order after the first `count` ones, and the error is that of its line. What these wrote is written,
--- and nothing more.
+-- An allocation failed at the order after the first `count` ones, and the error is that of its
+-- line. What these wrote is written, and nothing more.
 pub record StopsAtOrder (script : Script) (before : MemoryFarm) (old new : Option (List ℕ)) (fault : ScriptFault) : Type 0 where
   pub count : ℕ
   pub between : MemoryFarm
@@ -23,8 +24,8 @@ pub record StopsAtOrder (script : Script) (before : MemoryFarm) (old new : Optio
   pub line : fault_at (slice_get script.orders count) ≡ Some fault
   pub written : Appends old new text
 
--- A message wasn't carried at the order after the first `count` ones, which carries messages. What these wrote is written, and nothing
--- more.
+-- A message wasn't carried at the order after the first `count` ones, which carries messages. What
+-- these wrote is written, and nothing more.
 pub record LosesAtOrder (script : Script) (before : MemoryFarm) (old new : Option (List ℕ)) : Type 0 where
   pub count : ℕ
   pub between : MemoryFarm
@@ -33,8 +34,8 @@ pub record LosesAtOrder (script : Script) (before : MemoryFarm) (old new : Optio
   pub carries : may_use_at (slice_get script.orders count) between ≡ true
   pub written : Appends old new text
 
--- A write failed after the order after the first `count` ones. What these wrote is written, and then a beginning of what that order
--- writes.
+-- A write failed after the order after the first `count` ones. What these wrote is written, and
+-- then a beginning of what that order writes.
 pub record BreaksOffAtOrder (script : Script) (before : MemoryFarm) (old new : Option (List ℕ)) : Type 0 where
   pub count : ℕ
   pub between : MemoryFarm
@@ -70,8 +71,9 @@ MayBeBegun script old new fault = ((fault ≡ play.Script (script_fault.Memory 1
 abbrev pub IsInputBegun : Option (List ℕ) → Option (List ℕ) → Option (List ℕ) → PlayFault → Type 0
 IsInputBegun input old new fault = (script : Script) × IfSome input (λ text. script_of text ≡ Ok script) × IsPlayedFromStart script old new fault
 
--- What is written before an error. Where a write failed or a message wasn't carried, it is a beginning of the play of the input's
--- script. Where an allocation failed, likewise; or it is nothing, as where the input is no script or can't be read.
+-- What is written before an error. Where a write failed or a message wasn't carried, it is a
+-- beginning of the play of the input's script. Where an allocation failed, likewise; or it is
+-- nothing, as where the input is no script or can't be read.
 abbrev pub WritesBeginning : Option (List ℕ) → Option (List ℕ) → Option (List ℕ) → PlayFault → Type 0
 WritesBeginning input old new (play.Script fault) = Keeps old new ⊎ IsInputBegun input old new (play.Script fault)
 WritesBeginning input old new play.Read = Keeps old new

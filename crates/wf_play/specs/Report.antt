@@ -75,7 +75,8 @@ abbrev pub definition_line : Script → ℕ → ℕ → Option (Node TapeValue) 
 definition_line script i s None = no_node
 definition_line script i s (Some node) = codes "definition " ++ decimal i ++ codes " " ++ decimal s ++ codes " " ++ name_of script (map_at node.parts.history s) ++ codes "\n"
 
--- the answer to a question; it is always `same`, since nodes never publish different maps under one sequence
+-- the answer to a question; it is always `same`, since nodes never publish different maps under one
+-- sequence
 abbrev pub answer_text : Script → FarmQuestion → MemoryFarm → List ℕ
 answer_text script question.Published farm = published_line farm.hosts
 answer_text script question.Sent farm = sent_line (length farm.sent)
@@ -131,7 +132,8 @@ abbrev pub equal_line : Bool → List ℕ
 equal_line true = codes "equal\n"
 equal_line false = codes "differ\n"
 
--- The line whether the answers of two nodes to the query are equal, or that one of them doesn't run.
+-- The line whether the answers of two nodes to the query are equal, or that one of them doesn't
+-- run.
 abbrev pub ReportsEqual : MemoryFarm → ℕ → ℕ → List ℕ → List ℕ → Type 0
 ReportsEqual farm i j query text = ((equal : Bool) × Compares farm i j query equal × (text ≡ equal_line equal)) ⊎ ((IsAbsent farm i ⊎ IsAbsent farm j) × (text ≡ no_node))
 
@@ -140,7 +142,8 @@ abbrev pub happened_text : Option (Event Definition) → Option Rejection → Li
 happened_text None refused = []
 happened_text (Some event) refused = step_rejection_line refused
 
--- What an order writes. Of an event it is the rejection, if it was rejected. A delivery writes nothing, since none is rejected.
+-- What an order writes. Of an event it is the rejection, if it was rejected. A delivery writes
+-- nothing, since none is rejected.
 abbrev pub WritesOrder : Script → Order → MemoryFarm → MemoryFarm → List ℕ → Type 0
 WritesOrder script (order.Pump nodes) before after text = ReportsPump nodes before after text
 WritesOrder script (order.Ask question) before after text = text ≡ answer_text script question after

@@ -20,7 +20,8 @@ pub record IsScriptText (text : List ℕ) : Type 0 where
   pub bytes : length text ≤ most_script_bytes
   pub lines : line_feeds text ≤ most_lines
 
--- an error, allocation failure aside, is the one for which the input, where it is known, is no script
+-- an error, allocation failure aside, is the one for which the input, where it is known, is no
+-- script
 abbrev pub IsFaultOf : Option (List ℕ) → ScriptFault → Type 0
 IsFaultOf input fault = is_memory fault ≡ false → IfSome input (λ text. script_of text ≡ Err fault)
 
@@ -31,8 +32,9 @@ IsStepRejectionOf input play.Read = ⊤
 IsStepRejectionOf input play.Write = ⊥
 IsStepRejectionOf input play.Wire = ⊥
 
--- Where a run succeeds, or fails at a write or at a message on its way, the input was read to its end: where it is known, nothing of it is left, and it is a
--- script. An error of the script is the input's own.
+-- Where a run succeeds, or fails at a write or at a message on its way, the input was read to its
+-- end: where it is known, nothing of it is left, and it is a script. An error of the script is the
+-- input's own.
 abbrev pub ReadsWhole : Option (List ℕ) → Option (List ℕ) → Result (Unit {0}) PlayFault → Type 0
 ReadsWhole input left (Ok done) = IfSome input IsScriptText × IsAtEnd left
 ReadsWhole input left (Err play.Write) = IfSome input IsScriptText × IsAtEnd left
@@ -40,8 +42,8 @@ ReadsWhole input left (Err play.Wire) = IfSome input IsScriptText × IsAtEnd lef
 ReadsWhole input left (Err (play.Script fault)) = IsFaultOf input fault
 ReadsWhole input left (Err play.Read) = ⊤
 
--- The first n orders of a script are performed, one after the other, each on the farm that the one before left. Their outputs, joined,
--- are one text.
+-- The first n orders of a script are performed, one after the other, each on the farm that the one
+-- before left. Their outputs, joined, are one text.
 unfoldable pub ArePerformed : Script → ℕ → MemoryFarm → MemoryFarm → List ℕ → Type 0
 ArePerformed script zero before after text = (after ≡ before) × (text ≡ [])
 ArePerformed script (suc n) before after text =

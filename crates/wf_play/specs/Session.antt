@@ -13,8 +13,8 @@ pub record Session : Type 0 where
   pub script : Script
   pub farm : MemoryFarm
 
--- The farm has made some events of the model. Its nodes are as they were, or the list that each had published is a prefix of
--- the list that it has published now.
+-- The farm has made some events of the model. Its nodes are as they were, or the list that each had
+-- published is a prefix of the list that it has published now.
 pub record Plays (before after : MemoryFarm) : Type 0 where
   pub events : List (Event Definition)
   pub runs : Runs events before after

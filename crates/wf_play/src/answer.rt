@@ -52,8 +52,8 @@ impl<'s> Session<'s> {
         }
     }
 
-    /// The least sequence under which two running nodes publish different maps. It is always None, by the contract of
-    /// [`wf_farm::Farm::agree`].
+    /// The least sequence under which two running nodes publish different maps. It is always None,
+    /// by the contract of [`wf_farm::Farm::agree`].
     pub fn differ(&self) -> Option<Slot>
         ensures { result ≡ None }
     {
@@ -102,7 +102,8 @@ impl<'s> Session<'s> {
         None
     }
 
-    /// Does a running node publish a map at this slot that differs from this one, which some node publishes?
+    /// Does a running node publish a map at this slot that differs from this one, which some node
+    /// publishes?
     fn some_publish_another(&self, slot: Slot, known: &Canon) -> bool
         requires { IsPublished self.now.farm slot known.now }
         ensures { result ≡ false }
@@ -197,7 +198,8 @@ fn write_proposal_state(proposal_state: ProposalState, out: &mut String) -> Resu
     }
 }
 
-/// The name of the first equal map; `?` where there is none, or where the node hasn't published the sequence.
+/// The name of the first equal map; `?` where there is none, or where the node hasn't published the
+/// sequence.
 fn write_definition(
     script: &Script,
     farm: &Farm,
@@ -215,7 +217,8 @@ fn write_definition(
     writeln!(out, "definition {number} {sequence} {name}")
 }
 
-/// The name of the map that the node publishes at the sequence, `?` where the script doesn't have it.
+/// The name of the map that the node publishes at the sequence, `?` where the script doesn't have
+/// it.
 fn name_at<'s>(script: &'s Script, node: &Node<MemoryTape>, sequence: usize) -> &'s str
     ensures { result.now ≡ name_of script.now (map_at node.now.parts.history sequence) }
 {

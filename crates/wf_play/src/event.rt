@@ -39,7 +39,8 @@ impl<'s> Session<'s> {
         }
     }
 
-    /// The step on the farm, with a copy of the map that it names; None if the script doesn't have that.
+    /// The step on the farm, with a copy of the map that it names; None if the script doesn't have
+    /// that.
     fn action_of(
         &self,
         action: Action<usize, usize>,
@@ -59,7 +60,8 @@ impl<'s> Session<'s> {
         }
     }
 
-    /// The definition of the map of this number. An order names a map of its own script, so there is one.
+    /// The definition of the map of this number. An order names a map of its own script, so there
+    /// is one.
     fn copy_of(&self, map: usize) -> Result<Option<Canon>, AllocError>
         ensures { IfOk result (λ copy. copy ≡ slice_get self.now.script.maps map) }
     {

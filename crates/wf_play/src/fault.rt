@@ -19,7 +19,8 @@ pub enum PlayFault {
     /// The writer failed; a part of the output may be written.
     #[error("write fault")]
     Write,
-    /// A message wasn't carried to its node, or couldn't be cut off; the output of the orders before is written.
+    /// A message wasn't carried to its node, or couldn't be cut off; the output of the orders
+    /// before is written.
     #[error("wire fault")]
     Wire,
 }

@@ -56,7 +56,8 @@ impl<'s> Session<'s> {
         write_pump(stopped, out)
     }
 
-    /// The carrier sends the first bytes of the message, if it was sent and the node runs. Nothing arrives.
+    /// The carrier sends the first bytes of the message, if it was sent and the node runs. Nothing
+    /// arrives.
     pub(crate) fn cut<C: Carrier>(
         &self,
         alloc: Global,
@@ -96,7 +97,8 @@ fn deliver_in_turn<C: Carrier>(
     ensures complete { farm.new.complete ≡ true }
 {
     for message in messages {
-        // Theorem: the farm is one world, so what its nodes published then is what they have published now.
+        // Theorem: the farm is one world, so what its nodes published then is what they have
+        // published now.
         farm.agree();
         if let Err(fault) = farm.deliver_by(alloc, carrier, node, *message) {
             return Err(why_not_carried(fault));

@@ -48,10 +48,10 @@ impl<'s> Session<'s> {
         }
     }
 
-    /// Do the two nodes answer the query of a request (OGC 06-042) with the same bytes, of one kind and one media type?
-    /// They do where both are at one sequence, and where the query asks both for one map, by the contract of
-    /// [`wf_farm::Farm::answers_agree`]. Returns F2 where one of them is absent or stopped, and F1 with 0 where an allocation
-    /// failed.
+    /// Do the two nodes answer the query of a request (OGC 06-042) with the same bytes, of one kind
+    /// and one media type? They do where both are at one sequence, and where the query asks both
+    /// for one map, by the contract of [`wf_farm::Farm::answers_agree`]. Returns F2 where one of
+    /// them is absent or stopped, and F1 with 0 where an allocation failed.
     pub fn equal(
         &self,
         alloc: Global,

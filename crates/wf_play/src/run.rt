@@ -17,12 +17,14 @@ use wf_farm::Carrier;
 use wf_script::{MOST_SCRIPT_BYTES, Script, ScriptFault, a_beginning_is_examined_alike};
 use wf_stream::{Sink, Source, read_up_to, write_all};
 
-/// Reads a script to its end, or to the byte that makes it too long, and plays it on a new farm, whose messages come by the
-/// carrier. The output of each order is written once the order is performed. Where the script has an error, nothing is written.
-/// Where S1 comes at an order, it is at that order's line, and exactly the output of the orders before it is written. Where the
-/// carrier fails, or brings another message than it was given, the error is `Wire`, and exactly the output of the orders before is
-/// written too; of a faithful carrier that never comes. Where a write fails, exactly the output of the orders before and a
-/// beginning of the output of one order is, and the failed write is the last call of the writer.
+/// Reads a script to its end, or to the byte that makes it too long, and plays it on a new farm,
+/// whose messages come by the carrier. The output of each order is written once the order is
+/// performed. Where the script has an error, nothing is written. Where S1 comes at an order, it is
+/// at that order's line, and exactly the output of the orders before it is written. Where the
+/// carrier fails, or brings another message than it was given, the error is `Wire`, and exactly the
+/// output of the orders before is written too; of a faithful carrier that never comes. Where a
+/// write fails, exactly the output of the orders before and a beginning of the output of one order
+/// is, and the failed write is the last call of the writer.
 #[tactic(auto, using(crate::proofs::Faults::no_writes_yet, crate::proofs::Faults::none_lost_yet, crate::proofs::WholeInput::ends_whole, crate::proofs::WholeInput::no_script_ends))]
 pub fn run_script<S: Source, K: Sink, C: Carrier>(
     alloc: Global,

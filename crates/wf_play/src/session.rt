@@ -50,7 +50,8 @@ impl<'s> Session<'s> {
     ghost use Rattle.wf_play.specs.Session.{Plays};
     ghost use Rattle.wf_play.specs.Report.{IsAppended, WritesReport, ReportsOrder, happened_text, step_rejection_line};
 
-    /// The farm before the script's first order: the model's start. Returns S1 at line 1 where an allocation failed.
+    /// The farm before the script's first order: the model's start. Returns S1 at line 1 where an
+    /// allocation failed.
     pub fn new(alloc: Global, script: &'s Script) -> Result<Session<'s>, ScriptFault>
         ensures script { IfOk result (λ session. session.script ≡ script.now) }
         ensures start { IfOk result (λ session. Refines session.farm (start script.now.nodes)) }
@@ -71,13 +72,15 @@ impl<'s> Session<'s> {
         &self.farm
     }
 
-    /// Performs the order of that number, counted from 0, and appends its output; nothing where there is no such
-    /// order. The carrier brings the messages of a delivery and of a pump to their nodes, and sends those that are cut off; a step
-    /// within which a node crashes doesn't use it. Whatever the order and the carrier, the farm has made some events, and the
-    /// theorems hold of it after them.
+    /// Performs the order of that number, counted from 0, and appends its output; nothing where
+    /// there is no such order. The carrier brings the messages of a delivery and of a pump to their
+    /// nodes, and sends those that are cut off; a step within which a node crashes doesn't use it.
+    /// Whatever the order and the carrier, the farm has made some events, and the theorems hold of
+    /// it after them.
     ///
-    /// Returns S1 at the order's line where an allocation failed, and `Wire` where the carrier failed, or brought another message:
-    /// then a part of the order may have happened, or be written. Of a faithful carrier S1 is the only error.
+    /// Returns S1 at the order's line where an allocation failed, and `Wire` where the carrier
+    /// failed, or brought another message: then a part of the order may have happened, or be
+    /// written. Of a faithful carrier S1 is the only error.
     pub fn perform<C: Carrier>(
         &mut self,
         alloc: Global,

@@ -78,7 +78,8 @@ first_answer (Err e) o q me slot tried sequence own stored has after leads_not i
 
 -- ---- with a leadership
 
--- the beginning of a leader's proposal under this leadership, with these nodes as those whose answers are counted
+-- the beginning of a leader's proposal under this leadership, with these nodes as those whose
+-- answers are counted
 abbrev led_with : model.Leadership Definition → ℕ → Definition → (ℕ → Bool) → Transition Definition
 led_with l s own responders =
     ask_votes l (record {

@@ -86,7 +86,8 @@ module _ (o : Option Leadership) (p : Proposal) (best : Votes) (n from : ℕ) (b
   unfolding on_promise with_promise
   promised_transition e = sym (if_true IsNewResponse (promised n W (with_promise (proposal_of model.Preparing best p) from (view_votes report.votes))) (quiet W) e)
 
-  -- votes are asked for, with these nodes as those whose votes are counted, and these votes as the best
+  -- votes are asked for, with these nodes as those whose votes are counted, and these votes as the
+  -- best
   abbrev asked : (ℕ → Bool) → Votes → Transition Definition
   asked nodes votes =
       record {

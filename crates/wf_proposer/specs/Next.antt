@@ -29,7 +29,8 @@ use Rattle.wf_proposer.specs.declared.volatile.VolatileState.{VolatileState}
 use Rattle.wf_proposer.specs.declared.change.Change.{Change}
 use Rattle.wf_proposer.specs.declared.change.Change.TheVariants.{Nothing, Becomes, Proposes, CountsPromise, CountsVote, Sees}
 
--- the record to store, None if there is none; the messages to send after that; and the effect of a commit on the volatile state
+-- the record to store, None if there is none; the messages to send after that; and the effect of a
+-- commit on the volatile state
 pub record Next : Type 0 where
   pub entry : Option Record
   pub messages : List Message

@@ -21,6 +21,7 @@ proposal_of phase best p =
       seen = p.seen;
     }
 
--- `waits` is whether the proposal in this phase waits for this answer, which is of the phase, whatever the best votes are.
+-- `waits` is whether the proposal in this phase waits for this answer, which is of the phase,
+-- whatever the best votes are.
 abbrev pub IsNewResponse : model.Phase → ℕ → Proposal → ℕ → ℕ → Ballot → Bool → Type 0
 IsNewResponse phase n p from slot ballot waits = (best : List (Option (Vote Definition))) → waits ≡ is_new_response n (proposal_of phase best p) phase from slot ballot

@@ -9,7 +9,8 @@ use Rattle.wf_proposer.specs.VolatileState as shown
 use Rattle.wf_proposer.specs.Next.{Next, transition_at}
 use Rattle.wf_proposer.specs.declared.volatile.VolatileState.{VolatileState}
 
--- its node, the farm's number of nodes, and its volatile state: at most one proposal, or how the last one ended, and a leadership
+-- its node, the farm's number of nodes, and its volatile state: at most one proposal, or how the
+-- last one ended, and a leadership
 pub record Proposer : Type 0 where
   pub node : ℕ
   pub nodes : ℕ
@@ -19,7 +20,8 @@ pub record Proposer : Type 0 where
 abbrev pub volatile_of : Proposer → model.VolatileState Definition
 volatile_of proposer = shown.volatile_of proposer.volatile
 
--- its result, as a transition of the step table: the record, the messages, and the volatile state after the commit
+-- its result, as a transition of the step table: the record, the messages, and the volatile state
+-- after the commit
 abbrev pub transition_of : Proposer → Next → Transition Definition
 transition_of proposer next = transition_at proposer.volatile.leadership proposer.volatile.proposing next
 
@@ -30,7 +32,8 @@ runs_for s (model.Running p) = p.sequence == s
 runs_for s (model.Won t) = false
 runs_for s (model.Overtaken t) = false
 
--- This holds of each stored state with this round tried and this last published sequence, whatever else is stored.
+-- This holds of each stored state with this round tried and this last published sequence, whatever
+-- else is stored.
 abbrev pub ForStored : ℕ → ℕ → (DurableState Definition → Type 0) → Type 0
 ForStored tried published holds = (stored : DurableState Definition) → HasStored stored tried published → holds stored
 

@@ -44,7 +44,8 @@ volatile_from leadership proposing = record { proposing = proposing_of leadershi
 abbrev pub volatile_of : VolatileState → model.VolatileState Definition
 volatile_of volatile = volatile_from (leading_of volatile.leadership) volatile.proposing
 
--- the volatile state while this proposal asks for promises, with the best votes so far; and while it asks for votes
+-- the volatile state while this proposal asks for promises, with the best votes so far; and while
+-- it asks for votes
 abbrev pub preparing : Option Leadership → Proposal → List (Option (Vote Definition)) → VolatileState
 preparing leadership p best = record { proposing = Running p (Preparing best); leadership = leadership }
 

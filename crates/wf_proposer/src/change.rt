@@ -7,7 +7,8 @@ use wf_codec::Report;
 pub enum Change {
     /// Nothing.
     Nothing,
-    /// The new volatile state: a proposal begins and a leadership ends, or a majority has promised and a leadership begins.
+    /// The new volatile state: a proposal begins and a leadership ends, or a majority has promised
+    /// and a leadership begins.
     Becomes(VolatileState),
     /// What is proposed now, or how it ended; a leadership stays.
     Proposes(Proposing),

@@ -7,7 +7,8 @@ use std::marker::Model;
 use wf_codec::Message;
 use wf_journal::Record;
 
-/// A proposer's result: a record to store, messages to send once it is stored, and the change of the volatile state.
+/// A proposer's result: a record to store, messages to send once it is stored, and the change of
+/// the volatile state.
 pub struct Next {
     entry: Option<Record>,
     messages: Vec<Message>,
@@ -58,7 +59,8 @@ impl Next {
         ensures { IfOk result (λ next. next ≡
             record { entry = entry; messages = message ∷ []; change = change }) }
     {
-        // Without `?`: the proof of an exit that drops these treats each kind of record and change separately.
+        // Without `?`: the proof of an exit that drops these treats each kind of record and change
+        // separately.
         match only(alloc, message) {
             Ok(messages) => Ok(Next {
                 entry,

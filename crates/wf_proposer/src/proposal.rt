@@ -51,7 +51,8 @@ impl Proposal {
         }
     }
 
-    /// A proposal of `own` begins at the ballot: its round is stored before any Prepare is sent, and a leadership ends.
+    /// A proposal of `own` begins at the ballot: its round is stored before any Prepare is sent,
+    /// and a leadership ends.
     pub fn begin(alloc: Global, slot: Slot, own: Canon, ballot: Ballot) -> Result<Next, AllocError>
         ensures { IfOk result (λ next. next ≡ begun slot own ballot) }
     {
@@ -66,7 +67,8 @@ impl Proposal {
         Next::only_sends(alloc, Some(tried), message, change)
     }
 
-    /// The proposal begins again, in a round above the one tried and each one reported. There may be none left.
+    /// The proposal begins again, in a round above the one tried and each one reported. There may
+    /// be none left.
     #[tactic(auto, unfolding(wf_model::specs::Table::rounds_full))]
     pub fn again(&self, alloc: Global, node: NodeId, tried: u32) -> Result<Next, StepRejection>
         ensures refused { rejected_by result ≡ table.rounds_full (max tried self.now.seen) }
@@ -83,7 +85,8 @@ impl Proposal {
         }
     }
 
-    /// The first attempt of a proposal of `own`, in the round after the one tried. There may be none left.
+    /// The first attempt of a proposal of `own`, in the round after the one tried. There may be
+    /// none left.
     #[tactic(auto, unfolding(wf_model::specs::Table::rounds_full))]
     pub fn first(
         alloc: Global,
@@ -123,8 +126,8 @@ impl Proposal {
         self.is_for(slot) && self.ballot == ballot
     }
 
-    /// Whether the proposal waits for the answer, which is of its phase: it is of its slot and ballot, from a node of the farm whose
-    /// answer isn't counted yet.
+    /// Whether the proposal waits for the answer, which is of its phase: it is of its slot and
+    /// ballot, from a node of the farm whose answer isn't counted yet.
     #[tactic(auto, unfolding(wf_model::specs::Table::is_new_response, wf_model::specs::VolatileState::is_at, wf_model::specs::VolatileState::same_phase))]
     fn is_new_response(&self, n: u8, from: NodeId, slot: Slot, ballot: Ballot) -> bool
         ensures promise { IsNewResponse model.Preparing n self.now from slot ballot result }
@@ -133,9 +136,9 @@ impl Proposal {
         self.is_at(slot, ballot) && from.number() < n && !self.responders.contains(from)
     }
 
-    /// A Promise arrived while promises are asked for, `best` the best votes so far: it is counted, and for each slot the better vote
-    /// is kept. Once a majority has promised, votes are asked for; only that allocates. An answer that the proposal doesn't wait
-    /// for has no effect.
+    /// A Promise arrived while promises are asked for, `best` the best votes so far: it is counted,
+    /// and for each slot the better vote is kept. Once a majority has promised, votes are asked
+    /// for; only that allocates. An answer that the proposal doesn't wait for has no effect.
     pub fn on_promise(
         &self,
         alloc: Global,
@@ -157,8 +160,8 @@ impl Proposal {
         self.after_promise(alloc, n, self.responders.with(from), best, report)
     }
 
-    /// The result after these nodes promised, the last one with this report. Once they are a majority, votes are asked for; only
-    /// that allocates.
+    /// The result after these nodes promised, the last one with this report. Once they are a
+    /// majority, votes are asked for; only that allocates.
     fn after_promise(
         &self,
         alloc: Global,
@@ -178,7 +181,8 @@ impl Proposal {
         Ok(next)
     }
 
-    /// A majority has promised, the last node with this report: votes are asked for, and a leadership begins.
+    /// A majority has promised, the last node with this report: votes are asked for, and a
+    /// leadership begins.
     fn elect(&self, alloc: Global, best: &BestVotes, report: Report) -> Result<Next, AllocError>
         ensures { IfOk result (λ next. next ≡
             elect self.now (model.better_each best.now (view_votes report.votes))) }
@@ -196,7 +200,8 @@ impl Proposal {
         }
     }
 
-    /// Votes are asked for, for the best vote reported at the proposal's slot, or else for its own definition.
+    /// Votes are asked for, for the best vote reported at the proposal's slot, or else for its own
+    /// definition.
     fn leads(&self, alloc: Global, best: BestVotes) -> Result<Next, AllocError>
         ensures { IfOk result (λ next. next ≡ elect self.now best) }
     {
@@ -227,7 +232,8 @@ impl Proposal {
         }
     }
 
-    /// The volatile state once votes are asked for; `own` is a copy of the proposal's own definition.
+    /// The volatile state once votes are asked for; `own` is a copy of the proposal's own
+    /// definition.
     fn lead_by(&self, own: Canon, best: BestVotes) -> VolatileState
         ensures { result ≡ record {
           proposing = Proposing.Running (record self.now { own = own; responders = 0 }) Phase.Accepting;
@@ -247,8 +253,8 @@ impl Proposal {
         }
     }
 
-    /// The definition that votes were asked for under the leadership: that of the best vote reported at the proposal's slot, or else
-    /// its own.
+    /// The definition that votes were asked for under the leadership: that of the best vote
+    /// reported at the proposal's slot, or else its own.
     #[tactic(auto, unfolding(wf_model::specs::Message::first_vote, wf_model::specs::VolatileState::carried))]
     fn definition_to_accept<'a>(&'a self, leadership: &'a Option<Leadership>) -> &'a Canon
         ensures { result.now ≡ model.carried
@@ -260,8 +266,9 @@ impl Proposal {
         }
     }
 
-    /// An Accepted arrived while votes are asked for: it is counted. Once a majority has voted, the definition is published and the
-    /// proposal ends; only that allocates. An answer that the proposal doesn't wait for has no effect.
+    /// An Accepted arrived while votes are asked for: it is counted. Once a majority has voted, the
+    /// definition is published and the proposal ends; only that allocates. An answer that the
+    /// proposal doesn't wait for has no effect.
     pub fn on_accepted(
         &self,
         alloc: Global,
@@ -287,8 +294,8 @@ impl Proposal {
         )
     }
 
-    /// The result after these nodes voted for the definition. Once they are a majority, it is published and the proposal ends; only
-    /// that allocates.
+    /// The result after these nodes voted for the definition. Once they are a majority, it is
+    /// published and the proposal ends; only that allocates.
     fn after_vote(
         &self,
         alloc: Global,

@@ -100,9 +100,10 @@ impl Proposer {
         }
     }
 
-    /// Begins a proposal of `own`; `tried` is the stored round, and `published` the last published sequence. A leader asks for votes
-    /// at once if its leadership covers the next sequence, and otherwise promises are asked for in a new round. Rejected as Busy if
-    /// a proposal runs, then as RoundsFull if a new round is needed after the last one.
+    /// Begins a proposal of `own`; `tried` is the stored round, and `published` the last published
+    /// sequence. A leader asks for votes at once if its leadership covers the next sequence, and
+    /// otherwise promises are asked for in a new round. Rejected as Busy if a proposal runs, then
+    /// as RoundsFull if a new round is needed after the last one.
     #[tactic(auto, unfolding(wf_model::specs::Table::reject_proposal))]
     pub fn start(
         &self,
@@ -165,8 +166,9 @@ impl Proposer {
         }
     }
 
-    /// Begins the running proposal again in a higher round, and ends a leadership; `tried` is the stored round. Rejected as Nothing
-    /// if no proposal runs, and as RoundsFull if the last round was tried or reported.
+    /// Begins the running proposal again in a higher round, and ends a leadership; `tried` is the
+    /// stored round. Rejected as Nothing if no proposal runs, and as RoundsFull if the last round
+    /// was tried or reported.
     #[tactic(auto, unfolding(wf_model::specs::Table::reject_retry, wf_model::specs::Table::round_known))]
     pub fn retry(&self, alloc: Global, tried: u32) -> Result<Next, StepRejection>
         ensures refused { ForTried tried (λ stored.
@@ -180,8 +182,8 @@ impl Proposer {
         }
     }
 
-    /// Why a proposal would be rejected now, given that `tried` is the stored round and a sequence is left; None if it would
-    /// begin.
+    /// Why a proposal would be rejected now, given that `tried` is the stored round and a sequence
+    /// is left; None if it would begin.
     #[tactic(auto, unfolding(wf_model::specs::Table::reject_proposal))]
     pub fn start_step_rejection(&self, tried: u32, published: Seq) -> Option<StepRejection>
         requires { published < last_sequence }
@@ -194,7 +196,8 @@ impl Proposer {
         }
     }
 
-    /// Why a proposal would be rejected where none runs: only a new round may be missing, which a leader doesn't need.
+    /// Why a proposal would be rejected where none runs: only a new round may be missing, which a
+    /// leader doesn't need.
     fn begin_step_rejection(&self, tried: u32, published: Seq) -> Option<StepRejection>
         requires { published < last_sequence }
         ensures { ForStored tried published (λ stored.
@@ -206,7 +209,8 @@ impl Proposer {
         }
     }
 
-    /// Why a retry would be rejected now, given that `tried` is the stored round; None if it would begin.
+    /// Why a retry would be rejected now, given that `tried` is the stored round; None if it would
+    /// begin.
     #[tactic(auto, unfolding(wf_model::specs::Table::reject_retry, wf_model::specs::Table::round_known))]
     pub fn retry_step_rejection(&self, tried: u32) -> Option<StepRejection>
         ensures { ForTried tried (λ stored. IsWhyNot (retry_step_rejection self.now stored) result) }
@@ -217,8 +221,8 @@ impl Proposer {
         }
     }
 
-    /// A Promise of `from` arrived. The only error is allocation failure, and only if the transition sends something: an answer
-    /// that leaves no majority doesn't allocate.
+    /// A Promise of `from` arrived. The only error is allocation failure, and only if the
+    /// transition sends something: an answer that leaves no majority doesn't allocate.
     #[tactic(auto, unfolding(wf_model::specs::Table::on_promise, wf_model::specs::Table::quiet, wf_model::specs::Table::is_new_response, wf_model::specs::VolatileState::same_phase))]
     pub fn on_promise(
         &self,
@@ -243,8 +247,8 @@ impl Proposer {
         }
     }
 
-    /// An Accepted of `from` arrived. The only error is allocation failure, and only if the transition sends something: an answer
-    /// that leaves no majority doesn't allocate.
+    /// An Accepted of `from` arrived. The only error is allocation failure, and only if the
+    /// transition sends something: an answer that leaves no majority doesn't allocate.
     #[tactic(auto, unfolding(wf_model::specs::Table::on_accepted, wf_model::specs::Table::quiet, wf_model::specs::Table::is_new_response, wf_model::specs::VolatileState::same_phase))]
     pub fn on_accepted(
         &self,
@@ -282,8 +286,8 @@ impl Proposer {
         }
     }
 
-    /// Makes the volatile state of `next` the node's, and returns the record, which is stored by now, and the messages to send.
-    /// Doesn't allocate.
+    /// Makes the volatile state of `next` the node's, and returns the record, which is stored by
+    /// now, and the messages to send. Doesn't allocate.
     pub fn commit(&mut self, next: Next) -> (Option<Record>, Vec<Message>)
         ensures volatile { volatile_of self.new ≡ (transition_of self.old next).volatile }
         ensures node { self.new.node ≡ self.old.node }
@@ -296,7 +300,8 @@ impl Proposer {
         (entry, messages)
     }
 
-    /// The definition is published at the slot: a running proposal for the slot ends, and a leadership stays. Doesn't allocate.
+    /// The definition is published at the slot: a running proposal for the slot ends, and a
+    /// leadership stays. Doesn't allocate.
     #[tactic(auto, unfolding(wf_model::specs::Table::after_publishing, wf_model::specs::Table::ends))]
     pub fn on_published(&mut self, slot: Slot, canon: &Canon)
         ensures volatile { volatile_of self.new ≡ (if runs_for slot (volatile_of self.old).proposing

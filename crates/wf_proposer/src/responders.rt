@@ -6,8 +6,8 @@ ghost use Rattle.wf_proposer.specs.Responders.{among, are_majority};
 use std::marker::Model;
 use wf_ballot::{NODES, NodeId, is_majority};
 
-/// The nodes whose answers are counted: one bit for each of the 64 nodes that a farm may have, node 0's the lowest. No call
-/// allocates.
+/// The nodes whose answers are counted: one bit for each of the 64 nodes that a farm may have, node
+/// 0's the lowest. No call allocates.
 #[derive(Clone, Copy)]
 pub struct Responders {
     mask: u64,

@@ -9,8 +9,8 @@ use wf_ballot::{Ballot, Slot};
 use wf_canon::Canon;
 use wf_codec::{BestVotes, Message, Report};
 
-/// The number of slots at which a leadership asks for votes without asking for promises: its base and the three after it. A promise
-/// reports votes at as many.
+/// The number of slots at which a leadership asks for votes without asking for promises: its base
+/// and the three after it. A promise reports votes at as many.
 const WINDOW: u16 = 4;
 
 /// A proposer's volatile state.
@@ -29,7 +29,8 @@ pub enum Proposing {
     Idle,
     /// This one is running, in this phase.
     Running(Proposal, Phase),
-    /// The last one ended: a definition is published at its slot, and this is whether it is its own.
+    /// The last one ended: a definition is published at its slot, and this is whether it is its
+    /// own.
     Ended(Slot, bool),
 }
 
@@ -42,7 +43,8 @@ pub enum Phase {
     Accepting,
 }
 
-/// A majority promised the ballot at `base` and all later slots, so no promises need to be asked for at the first few of them.
+/// A majority promised the ballot at `base` and all later slots, so no promises need to be asked
+/// for at the first few of them.
 #[derive(Drop)]
 pub struct Leadership {
     /// The slot from which on the majority promised.
@@ -73,8 +75,8 @@ impl VolatileState {
         }
     }
 
-    /// Replaces the volatile state. The old one is dropped by one call: if it were dropped in place, its parts would make each
-    /// proof long.
+    /// Replaces the volatile state. The old one is dropped by one call: if it were dropped in
+    /// place, its parts would make each proof long.
     fn becomes(&mut self, next: VolatileState)
         ensures { self.new ≡ next }
     {
@@ -141,8 +143,8 @@ impl Leadership {
         base <= slot && slot < base + WINDOW
     }
 
-    /// The leader's proposal of `own` begins: votes are asked for, for the best vote reported at the slot, or else for `own`. The
-    /// only error is allocation failure.
+    /// The leader's proposal of `own` begins: votes are asked for, for the best vote reported at
+    /// the slot, or else for `own`. The only error is allocation failure.
     pub fn propose(&self, alloc: Global, slot: Slot, own: Canon) -> Result<Next, StepRejection>
         ensures refused { rejected_by result ≡ None }
         ensures transition { IfOk result (λ next. next ≡ led self.now slot own) }

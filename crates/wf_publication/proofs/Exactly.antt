@@ -1,4 +1,5 @@
--- Deliveries of which none is lost, and at which no tape fails, are those of whole rounds; and these end once.
+-- Deliveries of which none is lost, and at which no tape fails, are those of whole rounds; and
+-- these end once.
 use Rattle.std.proofs.Common.{◌≡◌, ◌≤◌, ◌<◌, ◌+◌, ◌-◌, ℕ, zero, suc, Bool, true, false, List, [], ◌∷◌, ◌++◌, length, slice_get, slice_set, get_or, Some, refl, sym, ap, subst, ◌∙◌, inl, inr, arith, length-append, if◌then◌else◌, ◌==◌}
 use Rattle.wf_publication.proofs.Common.{both_ways, cases_lt, append-nil, length-map, none-some, slice_get_past, slice_get_within, Message, Definition, definition_eq, steps_in_turn, step_rejection, World, deliver, after_turn, happens, input_of, steps, Node, PumpProgress, AnyPart, Refines, StandInTurn, KeepHalted, KeepTurn, IsHanded, AreHanded, First, Next, none_before, keeps_turn, keeps_turn_itself, keeps_turn_twice, Answers, set_there, counted, next, NoneHalted, DeliveredExactly, begun, deliveries, rounds, to_each}
 use Rattle.wf_codec.specs.Message as message
@@ -152,7 +153,8 @@ delivered_exactly tapes = λ nodes after messages done stopped w targets some ar
 
 -- ---- no message is left
 
--- The delivery of a message that wasn't sent has no effect, and so have the deliveries of any later one.
+-- The delivery of a message that wasn't sent has no effect, and so have the deliveries of any later
+-- one.
 no_delivery : (w : World Definition) (i k : ℕ) → length w.sent ≤ k → happens definition_eq w (deliver i k) ≡ w
 unfolding happens after_turn input_of world.delivered
 no_delivery w i k unsent = ap (after_turn w i) (turn_unsent definition_eq w i (table.Deliver k) (ap world.delivered (slice_get_past w.sent k unsent)))

@@ -1,4 +1,5 @@
--- New nodes of which one asks for the next definition are new still: nothing is published, so nothing is answered.
+-- New nodes of which one asks for the next definition are new still: nothing is published, so
+-- nothing is answered.
 use Rattle.std.proofs.Common.{◌≡◌, ◌≢◌, ℕ, zero, suc, Bool, true, false, List, [], ◌∷◌, ◌++◌, map, nat_lt, slice_get, slice_set, Some, None, Result, Ok, Err, Vec, IsSome, refl, sym, ap, subst, ◌∙◌, inl, inr, arith, length}
 use Rattle.std.specs.Prelude.{⊤}
 use Rattle.wf_publication.proofs.Common.{AllByRecursion, Global, both_ways, cases_eq, false≢true, append-nil, none-some, same_Some, last_sequence, Message, Definition, DurableState, nothing_stored, published, definition_at, VolatileState, Input, Transition, most_reports, on_ask, on_catch_up, on_message, quiet, step_rejection, transition, only_sends, store, reports_from, reports_of, Node, stored_of, volatile_of, IsTransition, IsSameNode, IsStep, transition_of, NodeFault, PumpProgress, AreHanded, First, IsHanded, Next, none_before, Answers, Takes, AreFresh, IsFresh, outputs_by, get_set_other, get_set_same, set_there, NewStayNew, NoneHalted}

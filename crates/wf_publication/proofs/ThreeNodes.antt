@@ -49,7 +49,8 @@ RestsIn (Some volatile) = Rests volatile.proposing
 unfoldable pub always : Definition → Definition → Bool
 always a b = true
 
--- Node i of three new ones has proposed the definition, and then the first messages were delivered to each node, so many.
+-- Node i of three new ones has proposed the definition, and then the first messages were delivered
+-- to each node, so many.
 unfoldable pub world_at : Definition → ℕ → ℕ → World Definition
 world_at d i zero = happens always (start 3) (propose i d)
 world_at d i (suc k) = steps always (world_at d i k) (to_each three k)

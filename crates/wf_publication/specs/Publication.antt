@@ -1,5 +1,6 @@
--- Deliveries of which none is lost and at which no tape fails: exactly those of whole rounds. A proposal at one of three new nodes: all
--- three publish it. And new nodes of which one catches up: they are new still.
+-- Deliveries of which none is lost and at which no tape fails: exactly those of whole rounds. A
+-- proposal at one of three new nodes: all three publish it. And new nodes of which one catches up:
+-- they are new still.
 use Rattle.std.specs.Prelude.{◌≡◌, ◌<◌, ℕ, ⊤, Bool, false, List, [], ◌∷◌, length, slice_get, slice_set, Some, Result, Ok, Vec}
 use Rattle.std.specs.declared.alloc.Global.{Global}
 use Rattle.wf_codec.specs.declared.message.Message.{Message}
@@ -30,8 +31,8 @@ AllPublish {T} nodes d = (i : ℕ) (node : Node T) → slice_get nodes i ≡ Som
 
 -- ---- deliveries in rounds
 
--- `done` deliveries led from the world to exactly what the nodes are: those of the first messages to each of these nodes, as a pump
--- makes them.
+-- `done` deliveries led from the world to exactly what the nodes are: those of the first messages
+-- to each of these nodes, as a pump makes them.
 pub record HaveBeenDelivered {T : Type 0} (targets : List ℕ) (w : World Definition) (done : ℕ) (stopped : Bool) (after : List (Node T)) : Type 0 where
   pub come : PumpProgress
   pub part : come.some < length targets
@@ -41,17 +42,17 @@ pub record HaveBeenDelivered {T : Type 0} (targets : List ℕ) (w : World Defini
   pub ended : IsDeliveryEnd stopped come sent
 
 module _ {T : Type 0} (tapes : Tape T) where
-  -- From whatever world the nodes and the messages were, deliveries of which none was lost, and at which no tape failed, are those of
-  -- a pump to every node.
+  -- From whatever world the nodes and the messages were, deliveries of which none was lost, and at
+  -- which no tape failed, are those of a pump to every node.
   abbrev pub DeliveredExactly : Type 0
   DeliveredExactly = (nodes after : List (Node T)) (messages : List Message) (done : ℕ) (stopped : Bool) (w : World Definition) (targets : List ℕ) → 0 < length nodes → AreTargets (length nodes) [] targets →
       StandInTurn nodes → Refines AnyPart nodes messages w → AreHandedOut tapes nodes messages done 0 stopped after → NoneHalted after → HaveBeenDelivered targets w done stopped after
 
 -- ---- three new nodes
 
--- One of three new nodes proposed a definition, and its messages were delivered to all, and so were those sent in reply, until none
--- was left; no delivery was lost, and no tape failed. These were 27 deliveries, and all three nodes have published the
--- definition; the proposal has ended.
+-- One of three new nodes proposed a definition, and its messages were delivered to all, and so were
+-- those sent in reply, until none was left; no delivery was lost, and no tape failed. These were 27
+-- deliveries, and all three nodes have published the definition; the proposal has ended.
 abbrev pub PublishedOnAll : {T : Type 0} → Tape T → Type 0
 PublishedOnAll {T} tapes = (nodes after : List (Node T)) (i : ℕ) (before proposed : Node T) (d : Definition) (outputs : Vec Message Global) (done : ℕ) →
     length nodes ≡ 3 → StandInTurn nodes → AreFresh nodes → slice_get nodes i ≡ Some before → IsStep tapes before (table.Propose d) (Ok outputs) proposed →
@@ -59,8 +60,8 @@ PublishedOnAll {T} tapes = (nodes after : List (Node T)) (i : ℕ) (before propo
 
 -- ---- new nodes that catch up
 
--- One of new nodes was asked for the definition after its last one, and its messages were delivered, some of them perhaps lost; no
--- tape failed. The nodes are new still.
+-- One of new nodes was asked for the definition after its last one, and its messages were
+-- delivered, some of them perhaps lost; no tape failed. The nodes are new still.
 abbrev pub NewStayNew : {T : Type 0} → Tape T → Type 0
 NewStayNew {T} tapes = (nodes after : List (Node T)) (i : ℕ) (before asked : Node T) (answer : Result (Vec Message Global) NodeFault) (done lost : ℕ) (stopped : Bool) → AreFresh nodes →
     slice_get nodes i ≡ Some before → IsStep tapes before table.CatchUp answer asked → AreHandedOut tapes (slice_set nodes i asked) (outputs_by answer) done lost stopped after →

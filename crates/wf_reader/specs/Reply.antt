@@ -18,7 +18,8 @@ unfoldable pub AreTexts : List Definition → Type 0
 AreTexts [] = Unit {0}
 AreTexts (d ∷ definitions) = HasText d × AreTexts definitions
 
--- an answer: its distance, its published sequence, a digest of 32 bytes, and at most eight definitions
+-- an answer: its distance, its published sequence, a digest of 32 bytes, and at most eight
+-- definitions
 pub record IsAnswer (a : ReaderAnswer) : Type 0 where
   pub distance : a.distance ≤ most_distance
   pub published : IsSequence a.published

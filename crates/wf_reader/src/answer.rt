@@ -4,11 +4,12 @@ use std::marker::Model;
 use wf_ballot::Seq;
 use wf_canon::Canon;
 
-/// The greatest distance from a voter at which is answered: a voter's own is 0, and a reader's is one more than that of who answers it.
+/// The greatest distance from a voter at which is answered: a voter's own is 0, and a reader's is
+/// one more than that of who answers it.
 pub const MOST_DISTANCE: u8 = 4;
 
-/// An answer: how far from a voter it comes, what the answerer has published, and the definitions at the sequences after the reader's
-/// last one, eight at most.
+/// An answer: how far from a voter it comes, what the answerer has published, and the definitions
+/// at the sequences after the reader's last one, eight at most.
 #[derive(Drop)]
 pub struct ReaderAnswer {
     distance: u8,

@@ -25,8 +25,8 @@ pub struct Answerer {
     pub distance: u8,
 }
 
-/// The reply to a question, from a history and its digests. The only error is allocation failure, here or before, where the digests were
-/// to be extended to the history's last sequence.
+/// The reply to a question, from a history and its digests. The only error is allocation failure,
+/// here or before, where the digests were to be extended to the history's last sequence.
 pub fn reply_to(
     alloc: Global,
     own: &Answerer,
@@ -64,7 +64,8 @@ fn differ(digests: &Digests, question: &Question) -> bool
     }
 }
 
-/// The definitions at the sequences after this one, eight at most. Allocation can fail only if there are some.
+/// The definitions at the sequences after this one, eight at most. Allocation can fail only if
+/// there are some.
 #[tactic(auto, using(crate::proofs::Next::next_found))]
 fn definitions_after(alloc: Global, history: &History, seq: Seq) -> Result<Vec<Canon>, AllocError>
     ensures ok { IfOk result (λ found. found.items ≡ next_reported history.now.definitions seq) }

@@ -20,7 +20,8 @@ const VERSION_BYTES: &[u8] = &[0, 1];
 /// The number of bytes of a question after its version.
 const BODY: usize = 66;
 
-/// Appends the question's encoding. The only error is allocation failure; the bytes are then unchanged.
+/// Appends the question's encoding. The only error is allocation failure; the bytes are then
+/// unchanged.
 pub fn encode_question(question: &Question, out: &mut Vec<u8>) -> Result<(), AllocError>
     ensures question { IsQuestion question.now }
     ensures ok { OnOk result (out.new.items ≡ out.old.items ++ question_bytes question.now) }
@@ -47,7 +48,8 @@ fn put_question(out: &mut Vec<u8>, question: &Question)
     put(out, &question.digest);
 }
 
-/// The question that bytes begin with. `Short`: they may go on as one, and more are needed. Any other error stays, whatever follows.
+/// The question that bytes begin with. `Short`: they may go on as one, and more are needed. Any
+/// other error stays, whatever follows.
 #[tactic(auto, unfolding(crate::specs::Question::question_bytes), using(crate::proofs::Parts::other_question, crate::proofs::Parts::no_other_version))]
 pub fn decode_question(bytes: &[u8]) -> Result<Question, QuestionFault>
     ensures question { IfOk result IsQuestion }

@@ -26,8 +26,8 @@ use wf_learner::MOST_REPORTS;
 /// The number of bytes of an answer before its texts, without its first two.
 const ANSWER_FIELDS: usize = 34;
 
-/// The number of bytes of the reply that bytes begin with, by their first four. `Short` as long as these aren't there; `TooLong` if no
-/// reply has so many.
+/// The number of bytes of the reply that bytes begin with, by their first four. `Short` as long as
+/// these aren't there; `TooLong` if no reply has so many.
 pub fn reply_length(bytes: &[u8]) -> Result<usize, ReplyFault>
     ensures value { IfOk result (λ n. n ≡ 4 + from_be_bytes w32 (take 4 bytes.now)) }
     ensures most { IfOk result (λ n. n ≤ most_reply_bytes) }
@@ -64,8 +64,8 @@ fn stated_length(bytes: &[u8]) -> usize
     number_of(bytes.split_at(4).0) as usize
 }
 
-/// The reply that these bytes are. `Short`: they are fewer than four. An allocation can fail only for an answer; any other bytes that
-/// aren't a reply are `Malformed`.
+/// The reply that these bytes are. `Short`: they are fewer than four. An allocation can fail only
+/// for an answer; any other bytes that aren't a reply are `Malformed`.
 #[tactic(auto, using(crate::proofs::Sizes::whole_length, crate::proofs::Sizes::whole_body, crate::proofs::Sizes::whole_reply))]
 pub fn decode_reply(alloc: Global, bytes: &[u8]) -> Result<Reply, ReplyFault>
     ensures reply { IfOk result IsReply }
@@ -141,7 +141,8 @@ fn read_texts(alloc: Global, bytes: &[u8]) -> Result<Vec<Canon>, ReplyFault>
     }
 }
 
-/// Appends the definitions whose texts these bytes are, if they are no more than so many. After an error some may have been appended.
+/// Appends the definitions whose texts these bytes are, if they are no more than so many. After an
+/// error some may have been appended.
 #[tactic(auto, unfolding(crate::specs::Reply::texts_bytes, crate::specs::Reply::AreTexts))]
 fn push_texts(
     alloc: Global,
@@ -171,7 +172,8 @@ fn push_texts(
     }
 }
 
-/// A text behind its length, and the bytes after it; None if the bytes don't begin so. Whether it is canonical isn't checked.
+/// A text behind its length, and the bytes after it; None if the bytes don't begin so. Whether it
+/// is canonical isn't checked.
 #[tactic(auto, using(crate::proofs::Sizes::text_front, crate::proofs::Sizes::text_whole))]
 fn cut_text(bytes: &[u8]) -> Option<(&[u8], &[u8])>
     ensures some { IfSome result (λ x. bytes.now ≡ text_bytes x.0.now ++ x.1.now) }

@@ -12,7 +12,8 @@ use std::alloc::AllocError;
 use wf_canon::Canon;
 use wf_frame::put;
 
-/// Appends the reply's encoding. The only error is allocation failure; the bytes are then unchanged.
+/// Appends the reply's encoding. The only error is allocation failure; the bytes are then
+/// unchanged.
 #[tactic(auto, unfolding(crate::specs::Reply::reply_bytes))]
 pub fn encode_reply(reply: &Reply, out: &mut Vec<u8>) -> Result<(), AllocError>
     ensures reply { IsReply reply.now }

@@ -25,7 +25,8 @@ pub record Replies (own : Answerer) (history : List Definition) (question : Ques
   pub is_reply : IsReplyTo own history question reply
   pub written : new ≡ old ++ reply_bytes reply
 
--- Bytes begin with a question, and its reply was appended; or they begin as one of another version, and that was said.
+-- Bytes begin with a question, and its reply was appended; or they begin as one of another version,
+-- and that was said.
 abbrev pub RepliesTo : Answerer → List Definition → List ℕ → List ℕ → List ℕ → Type 0
 RepliesTo own history bytes old new =
     ((question : Question) × (rest : List ℕ) × (bytes ≡ question_bytes question ++ rest) × Replies own history question old new)

@@ -10,7 +10,8 @@ use wf_reader::{Answerer, QuestionRejection};
 use wf_sockets::{Connection, Network, SystemNetwork};
 use wf_visitors::Context;
 
-/// What the port is given of the process: who it is, its history and the digests of that, to be read only.
+/// What the port is given of the process: who it is, its history and the digests of that, to be
+/// read only.
 #[derive(Drop)]
 pub struct PortView<'a> {
     pub own: &'a Answerer,
@@ -42,7 +43,8 @@ pub struct ReadersPort<N: Network = SystemNetwork> {
 }
 
 impl<N: Network> ReadersPort<N> {
-    /// That many free slots, with the tokens from the first one on. The only error is allocation failure.
+    /// That many free slots, with the tokens from the first one on. The only error is allocation
+    /// failure.
     pub fn new(
         alloc: Global,
         count: usize,
@@ -206,7 +208,8 @@ fn is_silent_at<C: Connection + Drop>(slot: &Option<Reader<C>>, time: u64) -> bo
     }
 }
 
-/// The slot for a newcomer: the first free one, else that of the reader that has waited longest. None: there are no slots.
+/// The slot for a newcomer: the first free one, else that of the reader that has waited longest.
+/// None: there are no slots.
 fn slot_index<C: Connection + Drop>(slots: &[Option<Reader<C>>]) -> Option<usize> {
     let mut found: Option<(usize, u64)> = None;
     for (index, slot) in slots.iter().enumerate() {

@@ -15,7 +15,8 @@ const MOST_QUESTIONS: usize = 4;
 /// The most reads of a turn.
 const MOST_READS: usize = 64;
 
-/// A reader's connection: what has come of its question, what is to be written of the reply, and when it asked last.
+/// A reader's connection: what has come of its question, what is to be written of the reply, and
+/// when it asked last.
 #[derive(Drop)]
 pub(crate) struct Reader<C: Connection> {
     connection: C,

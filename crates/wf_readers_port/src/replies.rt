@@ -25,8 +25,8 @@ pub(crate) enum QuestionOutcome {
     Memory,
 }
 
-/// Replies to the question that bytes begin with. What is written is the reply that the question has by the history, if the digests are
-/// the history's.
+/// Replies to the question that bytes begin with. What is written is the reply that the question
+/// has by the history, if the digests are the history's.
 pub(crate) fn answer(
     alloc: Global,
     published: &PortView<'_>,

@@ -11,10 +11,12 @@ use std::alloc::Global;
 use wf_journal::records_are_read_one_way;
 use wf_tape::{Tape, TapeFault};
 
-/// Drops what is at this offset of a tape, at which a journal found it bad, if that was never synced: one replacement by the whole
-/// records before it, which are synced then. Returns the number of bytes dropped; none are if it is anything else, and nothing is
-/// changed. After `Device` the tape is as it was or without them, after `Memory` as it was. A crash at each moment inside the call
-/// leaves what reads as something that a crash could have left before it. A tape that won't fail still won't, and doesn't.
+/// Drops what is at this offset of a tape, at which a journal found it bad, if that was never
+/// synced: one replacement by the whole records before it, which are synced then. Returns the
+/// number of bytes dropped; none are if it is anything else, and nothing is changed. After `Device`
+/// the tape is as it was or without them, after `Memory` as it was. A crash at each moment inside
+/// the call leaves what reads as something that a crash could have left before it. A tape that
+/// won't fail still won't, and doesn't.
 #[tactic(auto, using(crate::proofs::Calls::never_there, crate::proofs::Calls::cause_on, crate::proofs::Calls::cause_on_err, wf_journal::proofs::CrashImages::same_unchanged, wf_journal::proofs::CrashImages::followed_on, wf_journal::proofs::CrashImages::unchanged_on))]
 pub fn drop_unsynced<T: Tape>(
     alloc: Global,

@@ -6,7 +6,8 @@ ghost use Rattle.wf_recovery.specs.Unsynced.{IsUnsynced, is_zero};
 use wf_canon::MOST_CANON_BYTES;
 use wf_frame::HEADER_BYTES;
 
-/// The bytes of the longest record: a vote for the longest text, behind its sequence and its ballot.
+/// The bytes of the longest record: a vote for the longest text, behind its sequence and its
+/// ballot.
 const MOST_RECORD_BYTES: usize = HEADER_BYTES + 7 + MOST_CANON_BYTES;
 
 /// Whether what is at an offset of bytes, up to their end, was never synced.

@@ -6,8 +6,8 @@ use Rattle.wf_rejoin.specs.declared.admission.FolderRejection.TheVariants as cau
 use Rattle.wf_rejoin.specs.declared.admission.GreetedFolder.{GreetedFolder}
 use Rattle.wf_rejoin.specs.declared.replacement.Replacement.{Replacement}
 
--- Where a replacement is known, it is that one's folder; else it is one that was never replaced, and
--- doesn't join.
+-- Where a replacement is known, it is that one's folder; else it is one that was never replaced,
+-- and doesn't join.
 abbrev pub IsFolderTaken : Option Replacement → GreetedFolder → Type 0
 IsFolderTaken None g = (g.joins ≡ false) × (g.replacement.count ≡ 0)
 IsFolderTaken (Some k) g = g.replacement.mark ≡ k.mark

@@ -38,7 +38,8 @@ pub record Answers (known : List (Option Replacement)) (asked : Asked) (node : �
 
 -- ---- what stands against it
 
--- in what is known: a replacement that wasn't begun, a higher count, or another folder under this one
+-- in what is known: a replacement that wasn't begun, a higher count, or another folder under this
+-- one
 abbrev pub IsObjectionTo : Option Replacement → Replacement → Objection → Type 0
 IsObjectionTo known r objections.NotBegun = r.count ≡ 0
 IsObjectionTo known r (objections.Superseded k) = (known ≡ Some k) × (r.count < k.count)

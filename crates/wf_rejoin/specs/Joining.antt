@@ -80,8 +80,8 @@ pub record IsOpenTo (j : Joining) (i : ℕ) : Type 0 where
   pub member : i < j.nodes
   pub first : stage_of j i ≡ Unasked
 
--- A node's agreement counts: it agrees to just this replacement, for the first time, and half of all
--- nodes haven't yet.
+-- A node's agreement counts: it agrees to just this replacement, for the first time, and half of
+-- all nodes haven't yet.
 pub record AgreementCounts (j : Joining) (i : ℕ) (r : Replacement) : Type 0 where
   pub open_to : IsOpenTo j i
   pub same : r ≡ j.replacement

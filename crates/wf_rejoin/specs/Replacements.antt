@@ -1,5 +1,5 @@
--- What a node knows of the replacements of each number, that of node i at index i; and which folders
--- it takes for a node's.
+-- What a node knows of the replacements of each number, that of node i at index i; and which
+-- folders it takes for a node's.
 use Rattle.std.specs.Prelude.{◌≡◌, ◌≢◌, ℕ, ◌<◌, ◌⊎◌, List, Option, Some, None, count_by, is_some, slice_index_or}
 use Rattle.wf_rejoin.specs.declared.replacement.Replacement.{Replacement}
 

@@ -1,5 +1,5 @@
--- The text of the file `replaced`: what a node knows of replacements. Numbers have eight hexadecimal
--- digits.
+-- The text of the file `replaced`: what a node knows of replacements. Numbers have eight
+-- hexadecimal digits.
 use Rattle.std.specs.Prelude.{◌≡◌, ℕ, ◌<◌, ◌^◌, List, ◌++◌, codes, length, Option, Some, None}
 use Rattle.hex.specs.Hex.{IsBytes}
 use Rattle.wf_folder.specs.Words.{mark_then, number_then}

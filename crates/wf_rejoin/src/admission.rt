@@ -11,14 +11,15 @@ use wf_ballot::NodeId;
 /// What a peer's greeting says of its own folder.
 #[derive(Clone, Copy, Debug, PartialEq, Eq)]
 pub struct GreetedFolder {
-    /// The folder's mark, and the count under which it took a lost folder's place, or joins; 0 if under none.
+    /// The folder's mark, and the count under which it took a lost folder's place, or joins; 0 if
+    /// under none.
     pub replacement: Replacement,
     /// Whether it joins.
     pub joins: bool,
 }
 
-/// Why a folder isn't taken for a node's. None of these suspends a node but the last, and that only where a peer tells it of the
-/// replacement.
+/// Why a folder isn't taken for a node's. None of these suspends a node but the last, and that only
+/// where a peer tells it of the replacement.
 #[derive(Clone, Copy, Debug, PartialEq, Eq)]
 pub enum FolderRejection {
     /// It joins, and no operator has begun its replacement.
@@ -30,8 +31,8 @@ pub enum FolderRejection {
 }
 
 impl Replacements {
-    /// Whether a peer's folder is taken for that of this node, or why not. Where no replacement of the node is known, what was heard of
-    /// it decides further.
+    /// Whether a peer's folder is taken for that of this node, or why not. Where no replacement of
+    /// the node is known, what was heard of it decides further.
     pub fn admit(&self, node: NodeId, greeted: &GreetedFolder) -> Result<(), FolderRejection>
         ensures taken { IsOk result ↔ IsFolderTaken (latest_of self.now node) greeted.now }
         ensures cause { IfErr result (IsFolderCause (latest_of self.now node) greeted.now) }

@@ -8,7 +8,8 @@ use crate::replacements::Replacements;
 use std::fmt;
 use wf_ballot::NodeId;
 
-/// For how many milliseconds a node has to have run, and heard nothing of the node that is replaced, before it agrees.
+/// For how many milliseconds a node has to have run, and heard nothing of the node that is
+/// replaced, before it agrees.
 pub const QUIET_TIME: u64 = 10_000;
 
 /// What keeps a node from voting.
@@ -33,7 +34,8 @@ pub struct Asked {
     pub hindrance: Option<Hindrance>,
     /// For how many milliseconds its process has run.
     pub running: u64,
-    /// How many milliseconds ago it last heard the node that is to be replaced; None if its process never did.
+    /// How many milliseconds ago it last heard the node that is to be replaced; None if its process
+    /// never did.
     pub silence: Option<u64>,
 }
 
@@ -57,7 +59,8 @@ pub enum Objection {
 }
 
 impl Replacements {
-    /// Whether an asked node agrees to this replacement of a node, or what stands against it. `force` is for the two times alone.
+    /// Whether an asked node agrees to this replacement of a node, or what stands against it.
+    /// `force` is for the two times alone.
     pub fn would_agree(
         &self,
         asked: &Asked,
@@ -83,8 +86,9 @@ impl Replacements {
         }
     }
 
-    /// Once an asked node agrees to this replacement of a node: the replacements that it knows of then. They are to be written, and its
-    /// peers' connections closed, before it says so. Err: what stands against it.
+    /// Once an asked node agrees to this replacement of a node: the replacements that it knows of
+    /// then. They are to be written, and its peers' connections closed, before it says so. Err:
+    /// what stands against it.
     pub fn agree(
         &self,
         asked: &Asked,

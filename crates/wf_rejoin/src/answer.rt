@@ -9,12 +9,14 @@ use wf_ballot::Seq;
 pub struct Answer {
     /// The last one that it had published.
     pub published: u16,
-    /// The highest one at which it stored a vote; 0 if it stored none. It may be another one than that of its vote at the highest ballot.
+    /// The highest one at which it stored a vote; 0 if it stored none. It may be another one than
+    /// that of its vote at the highest ballot.
     pub voted: u16,
 }
 
 impl Answer {
-    /// The answer of a node that has published so far, and whose highest sequence with a vote is this one; 0 if it has none.
+    /// The answer of a node that has published so far, and whose highest sequence with a vote is
+    /// this one; 0 if it has none.
     pub fn new(published: Seq, voted: Seq) -> Answer
         ensures published { result.published ≡ published }
         ensures voted { result.voted ≡ voted }

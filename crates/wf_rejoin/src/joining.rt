@@ -30,7 +30,8 @@ pub struct Joining {
     pub node: NodeId,
     /// The number of the farm's nodes, 1 to 64.
     pub nodes: u8,
-    /// The folder's mark, and the count under which the others are asked; 0 until an operator begins.
+    /// The folder's mark, and the count under which the others are asked; 0 until an operator
+    /// begins.
     pub replacement: Replacement,
     /// What it has of each node that a farm may have, in the order of the nodes.
     pub stages: [Stage; 64],
@@ -57,8 +58,8 @@ impl Joining {
         }
     }
 
-    /// Once an operator has begun a replacement by this folder with a higher count than before: whoever agreed before has to agree
-    /// again. None: the count isn't higher.
+    /// Once an operator has begun a replacement by this folder with a higher count than before:
+    /// whoever agreed before has to agree again. None: the count isn't higher.
     pub fn begin(&self, count: u32) -> Option<Joining>
         requires { IsJoining self.now }
         ensures value { SomeIff result (self.now.replacement.count < count) (begun self.now count) }
@@ -75,7 +76,8 @@ impl Joining {
         })
     }
 
-    /// Once a node has said that it agreed to this replacement of the node. None: that doesn't count, and changes nothing.
+    /// Once a node has said that it agreed to this replacement of the node. None: that doesn't
+    /// count, and changes nothing.
     pub fn agree(&self, node: NodeId, replacement: &Replacement) -> Option<Joining>
         requires { IsJoining self.now }
         ensures value { SomeIff result (AgreementCounts self.now node replacement.now) (with_stage self.now node Agreed) }
@@ -88,7 +90,8 @@ impl Joining {
         }
     }
 
-    /// Once a node has answered the folder of this replacement how far it is. None: that doesn't count, and changes nothing.
+    /// Once a node has answered the folder of this replacement how far it is. None: that doesn't
+    /// count, and changes nothing.
     pub fn answer(&self, node: NodeId, replacement: &Replacement, answer: Answer) -> Option<Joining>
         requires { IsJoining self.now }
         ensures value { SomeIff result (AnswerCounts self.now node replacement.now) (with_stage self.now node (Answered answer)) }
@@ -109,7 +112,8 @@ impl Joining {
         self.stages[node.number() as usize]
     }
 
-    /// Whether at least half of all nodes have agreed, so that these are to be asked how far they are.
+    /// Whether at least half of all nodes have agreed, so that these are to be asked how far they
+    /// are.
     pub fn has_half(&self) -> bool
         requires { IsJoining self.now }
         ensures { IsTrue result ↔ HasHalf self.now }
@@ -133,8 +137,8 @@ impl Joining {
         count
     }
 
-    /// The highest sequence at which any of the nodes that were asked had published or voted, m. None: half of all haven't agreed, or one of
-    /// these hasn't answered.
+    /// The highest sequence at which any of the nodes that were asked had published or voted, m.
+    /// None: half of all haven't agreed, or one of these hasn't answered.
     pub fn highest(&self) -> Option<u16>
         requires { IsJoining self.now }
         ensures { SomeIff result (HasHalf self.now × AllAnswered self.now) (highest_answer self.now) }
@@ -146,8 +150,8 @@ impl Joining {
         }
     }
 
-    /// Whether the folder may vote, with this last published sequence: m is known, and it has all definitions up to four after m, or all
-    /// that there can be. Its file `joins` has to say so.
+    /// Whether the folder may vote, with this last published sequence: m is known, and it has all
+    /// definitions up to four after m, or all that there can be. Its file `joins` has to say so.
     pub fn may_vote(&self, published: Seq) -> bool
         requires { IsJoining self.now }
         ensures { IsTrue result ↔ MayVote self.now published }
@@ -158,8 +162,8 @@ impl Joining {
         }
     }
 
-    /// Whether the folder may answer clients, with this last published sequence: m is known, and it has m maps, no fewer than its
-    /// predecessor served.
+    /// Whether the folder may answer clients, with this last published sequence: m is known, and it
+    /// has m maps, no fewer than its predecessor served.
     pub fn may_serve(&self, published: Seq) -> bool
         requires { IsJoining self.now }
         ensures { IsTrue result ↔ MayServe self.now published }
@@ -262,7 +266,8 @@ fn answer_of(joining: &Joining, index: usize) -> u16
     }
 }
 
-/// Whether a node that has published so far has all definitions up to a window after m, or all that there can be.
+/// Whether a node that has published so far has all definitions up to a window after m, or all that
+/// there can be.
 fn has_window_after(highest: u16, published: Seq) -> bool
     ensures { IsTrue result ↔ HasWindowAfter highest published }
 {

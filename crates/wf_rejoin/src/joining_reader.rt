@@ -25,7 +25,8 @@ impl Joining {
     ghost use Rattle.wf_rejoin.specs.JoiningText.{IsJoins, joins_text};
     ghost use Rattle.wf_rejoin.specs.declared.joining.Joining.{Joining as JoiningValue};
 
-    /// What the folder was told, by the text of its file. Err: the bytes aren't the text of any, and the first line at which they aren't.
+    /// What the folder was told, by the text of its file. Err: the bytes aren't the text of any,
+    /// and the first line at which they aren't.
     #[tactic(auto, using(crate::proofs::Stages::is_text, crate::proofs::Stages::are_joins, crate::proofs::Stages::only_this, crate::proofs::Stages::none_such, crate::proofs::Stages::no_own))]
     pub fn read(bytes: &[u8]) -> Result<Joining, JoiningFault>
         ensures joins { IfOk result IsJoins }

@@ -26,8 +26,9 @@ impl Joining {
     ghost use Rattle.wf_rejoin.specs.Joining.{IsJoining};
     ghost use Rattle.wf_rejoin.specs.JoiningText.{IsJoins, joins_text};
 
-    /// The text of its file `joins`: a line of the folder itself, and then one for each of 64 nodes, in their order. Numbers are in
-    /// hexadecimal digits. The only error is allocation failure.
+    /// The text of its file `joins`: a line of the folder itself, and then one for each of 64
+    /// nodes, in their order. Numbers are in hexadecimal digits. The only error is allocation
+    /// failure.
     ///
     /// ```text
     /// wfarm joins 1

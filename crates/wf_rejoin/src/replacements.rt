@@ -5,7 +5,8 @@ use crate::replacement::Replacement;
 use std::marker::Model;
 use wf_ballot::NodeId;
 
-/// The latest replacement of each node that a farm may have, in the order of the nodes; none of one that was never replaced.
+/// The latest replacement of each node that a farm may have, in the order of the nodes; none of one
+/// that was never replaced.
 #[derive(Clone, Copy, Debug, PartialEq, Eq)]
 pub struct Replacements {
     pub(crate) nodes: [Option<Replacement>; 64],
@@ -41,7 +42,8 @@ impl Replacements {
         Replacements { nodes }
     }
 
-    /// The latest replacement of each of 64 nodes, in their order; None of one of which none is known.
+    /// The latest replacement of each of 64 nodes, in their order; None of one of which none is
+    /// known.
     pub fn nodes(&self) -> &[Option<Replacement>]
         ensures value { result.now ≡ self.now }
         ensures all { length result.now ≡ 64 }
@@ -83,8 +85,9 @@ impl Replacements {
         Replacements { nodes }
     }
 
-    /// Once a peer's greeting has said this of a node: the replacements that are known then, which are to be written before any
-    /// connection goes on. None: it is nothing new, or the peer says it of itself, which nobody believes.
+    /// Once a peer's greeting has said this of a node: the replacements that are known then, which
+    /// are to be written before any connection goes on. None: it is nothing new, or the peer says
+    /// it of itself, which nobody believes.
     pub fn learn(
         &self,
         peer: NodeId,
@@ -101,8 +104,8 @@ impl Replacements {
         }
     }
 
-    /// Whether the node has agreed to this replacement, or was told of it: it takes no other folder for the node's. It may say so once
-    /// this was written.
+    /// Whether the node has agreed to this replacement, or was told of it: it takes no other folder
+    /// for the node's. It may say so once this was written.
     pub fn has_agreed(&self, node: NodeId, replacement: &Replacement) -> bool
         ensures { IsTrue result ↔ (latest_of self.now node ≡ Some replacement.now) }
     {
@@ -112,8 +115,8 @@ impl Replacements {
         }
     }
 
-    /// What an asked node answers to the folder of this replacement, once half of all nodes have agreed to it: how far it is now. None: it
-    /// doesn't vote, or hasn't agreed to it.
+    /// What an asked node answers to the folder of this replacement, once half of all nodes have
+    /// agreed to it: how far it is now. None: it doesn't vote, or hasn't agreed to it.
     pub fn answer(
         &self,
         asked: &Asked,

@@ -19,7 +19,8 @@ impl Replacements {
     ghost use Rattle.wf_rejoin.specs.ReplacementsText.{IsEntry, replaced_text};
     ghost use Rattle.wf_rejoin.specs.declared.replacement.Replacement.{Replacement as ReplacementValue};
 
-    /// What a node knows, by its text. Err: the bytes aren't the text of any, and the first line at which they aren't.
+    /// What a node knows, by its text. Err: the bytes aren't the text of any, and the first line at
+    /// which they aren't.
     pub fn read(bytes: &[u8]) -> Result<Replacements, ReplacementsFault>
         ensures known { IfOk result (λ known. (length known ≡ 64) × AreAll IsEntry known) }
         ensures text { IfOk result (λ known. bytes.now ≡ replaced_text known) }

@@ -19,7 +19,8 @@ impl Replacements {
     ghost use Rattle.wf_rejoin.specs.Lines.{AreAll};
     ghost use Rattle.wf_rejoin.specs.ReplacementsText.{IsEntry, replaced_text};
 
-    /// Their text: a line for each of 64 nodes, in their order. Numbers are in hexadecimal digits. The only error is allocation failure.
+    /// Their text: a line for each of 64 nodes, in their order. Numbers are in hexadecimal digits.
+    /// The only error is allocation failure.
     ///
     /// ```text
     /// wfarm replaced 1

@@ -15,9 +15,9 @@
 //! old process has ended, and never starts again, is up to the operator.
 //!
 //! **Promises.** What a greeting says is about what its node had stored ([`greetings_answer`]). A
-//! process with such a folder may rejoin ([`joined_folders_may_rejoin`]), so where each process that
-//! is replaced has joined so, there is one history, and no process loses a published definition
-//! ([`joined_timelines_agree`]).
+//! process with such a folder may rejoin ([`joined_folders_may_rejoin`]), so where each process
+//! that is replaced has joined so, there is one history, and no process loses a published
+//! definition ([`joined_timelines_agree`]).
 #![tactic(auto)]
 
 ghost use Rattle.wf_rejoin_guard.specs.Joined.{GreetingsAnswer, JoinedListsGrow, JoinedMayRejoin, JoinedOneHistory};
@@ -27,8 +27,8 @@ use wf_rejoin::{answers_are_bounds, voters_are_guarded};
 use wf_replacement::{published_lists_grow, timelines_agree};
 use wf_tape::Tape;
 
-/// An answer that is taken from a greeting that is true to a node's stored state is about that state: it has published no more, and
-/// has no vote after it. A theorem: the call does nothing.
+/// An answer that is taken from a greeting that is true to a node's stored state is about that
+/// state: it has published no more, and has no vote after it. A theorem: the call does nothing.
 #[tactic(auto, using(crate::proofs::Guard::about))]
 pub fn greetings_answer()
     ensures { GreetingsAnswer }
@@ -42,8 +42,9 @@ pub fn joined_folders_may_rejoin<T: Tape>()
     answers_are_bounds::<Canon>();
 }
 
-/// Where each process that is replaced has joined, there is one history, of which each list that a process ever published is a
-/// beginning, and no process loses a published definition. A theorem: the call does nothing.
+/// Where each process that is replaced has joined, there is one history, of which each list that a
+/// process ever published is a beginning, and no process loses a published definition. A theorem:
+/// the call does nothing.
 pub fn joined_timelines_agree<T: Tape>()
     ensures history { JoinedOneHistory T.Tape }
     ensures grows { JoinedListsGrow T.Tape }

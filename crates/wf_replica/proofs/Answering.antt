@@ -15,7 +15,8 @@ use Rattle.wf_replica.specs.LearnedList.{numbered}
 use Rattle.wf_replica.specs.declared.follower.Follower.{Follower}
 use Rattle.wf_tape.specs.declared.tape.Tape.{Ghosts as Tape}
 
--- an answer's own digest at its last sequence is another one than that of the list with its definitions
+-- an answer's own digest at its last sequence is another one than that of the list with its
+-- definitions
 pub other_history : (list : List Definition) (a : ReaderAnswer) (digest : List ℕ) → a.published ≤ length list →
     (a.published ≤ length (list ++ a.definitions) → ◌≡◌ {A = Option (List ℕ)} (Some digest) (Some (digest_at (list ++ a.definitions) a.published))) →
     a.published ≤ length (list ++ a.definitions) → digest ≢ a.digest → IsOtherHistory list a

@@ -24,25 +24,29 @@ pub record IsQuestionOf (list : List Definition) (q : Question) : Type 0 where
 abbrev pub next_count : ℕ → ℕ → ℕ
 next_count s last = min most_reports (last - s)
 
--- The answer fits the question of a replica with this list: it has as many definitions as there have to be by its published sequence; and
--- the list with these has its digest at that sequence, unless that is further on.
+-- The answer fits the question of a replica with this list: it has as many definitions as there
+-- have to be by its published sequence; and the list with these has its digest at that sequence,
+-- unless that is further on.
 pub record FitsQuestion (list : List Definition) (q : Question) (a : ReaderAnswer) : Type 0 where
   pub asked : IsQuestionOf list q
   pub count : length a.definitions ≡ next_count (length list) a.published
   pub digest : a.published ≤ length (list ++ a.definitions) → a.digest ≡ digest_at (list ++ a.definitions) a.published
 
--- The answerer is of another history: at its last sequence, which a replica with this list has published too, its digest is another one.
+-- The answerer is of another history: at its last sequence, which a replica with this list has
+-- published too, its digest is another one.
 pub record IsOtherHistory (list : List Definition) (a : ReaderAnswer) : Type 0 where
   pub both : a.published ≤ length list
   pub differ : a.digest ≢ digest_at list a.published
 
--- An allocation failed: the list is as it was, or goes on by some of the definitions of an answer that fits, from the first on.
+-- An allocation failed: the list is as it was, or goes on by some of the definitions of an answer
+-- that fits, from the first on.
 pub record IsLearnedInPart (list : List Definition) (q : Question) (a : ReaderAnswer) (new : List Definition) : Type 0 where
   pub fits : FitsQuestion list q a
   pub count : ℕ
   pub goes_on : new ≡ list ++ take count a.definitions
 
--- What an answer leaves of a list: one that fits is taken whole, up to the last sequence; any other changes nothing.
+-- What an answer leaves of a list: one that fits is taken whole, up to the last sequence; any other
+-- changes nothing.
 abbrev pub AnswerLeaves : List Definition → Question → ReaderAnswer → Result (Unit {0}) AnswerFault → List Definition → Type 0
 AnswerLeaves list q a (Ok done) new = FitsQuestion list q a × (new ≡ take last_sequence (list ++ a.definitions))
 AnswerLeaves list q a (Err (faults.Misfit why)) new = (¬ (FitsQuestion list q a)) × (new ≡ list)

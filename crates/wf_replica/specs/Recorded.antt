@@ -42,8 +42,8 @@ abbrev pub AreLearned : Bool → List (Record Definition) → List Definition �
 AreLearned true records list = records ≡ published_from 1 list
 AreLearned false records list = (other : List Definition) → records ≡ published_from 1 other → ⊥
 
--- What came of a tape with these records: their maps were learned; or they are none of maps, one after the other, and the tape
--- began anew, or failed.
+-- What came of a tape with these records: their maps were learned; or they are none of maps, one
+-- after the other, and the tape began anew, or failed.
 abbrev pub IsRecordedStart : FoundTape → List (Record Definition) → List Definition → Type 0
 IsRecordedStart found.Published records list = AreLearned true records list
 IsRecordedStart found.Damaged records list = AreLearned false records list × (list ≡ [])
@@ -55,12 +55,13 @@ IsBegunAnew found.Published list = ⊥
 IsBegunAnew found.Damaged list = list ≡ []
 IsBegunAnew found.Failed list = list ≡ []
 
--- These bytes of a tape aren't those of any maps, one after the other, with nothing or a torn record behind them.
+-- These bytes of a tape aren't those of any maps, one after the other, with nothing or a torn
+-- record behind them.
 abbrev pub HasNoMaps : List ℕ → Type 0
 HasNoMaps bytes = (list : List Definition) (rest : List ℕ) → IsTapeOf bytes (published_from 1 list) rest → ⊥
 
--- What a replica begins with, by the bytes of its tape: all maps that are there, in their order. It begins the tape anew only where the
--- tape has no maps, or something else.
+-- What a replica begins with, by the bytes of its tape: all maps that are there, in their order. It
+-- begins the tape anew only where the tape has no maps, or something else.
 abbrev pub IsFoundOn : List ℕ → FoundTape → List Definition → Type 0
 IsFoundOn bytes found.Published list = (rest : List ℕ) × IsTapeOf bytes (published_from 1 list) rest
 IsFoundOn bytes found.Damaged list = HasNoMaps bytes × (list ≡ [])

@@ -1,4 +1,5 @@
--- What a replica responds to a request: from its published maps, as a node does, but for its status; and it publishes nothing.
+-- What a replica responds to a request: from its published maps, as a node does, but for its
+-- status; and it publishes nothing.
 use Rattle.std.specs.Prelude.{◌≡◌, ℕ, List, ◌++◌, codes, decimal, length, Some, Result, Ok, Err}
 use Rattle.wf_client.specs.ResponseBuffer.{Outgoing}
 use Rattle.wf_def.specs.Definition.{Definition}
@@ -50,8 +51,8 @@ pub record AsksToPublish (input : List ℕ) : Type 0 where
   pub bytes : ℕ
   pub asks : resolved head ≡ Ok (asked.Publish bytes)
 
--- What is written for an input: the answer to the request that it begins with; of a publish that it isn't there, once its head has come;
--- or the rejection of what isn't a request.
+-- What is written for an input: the answer to the request that it begins with; of a publish that it
+-- isn't there, once its head has come; or the rejection of what isn't a request.
 pub data IsServed (input : List ℕ) (history : List Definition) (old new : List ℕ) (completion : Outcome) : Type 0 where
   OfRequest : (request : Request) → BeginsWith input request → IsAnswered request history old new completion → IsServed input history old new completion
   OfPublish : AsksToPublish input → IsCompleted (response_of publish_answer) (Some old) (Some new) completion → IsServed input history old new completion

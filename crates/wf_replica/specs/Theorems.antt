@@ -17,20 +17,24 @@ use Rattle.wf_wms.specs.Answer.{AnswerValue, IsAnswerOf}
 use Rattle.wf_replica.specs.Fit.{FitsQuestion, IsQuestionOf}
 use Rattle.wf_replica.specs.LearnedList.{learned, numbered}
 
--- What an answer at a readers' port says is what a node answers when it is asked for the next definition.
+-- What an answer at a readers' port says is what a node answers when it is asked for the next
+-- definition.
 abbrev pub AnswersReport : Type 0
 AnswersReport = (source : List Definition) (published : ℕ) → numbered (suc published) (next_reported source published) ≡ reports_from source (suc published) most_reports
 
--- What a source answers to a replica's question fits it, if one of the two lists is a beginning of the other: nothing sound is rejected.
+-- What a source answers to a replica's question fits it, if one of the two lists is a beginning of
+-- the other: nothing sound is rejected.
 abbrev pub SoundAnswersFit : Type 0
 SoundAnswersFit = (own : Answerer) (list source : List Definition) (q : Question) (a : ReaderAnswer) → IsBeginning list source ⊎ IsBeginning source list →
     IsQuestionOf list q → IsAnswerTo own source q a → FitsQuestion list q a
 
--- A replica never goes back: what it has learned at one moment is a beginning of what it has learned at each later one.
+-- A replica never goes back: what it has learned at one moment is a beginning of what it has
+-- learned at each later one.
 abbrev pub NeverGoesBack : Type 0
 NeverGoesBack = (received : List (Message Definition)) (k l : ℕ) → k ≤ l → IsBeginning (learned [] (take k received)) (learned [] (take l received))
 
--- the message is one by which a list of a node of the farm, or of a replica of it, answered a question
+-- the message is one by which a list of a node of the farm, or of a replica of it, answered a
+-- question
 pub record IsToldByFarm {T : Type 0} (n : ℕ) (careers : ℕ → Career T) (m : Message Definition) : Type 0 where
   pub source : List Definition
   pub served : IsListOfFarm n careers source
@@ -40,7 +44,8 @@ pub record IsToldByFarm {T : Type 0} (n : ℕ) (careers : ℕ → Career T) (m :
 abbrev pub AreReported : {T : Type 0} → ℕ → (ℕ → Career T) → List (Message Definition) → Type 0
 AreReported n careers received = (m : Message Definition) → IsIn m received → IsToldByFarm n careers m
 
--- So what a replica has learned at any moment is one of the lists of which `wf_career` says that all are beginnings of one history.
+-- So what a replica has learned at any moment is one of the lists of which `wf_career` says that
+-- all are beginnings of one history.
 abbrev pub LearnedAreServed : Type 0 → Type 0
 LearnedAreServed T = (n : ℕ) (careers : ℕ → Career T) (received : List (Message Definition)) → AreReported n careers received → (k : ℕ) → IsListOfFarm n careers (learned [] (take k received))
 

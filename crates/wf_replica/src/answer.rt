@@ -18,15 +18,17 @@ use wf_reader::{Question, ReaderAnswer};
 use wf_tape::Tape;
 
 impl<T: Tape + Drop> Follower<T> {
-    /// Takes an answer to a question: learns its definitions, if it fits. Err: why it isn't taken. Then nothing has changed, unless an
-    /// allocation failed, now or when the digests were extended.
+    /// Takes an answer to a question: learns its definitions, if it fits. Err: why it isn't taken.
+    /// Then nothing has changed, unless an allocation failed, now or when the digests were
+    /// extended.
     pub fn take_answer(
         &mut self,
         alloc: Global,
         question: &Question,
         answer: &ReaderAnswer,
     ) -> Result<(), AnswerFault>
-        // Nothing of an answer is published that doesn't fit the question; all of one that fits is, as far as memory allows.
+        // Nothing of an answer is published that doesn't fit the question; all of one that fits is,
+        // as far as memory allows.
         ensures leaves { AnswerLeaves (list_of self.old) question.now answer.now result (list_of self.new) }
         ensures answers { answers_of self.new ≡ answers_of self.old ++ (answer.now, question.now) ∷ [] }
         ensures differs { IsFoundDifferent result → IsOtherHistory (list_of self.old) answer.now }
@@ -110,7 +112,8 @@ impl<T: Tape + Drop> Follower<T> {
         *own == question.digest
     }
 
-    /// The digest of its list with an answer's definitions, at the answerer's last sequence. None: that is further on.
+    /// The digest of its list with an answer's definitions, at the answerer's last sequence. None:
+    /// that is further on.
     #[tactic(auto, using(crate::proofs::Digested::digest_within, crate::proofs::Digested::digest_to_end))]
     fn digest_with(&self, question: &Question, answer: &ReaderAnswer) -> Option<[u8; 32]>
         requires asked { IsQuestionOf (list_of self.now) question.now }
@@ -145,7 +148,8 @@ fn misfit_of(question: &Question, answer: &ReaderAnswer) -> Misfit
     }
 }
 
-/// How many definitions one who has published up to a last sequence sends of those after another one.
+/// How many definitions one who has published up to a last sequence sends of those after another
+/// one.
 fn next_count(published: Seq, last: Seq) -> usize
     ensures { result ≡ next_count published last }
 {

@@ -14,7 +14,8 @@ const KIND_LINE: &[u8] = b"kind replica\n";
 /// What the last line begins with.
 const FARM_WORD: &[u8] = b"farm ";
 
-/// The text of the file `farm` of a replica of this farm, three lines in ASCII. The only error is allocation failure.
+/// The text of the file `farm` of a replica of this farm, three lines in ASCII. The only error is
+/// allocation failure.
 ///
 /// ```text
 /// wfarm folder 1

@@ -12,9 +12,10 @@ use wf_past::Past;
 use wf_reader::{Question, ReaderAnswer};
 use wf_tape::Tape;
 
-/// A replica: the maps that it has learned, the digests of them, and its tape, unless that has failed. A clause sees two logs that only
-/// proofs read: each message that it heard, and each answer that it was given, with its question. A durable tape has exactly the
-/// records of the maps, in their order.
+/// A replica: the maps that it has learned, the digests of them, and its tape, unless that has
+/// failed. A clause sees two logs that only proofs read: each message that it heard, and each
+/// answer that it was given, with its question. A durable tape has exactly the records of the maps,
+/// in their order.
 #[derive(Drop)]
 pub struct Follower<T: Tape> {
     pub(crate) shelf: Shelf,

@@ -29,7 +29,8 @@ use wf_tape::Tape;
 use wf_wms::Cache;
 
 impl<T: Tape + Drop> Follower<T> {
-    /// A replica that has learned nothing, without a tape, with room for so many pictures. The only error is allocation failure.
+    /// A replica that has learned nothing, without a tape, with room for so many pictures. The only
+    /// error is allocation failure.
     #[tactic(auto, using(crate::proofs::Recorded::recorded_bare), unfolding(crate::specs::LearnedList::learned))]
     pub(crate) fn new(alloc: Global, pictures: usize) -> Result<Self, AllocError>
         requires least { 1 ≤ pictures }
@@ -55,7 +56,8 @@ impl<T: Tape + Drop> Follower<T> {
         self.shelf.history()
     }
 
-    /// The pictures that are cached, those of the published maps, with their counts. They can only be read.
+    /// The pictures that are cached, those of the published maps, with their counts. They can only
+    /// be read.
     pub fn cache(&self) -> &Cache
         ensures { AllCached (list_of self.now) result.now }
     {
@@ -83,7 +85,8 @@ impl<T: Tape + Drop> Follower<T> {
         self.tape.is_some()
     }
 
-    /// What it has learned is what it heard, and its tape has the records of that, always. The call does nothing.
+    /// What it has learned is what it heard, and its tape has the records of that, always. The call
+    /// does nothing.
     pub fn always_learned(&self)
         ensures learned { learned [] (received_by self.now) ≡ list_of self.now }
         ensures recorded { IsRecorded T.Tape self.now.tape (list_of self.now) }
@@ -91,7 +94,8 @@ impl<T: Tape + Drop> Follower<T> {
         let _ = &self.received;
     }
 
-    /// The question for what is published next. None: an allocation failed before, and the digests lack the last sequences.
+    /// The question for what is published next. None: an allocation failed before, and the digests
+    /// lack the last sequences.
     pub fn question(&self, farm: FarmName) -> Option<Question>
         ensures farm { IfSome result (λ q. q.farm ≡ farm) }
         ensures question { IfSome result (IsQuestionOf (list_of self.now)) }
@@ -108,9 +112,10 @@ impl<T: Tape + Drop> Follower<T> {
         }
     }
 
-    /// Learns definitions that are chosen for the next sequences, in their order, and writes them on its tape, which is synced before they
-    /// are published. The only error is allocation failure: some of them, from the first on, may have been learned. Once the last
-    /// sequence is published nothing more is learned. Where the tape fails the replica goes on without it.
+    /// Learns definitions that are chosen for the next sequences, in their order, and writes them
+    /// on its tape, which is synced before they are published. The only error is allocation
+    /// failure: some of them, from the first on, may have been learned. Once the last sequence is
+    /// published nothing more is learned. Where the tape fails the replica goes on without it.
     #[tactic(auto, using(crate::proofs::Recorded::recorded_still))]
     pub(crate) fn learn(&mut self, alloc: Global, definitions: &[Canon]) -> Result<(), AllocError>
         ensures learns { (k : ℕ) × Learns k self.old self.new definitions.now }
@@ -143,8 +148,8 @@ impl<T: Tape + Drop> Follower<T> {
         }
     }
 
-    /// Learns the definition of the next sequence, and appends it to its tape. An allocation failure changes nothing: the tape gets the
-    /// record only once the map is learned.
+    /// Learns the definition of the next sequence, and appends it to its tape. An allocation
+    /// failure changes nothing: the tape gets the record only once the map is learned.
     #[tactic(auto, using(crate::proofs::Recorded::recorded_bare, crate::proofs::Recorded::recorded_more, crate::proofs::Recorded::recorded_same))]
     fn learn_at(&mut self, alloc: Global, slot: Slot, definition: &Canon) -> Result<(), AllocError>
         requires { slot ≡ next_of (list_of self.old) }

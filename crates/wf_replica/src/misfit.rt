@@ -11,7 +11,8 @@ pub enum Misfit {
     Count,
     /// Its digest isn't that of the replica's list with its definitions.
     Digest,
-    /// The histories differ at this sequence, the answerer's last, which the replica has published too.
+    /// The histories differ at this sequence, the answerer's last, which the replica has published
+    /// too.
     OtherHistory(Seq),
 }
 

@@ -20,7 +20,8 @@ const PLAIN: &str = "text/plain";
 /// More bytes than the line has.
 const MOST_LINE: usize = 64;
 
-/// Writes the page of the status: the sequence of the last published map. Allocates nothing but the bytes that are written.
+/// Writes the page of the status: the sequence of the last published map. Allocates nothing but the
+/// bytes that are written.
 pub(crate) fn write_status(outgoing: &mut Outgoing, published: Seq) -> Outcome
     ensures { IsCompleted (status_page published) (Some outgoing.old.bytes) (Some outgoing.new.bytes) result }
 {

@@ -11,10 +11,12 @@ pub const REST_MILLIS: u64 = 50;
 /// The time in which a source answers, in milliseconds. After it the next one is asked.
 pub const SILENCE_MILLIS: u64 = 2_000;
 
-/// For how long one source is asked that brings nothing, in milliseconds: one that is cut off from the farm would go on so.
+/// For how long one source is asked that brings nothing, in milliseconds: one that is cut off from
+/// the farm would go on so.
 pub const TURN_MILLIS: u64 = 1_000;
 
-/// Which of its sources a replica asks, and when. Moments are milliseconds of a clock that never goes back.
+/// Which of its sources a replica asks, and when. Moments are milliseconds of a clock that never
+/// goes back.
 #[derive(Clone, Copy, Debug, PartialEq, Eq)]
 pub struct Asking {
     /// The number of its sources, at least one.
@@ -69,8 +71,9 @@ impl Asking {
         }
     }
 
-    /// The question was answered. If that brought something, the next one is due at once, else after a rest; a source that has brought
-    /// nothing for too long isn't asked again before the others.
+    /// The question was answered. If that brought something, the next one is due at once, else
+    /// after a rest; a source that has brought nothing for too long isn't asked again before the
+    /// others.
     pub fn answer(&mut self, brings: bool, now: u64)
         requires { IsAsking self.old }
         ensures asking { IsAsking self.new }
@@ -89,7 +92,8 @@ impl Asking {
         }
     }
 
-    /// The next source is asked, after a rest: this one was silent, is gone, or has brought nothing for too long.
+    /// The next source is asked, after a rest: this one was silent, is gone, or has brought nothing
+    /// for too long.
     pub fn pass_on(&mut self, now: u64)
         requires { IsAsking self.old }
         ensures asking { IsAsking self.new }
@@ -101,7 +105,8 @@ impl Asking {
         self.due = Alarm::after(now, REST_MILLIS).due;
     }
 
-    /// The milliseconds until something is due: a question, or the end of the time in which one is answered.
+    /// The milliseconds until something is due: a question, or the end of the time in which one is
+    /// answered.
     pub fn left(self, now: u64) -> u64
         ensures { result ≡ left_until self now }
     {

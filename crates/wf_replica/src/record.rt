@@ -11,7 +11,8 @@ use wf_canon::Canon;
 /// The version of records as they are written, and the kind of a published definition.
 const HEADER: &[u8] = &[2, 4];
 
-/// The bytes on a tape of the record that a definition is published. The only error is allocation failure.
+/// The bytes on a tape of the record that a definition is published. The only error is allocation
+/// failure.
 #[tactic(auto, unfolding(wf_frame::specs::Row::row_bytes, wf_journal::specs::Encoding::text_spelling, wf_ballot::specs::Field::frame))]
 pub(crate) fn record_bytes(
     alloc: Global,

@@ -3,8 +3,8 @@
 use std::alloc::{AllocError, Global};
 use std::marker::Model;
 
-/// Which of its sources refuse a replica, as each of them last replied: they are of another farm, or of another history. Model: for each
-/// whether it does.
+/// Which of its sources refuse a replica, as each of them last replied: they are of another farm,
+/// or of another history. Model: for each whether it does.
 #[derive(Drop)]
 pub struct Refusals {
     refusals: Vec<bool>,
@@ -30,7 +30,8 @@ impl Refusals {
         Ok(Refusals { refusals })
     }
 
-    /// Notes whether a source refuses the replica. There is nothing to note of one that isn't among them.
+    /// Notes whether a source refuses the replica. There is nothing to note of one that isn't among
+    /// them.
     pub fn note(&mut self, source: usize, refuses: bool)
         ensures noted { source < length self.old → self.new ≡ slice_set self.old source refuses }
         ensures other { length self.old ≤ source → self.new ≡ self.old }

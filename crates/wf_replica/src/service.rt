@@ -16,8 +16,9 @@ use wf_http::{Front, HttpError};
 use wf_tape::Tape;
 
 impl<T: Tape> Follower<T> {
-    /// Serves what has come of a request. The map service is answered from the maps that are published, and GET /status with a line of
-    /// its own; POST /publish is 404, as soon as its head has come. Where the request isn't whole, nothing is written.
+    /// Serves what has come of a request. The map service is answered from the maps that are
+    /// published, and GET /status with a line of its own; POST /publish is 404, as soon as its head
+    /// has come. Where the request isn't whole, nothing is written.
     pub fn serve(&mut self, alloc: Global, incoming: &Incoming, outgoing: &mut Outgoing) -> Outcome
         ensures served { IsServed incoming.now.bytes (list_of self.old) outgoing.old.bytes outgoing.new.bytes result }
         ensures unsent { IsUnsent result outgoing.old outgoing.new }

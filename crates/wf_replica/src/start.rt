@@ -28,8 +28,9 @@ pub enum FoundTape {
 }
 
 impl<T: Tape + Drop> Follower<T> {
-    /// A replica with what its tape has, and room for so many pictures. A tape that has anything but published maps, one after the other, is
-    /// begun anew; None is one that couldn't be opened. The only error is allocation failure; the tape is dropped.
+    /// A replica with what its tape has, and room for so many pictures. A tape that has anything
+    /// but published maps, one after the other, is begun anew; None is one that couldn't be opened.
+    /// The only error is allocation failure; the tape is dropped.
     pub fn open(
         alloc: Global,
         tape: Option<T>,
@@ -37,7 +38,8 @@ impl<T: Tape + Drop> Follower<T> {
     ) -> Result<(Self, FoundTape), AllocError>
         requires least { 1 ≤ pictures }
         requires most { pictures ≤ most_cached }
-        // What a durable tape has is learned, in its order; only one that has something else begins anew.
+        // What a durable tape has is learned, in its order; only one that has something else begins
+        // anew.
         ensures found { T.durable →
             IfSome tape (λ kept. IfOk result (λ x. IsFoundOn (T.content kept) x.1 (list_of x.0))) }
         ensures none { tape ≡ None → IfOk result (λ x. list_of x.0 ≡ []) }

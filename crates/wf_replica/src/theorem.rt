@@ -5,23 +5,26 @@ ghost use Rattle.wf_replica.specs.Theorems.{AnswersReport, BeginningsAreServed, 
 use wf_career::{replicas_agree, replicas_answer_alike};
 use wf_tape::Tape;
 
-/// What an answer at a readers' port says is what a node answers when it is asked for the next definition.
+/// What an answer at a readers' port says is what a node answers when it is asked for the next
+/// definition.
 pub fn answers_report()
     ensures { AnswersReport }
 {}
 
-/// What a source answers to a replica's question fits it, if one of their lists is a beginning of the other: nothing sound is rejected.
+/// What a source answers to a replica's question fits it, if one of their lists is a beginning of
+/// the other: nothing sound is rejected.
 pub fn sound_answers_fit()
     ensures { SoundAnswersFit }
 {}
 
-/// What a replica has learned at one moment is a beginning of what it has learned at each later one.
+/// What a replica has learned at one moment is a beginning of what it has learned at each later
+/// one.
 pub fn a_replica_never_goes_back()
     ensures { NeverGoesBack }
 {}
 
-/// What a replica learns from answers, of nodes of a farm and of replicas of it, is at each moment one of the lists that such have; so is
-/// each beginning of it, which its tape may have.
+/// What a replica learns from answers, of nodes of a farm and of replicas of it, is at each moment
+/// one of the lists that such have; so is each beginning of it, which its tape may have.
 pub fn what_is_learned_is_served<T>()
     ensures learned { LearnedAreServed T }
     ensures beginning { BeginningsAreServed T }

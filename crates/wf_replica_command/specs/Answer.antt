@@ -11,15 +11,15 @@ use Rattle.wf_replica_command.specs.declared.renderer.Renderer.{Renderer}
 use Rattle.wf_tape.specs.declared.tape.Tape.{Ghosts as Tape}
 
 module _ {T : Type 0} (tapes : Tape T) where
-  -- A replica, whose list is what it has heard, was asked by the bytes that came, and this was written: the response over that list, or a
-  -- beginning of it where memory failed.
+  -- A replica, whose list is what it has heard, was asked by the bytes that came, and this was
+  -- written: the response over that list, or a beginning of it where memory failed.
   pub record IsResponse (replica : Follower T tapes) (came response : List ℕ) : Type 0 where
     pub lived : learned [] (received_by replica) ≡ list_of replica
     pub outcome : Outcome
     pub served : IsServed came (list_of replica) [] response outcome
 
-  -- In order, each client that was answered: the replica as it then was, and the client with what had come of its request and with the
-  -- whole response.
+  -- In order, each client that was answered: the replica as it then was, and the client with what
+  -- had come of its request and with the whole response.
   unfoldable pub AreAnswered : List (Renderer T tapes × ℕ) → List (Client × ℕ) → Type 0
   AreAnswered [] [] = ⊤
   AreAnswered [] (client ∷ clients) = ⊥

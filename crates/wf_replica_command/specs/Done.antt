@@ -13,9 +13,10 @@ use Rattle.wf_replica_command.specs.declared.plan.ReplicaPlan.{ReplicaPlan}
 use Rattle.wf_tape.specs.declared.tape.Tape.{Ghosts as Tape}
 
 module _ {T : Type 0} (tapes : Tape T) where
-  -- It has served. From the list with which it began it went on by what it heard of its sources, and by nothing else; its list is what it
-  -- heard, which is the farm's if all that it heard was, and what its tape has; each client was answered from the list as it then was; and
-  -- the list never went back.
+  -- It has served. From the list with which it began it went on by what it heard of its sources,
+  -- and by nothing else; its list is what it heard, which is the farm's if all that it heard was,
+  -- and what its tape has; each client was answered from the list as it then was; and the list
+  -- never went back.
   pub record HasServed : Type 0 where
     pub begun : ReplicaHub T tapes
     pub unheard : HasHeardNothing tapes begun

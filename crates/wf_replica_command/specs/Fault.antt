@@ -73,13 +73,15 @@ IsOfFolder faults.OtherFarm = ⊤
 IsOfFolder faults.Memory = ⊤
 IsOfFolder fault = ⊥
 
--- The error is one that files, sockets or memory caused before the replica began. An address that is taken is one of its own.
+-- The error is one that files, sockets or memory caused before the replica began. An address that
+-- is taken is one of its own.
 abbrev pub IsFromSystem : ReplicaPlan → ReplicaFault → Type 0
 IsFromSystem plan faults.Poll = ⊤
 IsFromSystem plan (faults.Taken option address) = plan_address plan option ≡ Some address
 IsFromSystem plan fault = IsOfFolder fault
 
--- a word of its command line, or the system; an address that is taken is the one that the option's word spells
+-- a word of its command line, or the system; an address that is taken is the one that the option's
+-- word spells
 abbrev pub IsReplicaFault : ReplicaLine → ReplicaFault → Type 0
 IsReplicaFault line (faults.BadPeer index) = IsFirstBad (words_of line.peers.now) index
 IsReplicaFault line (faults.PeerCount count) = (count ≡ length (words_of line.peers.now)) × (64 < count)

@@ -16,7 +16,8 @@ use Rattle.wf_replica_command.specs.declared.asked.Asked.{Asked}
 use Rattle.wf_replica_command.specs.declared.asker.Asker.{Asker}
 use Rattle.wf_tape.specs.declared.tape.Tape.{Ghosts as Tape}
 
--- a replica's list, the answers that it was given, and for each of its sources whether it refuses the replica
+-- a replica's list, the answers that it was given, and for each of its sources whether it refuses
+-- the replica
 pub record Course : Type 0 where
   pub list : List Definition
   pub answers : List (ReaderAnswer × Question)
@@ -37,7 +38,8 @@ abbrev pub IsRefusal : List Definition → Reply → Type 0
 IsRefusal list (replies.Answer a) = IsOtherHistory list a
 IsRefusal list (replies.Rejected why) = IsRefusing why
 
--- What a reply to a question leaves: an answer is given to the replica, which takes it whole if it fits; a rejection changes nothing of it.
+-- What a reply to a question leaves: an answer is given to the replica, which takes it whole if it
+-- fits; a rejection changes nothing of it.
 pub record IsGiven (q : Question) (a : ReaderAnswer) (old new : Course) : Type 0 where
   pub outcome : Result (Unit {0}) AnswerFault
   pub leaves : AnswerLeaves old.list q a outcome new.list

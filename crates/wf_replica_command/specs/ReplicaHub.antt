@@ -24,12 +24,13 @@ follower_of hub = hub.clients.renderer.follower
 abbrev pub HasLearned : {T : Type 0} (tapes : Tape T) → ReplicaHub T tapes → Type 0
 HasLearned tapes hub = learned [] (received_by (follower_of hub)) ≡ list_of (follower_of hub)
 
--- If it has heard only answers of nodes of a farm or of replicas of it, its list is one of those of which `wf_career`'s `replicas_agree`
--- says that all are beginnings of one history.
+-- If it has heard only answers of nodes of a farm or of replicas of it, its list is one of those of
+-- which `wf_career`'s `replicas_agree` says that all are beginnings of one history.
 abbrev pub IsOfFarm : {T : Type 0} (tapes : Tape T) → ReplicaHub T tapes → Type 0
 IsOfFarm {T} tapes hub = (n : ℕ) (careers : ℕ → Career T) → AreReported n careers (received_by (follower_of hub)) → IsListOfFarm n careers (list_of (follower_of hub))
 
--- its tape, if it has one that is durable, has the records of its list, in their order, and nothing else
+-- its tape, if it has one that is durable, has the records of its list, in their order, and nothing
+-- else
 abbrev pub IsListOnTape : {T : Type 0} (tapes : Tape T) → ReplicaHub T tapes → Type 0
 IsListOnTape tapes hub = IsRecorded tapes (follower_of hub).tape (list_of (follower_of hub))
 

@@ -8,7 +8,8 @@ use Rattle.wf_replica_command.specs.declared.fault.ReplicaFault.TheVariants as f
 use Rattle.wf_store.specs.Call.{Call, OnlyReads, locked, counted, read, opened, replaced, failed, failed_at}
 use Rattle.wf_store.specs.declared.file_name.FileName.TheVariants.{Farm, ReplicaTape}
 
--- The file `farm` has this text: it was read, or there was none, the folder was empty, and it was written.
+-- The file `farm` has this text: it was read, or there was none, the folder was empty, and it was
+-- written.
 abbrev pub IsClaimed : List ℕ → List Call → List Call → Type 0
 IsClaimed text old new = (new ≡ read Farm (Some text) ∷ old) ⊎ (new ≡ replaced Farm text ∷ counted 0 ∷ read Farm None ∷ old)
 
@@ -21,7 +22,8 @@ abbrev pub IsTapeLookedFor : List Call → List Call → Type 0
 IsTapeLookedFor old [] = ⊥
 IsTapeLookedFor old (call ∷ looked) = OnlyReads old looked × ((call ≡ opened ReplicaTape) ⊎ (call ≡ failed_at ReplicaTape))
 
--- A replica has started on a folder that is locked: its file `farm` has this text, and only then was the tape opened.
+-- A replica has started on a folder that is locked: its file `farm` has this text, and only then
+-- was the tape opened.
 pub record IsStarted (text : List ℕ) (held new : List Call) : Type 0 where
   pub claimed : List Call
   pub farm : IsClaimed text held claimed
@@ -33,16 +35,19 @@ HasServedClients (Ok done) = ⊤
 HasServedClients (Err (faults.Ended why)) = ⊤
 HasServedClients (Err fault) = ⊥
 
--- What a run did to a folder that it had locked: a replica started, or, if it didn't serve, the folder wasn't taken.
+-- What a run did to a folder that it had locked: a replica started, or, if it didn't serve, the
+-- folder wasn't taken.
 pub record IsBegun (text : List ℕ) (held new : List Call) (result : Result (Unit {0}) ReplicaFault) : Type 0 where
   pub served : HasServedClients result → IsStarted text held new
   pub others : IsStarted text held new ⊎ IsUnclaimed held new
 
--- What a run did to its folder: it was locked first, and then as above; or, if the replica didn't serve, it wasn't locked, or not touched.
+-- What a run did to its folder: it was locked first, and then as above; or, if the replica didn't
+-- serve, it wasn't locked, or not touched.
 pub record IsReplicaRun (text : List ℕ) (old new : List Call) (result : Result (Unit {0}) ReplicaFault) : Type 0 where
   pub served : HasServedClients result → IsStarted text (locked ∷ old) new
   pub others : IsStarted text (locked ∷ old) new ⊎ IsUnclaimed (locked ∷ old) new ⊎ (new ≡ failed ∷ old) ⊎ (new ≡ old)
 
--- what the run of a command line did to its folder: the file `farm` is that of a replica of the line's farm
+-- what the run of a command line did to its folder: the file `farm` is that of a replica of the
+-- line's farm
 abbrev pub IsLineRun : ReplicaLine → List Call → List Call → Result (Unit {0}) ReplicaFault → Type 0
 IsLineRun line old new result = IsReplicaRun (replica_text (pad line.farm.now)) old new result

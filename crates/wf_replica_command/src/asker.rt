@@ -11,14 +11,15 @@ use wf_past::Past;
 use wf_reader::{Answerer, QuestionRejection, Reply};
 use wf_replica::{Asking, Refusals};
 
-/// Whom a replica asks, and what it has heard of the farm. A clause sees a log that only proofs read: each reply to a question that was
-/// open, with that question.
+/// Whom a replica asks, and what it has heard of the farm. A clause sees a log that only proofs
+/// read: each reply to a question that was open, with that question.
 #[derive(Drop)]
 pub(crate) struct Asker {
     pub(crate) sources: Vec<SocketAddr>,
     pub(crate) asking: Asking,
     pub(crate) source: Option<SourceConnection>,
-    // the one to which the connection is, and whether the log's last line about it says that it is asked
+    // the one to which the connection is, and whether the log's last line about it says that it is
+    // asked
     pub(crate) of: usize,
     pub(crate) is_named: bool,
     pub(crate) heard: Past<Reply, Asked>,

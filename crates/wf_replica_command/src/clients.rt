@@ -21,8 +21,8 @@ use wf_visitors::{Context, Visitors};
 /// The most requests of clients that a turn answers.
 const MOST_SERVED: usize = 8;
 
-/// A replica and its clients. A clause sees a log that only proofs read: for each client that was answered, in order, the replica as it then
-/// was.
+/// A replica and its clients. A clause sees a log that only proofs read: for each client that was
+/// answered, in order, the replica as it then was.
 #[derive(Drop)]
 pub struct ReplicaClients<T: Tape> {
     pub(crate) visitors: Visitors,
@@ -51,8 +51,8 @@ impl<T: Tape + Drop> ReplicaClients<T> {
         }
     }
 
-    /// The replica's list is what it has heard and what its tape has, each client that was answered was answered from it, and it never
-    /// went back, always. The call does nothing.
+    /// The replica's list is what it has heard and what its tape has, each client that was answered
+    /// was answered from it, and it never went back, always. The call does nothing.
     pub(crate) fn always_served(&self)
         ensures lived { learned [] (received_by self.now.renderer.follower) ≡ list_of self.now.renderer.follower }
         ensures recorded { IsRecorded T.Tape self.now.renderer.follower.tape (list_of self.now.renderer.follower) }

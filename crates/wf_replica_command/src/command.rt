@@ -23,8 +23,9 @@ use wf_store::{FileName, Store, path_in};
 use wf_tape::Tape;
 use wf_visitors::{Log, now};
 
-/// Serves a replica for this many turns, or until it has to end. A turn waits until a socket is ready or something is due, 0.1 seconds at
-/// most. The folder is locked first, and made a replica's if it is empty. Err: the cause, whose text is the line for standard error.
+/// Serves a replica for this many turns, or until it has to end. A turn waits until a socket is
+/// ready or something is due, 0.1 seconds at most. The folder is locked first, and made a replica's
+/// if it is empty. Err: the cause, whose text is the line for standard error.
 #[tactic(auto, using(crate::proofs::Faults::not_begun, crate::proofs::Starting::not_run, crate::proofs::Starting::not_locked, crate::proofs::Starting::run_so))]
 pub fn run<R: Files<File = File> + Clock + Eprint + Net + AllocGlobal, S: Store>(
     rt: &R,

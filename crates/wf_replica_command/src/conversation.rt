@@ -23,8 +23,8 @@ use wf_tape::Tape;
 use wf_visitors::Context;
 
 impl Asker {
-    /// Nobody was asked yet. The first is that of this number, counted round. `is_new`: the replica begins with no map. The only error is
-    /// allocation failure.
+    /// Nobody was asked yet. The first is that of this number, counted round. `is_new`: the replica
+    /// begins with no map. The only error is allocation failure.
     #[tactic(auto, using(crate::proofs::Noting::none_refuses, crate::proofs::Noting::one_each))]
     pub(crate) fn new(
         alloc: Global,
@@ -153,7 +153,8 @@ impl Asker {
         }
     }
 
-    /// Takes the answer to a question: what of it fits is learned, as far as memory allows; the others are asked for again.
+    /// Takes the answer to a question: what of it fits is learned, as far as memory allows; the
+    /// others are asked for again.
     #[tactic(auto, using(crate::proofs::Continuation::goes_on_by, crate::proofs::Hearing::given_by, crate::proofs::Noting::noted_never, crate::proofs::Noting::noted_misfit))]
     fn take_answer<R: Clock + Eprint + AllocGlobal, T: Tape + Drop>(
         &mut self,
@@ -204,8 +205,8 @@ impl Asker {
         if self.asking.source != self.of {
             self.pass(context);
         } else if published < answer.published() {
-            // What comes next is more than one answer, whose digest can't be compared yet. On a connection of its own its question has no
-            // other reply than its own.
+            // What comes next is more than one answer, whose digest can't be compared yet. On a
+            // connection of its own its question has no other reply than its own.
             self.source = None;
         }
     }
@@ -220,8 +221,9 @@ impl Asker {
         }
     }
 
-    /// Ends the connection to the source, and notes whether that refuses the replica: the next one is asked. What wasn't asked for, while no
-    /// question was open, changes nothing else: the same one is asked on, over another connection.
+    /// Ends the connection to the source, and notes whether that refuses the replica: the next one
+    /// is asked. What wasn't asked for, while no question was open, changes nothing else: the same
+    /// one is asked on, over another connection.
     #[tactic(auto, using(crate::proofs::Noting::noted_there))]
     fn leave<R: Clock + Eprint>(
         &mut self,
@@ -254,7 +256,8 @@ impl Asker {
         self.is_named = false;
     }
 
-    /// Notes whether the source refuses the replica, which has to end once all do. One that can't be reached, or is silent, doesn't.
+    /// Notes whether the source refuses the replica, which has to end once all do. One that can't
+    /// be reached, or is silent, doesn't.
     #[tactic(auto, using(crate::proofs::Noting::noted_by, crate::proofs::Noting::set_length))]
     fn note(&mut self, refusal: Option<QuestionRejection>)
         ensures heard { self.new.heard.items ≡ self.old.heard.items }
@@ -323,7 +326,8 @@ impl Asker {
         }
     }
 
-    /// Connects to the source that is to be asked, unless it is connected. Returns whether there is a connection.
+    /// Connects to the source that is to be asked, unless it is connected. Returns whether there is
+    /// a connection.
     fn connect<R: Net + Clock + Eprint + AllocGlobal>(
         &mut self,
         context: &Context<'_, '_, R>,
@@ -383,7 +387,8 @@ fn end_by(misfit: Misfit) -> SourceEnd {
     }
 }
 
-/// Why a source refuses the replica whose answer doesn't fit, if that says so: it has another history.
+/// Why a source refuses the replica whose answer doesn't fit, if that says so: it has another
+/// history.
 fn refusal_by(misfit: &Misfit) -> Option<QuestionRejection>
     ensures { IsSome result → IsOfOtherHistory misfit.now }
 {
@@ -393,7 +398,8 @@ fn refusal_by(misfit: &Misfit) -> Option<QuestionRejection>
     }
 }
 
-/// Why a source refuses the replica, if its rejection says so: it is of another farm, or of another history.
+/// Why a source refuses the replica, if its rejection says so: it is of another farm, or of another
+/// history.
 fn refusal_of(why: &QuestionRejection) -> Option<QuestionRejection>
     ensures { IsSome result → IsRefusing why.now }
 {

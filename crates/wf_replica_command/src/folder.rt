@@ -20,7 +20,8 @@ const FIRST_LINE: &[u8] = b"wfarm folder 1\n";
 
 const KIND_LINE: &[u8] = b"kind replica\n";
 
-/// Makes sure that a folder is that of a replica of this farm: its file `farm` says so, or the folder is empty, and gets such a file.
+/// Makes sure that a folder is that of a replica of this farm: its file `farm` says so, or the
+/// folder is empty, and gets such a file.
 #[tactic(auto, using(crate::proofs::Starting::claimed_anew, crate::proofs::Starting::unclaimed_anew, crate::proofs::Starting::unclaimed_at))]
 pub(crate) fn claim<S: Store>(
     alloc: Global,

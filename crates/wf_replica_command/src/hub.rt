@@ -64,8 +64,8 @@ pub(crate) enum Turn {
 }
 
 impl<T: Tape + Drop> ReplicaHub<T> {
-    /// Binds the addresses of a replica, which asks the source of this number first, counted round. Err: why it doesn't begin; the replica is
-    /// dropped.
+    /// Binds the addresses of a replica, which asks the source of this number first, counted round.
+    /// Err: why it doesn't begin; the replica is dropped.
     #[tactic(auto, using(crate::proofs::Hearing::nothing_heard))]
     pub(crate) fn new<R: Net + Clock + AllocGlobal>(
         rt: &R,
@@ -111,8 +111,8 @@ impl<T: Tape + Drop> ReplicaHub<T> {
         self.clients.visitors.address(&self.network)
     }
 
-    /// The replica's list is what it has heard and what its tape has, each client that was answered was answered from it as it then was,
-    /// and it never went back, always. The call does nothing.
+    /// The replica's list is what it has heard and what its tape has, each client that was answered
+    /// was answered from it as it then was, and it never went back, always. The call does nothing.
     #[tactic(auto, using(crate::proofs::Faults::of_farm))]
     pub(crate) fn always_lived(&self)
         ensures lived { HasLearned T.Tape self.now }
@@ -125,7 +125,8 @@ impl<T: Tape + Drop> ReplicaHub<T> {
         self.clients.always_served();
     }
 
-    /// One turn: waits until a socket is ready or something is due, and does a bounded part of what there is to do.
+    /// One turn: waits until a socket is ready or something is due, and does a bounded part of what
+    /// there is to do.
     pub(crate) fn go_on<R: Net + Files + Clock + Eprint + AllocGlobal>(
         &mut self,
         rt: &R,
@@ -135,7 +136,8 @@ impl<T: Tape + Drop> ReplicaHub<T> {
         ensures lived { HasLearned T.Tape self.new }
         ensures recorded { IsListOnTape T.Tape self.new }
         ensures of_farm { IsOfFarm T.Tape self.new }
-        // Each response that any client was sent is the one to exactly what had come of its request, over the list as it then was.
+        // Each response that any client was sent is the one to exactly what had come of its
+        // request, over the list as it then was.
         ensures answered { HasAnsweredByList T.Tape self.new }
         // It never goes back, and goes on by what it hears of its sources.
         ensures stayed { HasOnlyGrown T.Tape self.new }
@@ -154,8 +156,8 @@ impl<T: Tape + Drop> ReplicaHub<T> {
         }
     }
 
-    /// Waits until a socket is ready or something is due; not at all if there is more to do. Returns the number of sockets that are ready,
-    /// whose tokens are at the front of the buffer.
+    /// Waits until a socket is ready or something is due; not at all if there is more to do.
+    /// Returns the number of sockets that are ready, whose tokens are at the front of the buffer.
     fn wait<R: Clock>(&mut self, rt: &R, tokens: &mut [usize; MOST_READY]) -> usize
         ensures clients { self.new.clients ≡ self.old.clients }
         ensures asker { self.new.asker ≡ self.old.asker }
@@ -170,7 +172,8 @@ impl<T: Tape + Drop> ReplicaHub<T> {
         self.network.wait(millis, tokens)
     }
 
-    /// Does what the sockets that are ready ask for, and what the clock does. Returns whether there is more to do.
+    /// Does what the sockets that are ready ask for, and what the clock does. Returns whether there
+    /// is more to do.
     #[tactic(auto, using(crate::proofs::Hearing::acted))]
     fn act<'x, R: Net + Files + Clock + Eprint + AllocGlobal>(
         &mut self,

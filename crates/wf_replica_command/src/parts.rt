@@ -124,7 +124,8 @@ fn doors_at<R: Net>(
     })
 }
 
-/// All of a replica's sockets but its source's, with these listeners. The only error is allocation failure.
+/// All of a replica's sockets but its source's, with these listeners. The only error is allocation
+/// failure.
 fn begin_at(alloc: Global, doors: ReplicaDoors) -> Result<ReplicaStart, ReplicaFault>
     ensures new { IfOk result (λ begun. responses_of begun.visitors ≡ []) }
     ensures memory { IfErr result (λ why. why ≡ ReplicaFault.Memory) }
@@ -146,7 +147,8 @@ fn begin_at(alloc: Global, doors: ReplicaDoors) -> Result<ReplicaStart, ReplicaF
     })
 }
 
-/// Binds the addresses of a replica. Err: one of them is taken or not permitted, the system gives no poll, or an allocation fails.
+/// Binds the addresses of a replica. Err: one of them is taken or not permitted, the system gives
+/// no poll, or an allocation fails.
 pub(crate) fn bind<R: Net + AllocGlobal>(
     rt: &R,
     plan: &ReplicaPlan,

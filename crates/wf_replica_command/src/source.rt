@@ -59,7 +59,8 @@ impl SourceConnection {
         }
     }
 
-    /// Asks a question, as soon as the connection takes it. The only error is allocation failure: nothing is asked then.
+    /// Asks a question, as soon as the connection takes it. The only error is allocation failure:
+    /// nothing is asked then.
     pub(crate) fn ask(&mut self, alloc: Global, question: &Question) -> Result<(), AllocError>
         ensures { OnOk result (IsOpenQuestion question.now self.new.question) }
     {
@@ -67,8 +68,9 @@ impl SourceConnection {
         Ok(())
     }
 
-    /// Writes what is left of the question, and reads what came of its reply. Whatever comes while no question is open ends the connection.
-    /// The reply is logged, with this number of the source.
+    /// Writes what is left of the question, and reads what came of its reply. Whatever comes while
+    /// no question is open ends the connection. The reply is logged, with this number of the
+    /// source.
     pub(crate) fn turn(
         &mut self,
         alloc: Global,
@@ -129,7 +131,8 @@ impl SourceConnection {
     }
 }
 
-/// Writes what is left of a question, and reads what came of its reply, which is taken in behind what came before. None: more is needed.
+/// Writes what is left of a question, and reads what came of its reply, which is taken in behind
+/// what came before. None: more is needed.
 fn converse(
     alloc: Global,
     network: &SystemNetwork,
@@ -193,7 +196,8 @@ fn take_in(alloc: Global, came: &mut Vec<u8>, piece: &[u8]) -> Result<Option<Rep
     }
 }
 
-/// The reply that bytes are. `Short`: more are needed. More bytes than a reply are malformed, since a question has one.
+/// The reply that bytes are. `Short`: more are needed. More bytes than a reply are malformed, since
+/// a question has one.
 fn reply_in(alloc: Global, bytes: &[u8]) -> Result<Reply, ReplyFault> {
     let length = reply_length(bytes)?;
     if bytes.len() < length {

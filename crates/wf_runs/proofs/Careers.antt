@@ -11,7 +11,8 @@ use Rattle.wf_runs.proofs.Left.{left_alike}
 use Rattle.wf_runs.proofs.Moments.{Show, Ends, acts_done, session_shows}
 use Rattle.wf_runs.proofs.Turns.{node_at}
 
--- Runs of the process of index i, from bytes that may be read there: their items are its items, and the moments show their values.
+-- Runs of the process of index i, from bytes that may be read there: their items are its items, and
+-- the moments show their values.
 pub record Lived {T : Type 0} (tapes : Tape T) (n i : ℕ) (found : ℕ → List ℕ → Type 0) (sessions : List (Session T)) : Type 0 where
   pub bytes : List ℕ
   pub may_be : found i bytes

@@ -1,4 +1,5 @@
--- What the next session reads: what a run left, or what openings that were cut off made of it; at first, an empty tape.
+-- What the next session reads: what a run left, or what openings that were cut off made of it; at
+-- first, an empty tape.
 use Rattle.std.proofs.Common.{◌≡◌, ℕ, ◌<◌, List, [], length, Some, refl, sym, ap, subst, ◌∙◌, inl, inr, arith, length-append}
 use Rattle.std.proofs.lemmas.Option.{same_Some}
 use Rattle.wf_ballot.specs.Field.{frame}

@@ -1,4 +1,5 @@
--- The values of the node at one index, at each moment of the sessions, are those of its process's career, in their order.
+-- The values of the node at one index, at each moment of the sessions, are those of its process's
+-- career, in their order.
 use Rattle.std.proofs.Common.{◌≡◌, ◌≢◌, ℕ, zero, suc, ◌≤◌, List, [], ◌∷◌, ◌++◌, length, slice_get, slice_set, Some, refl, sym, ap, subst, ◌∙◌, inl, inr, arith, length-set}
 use Rattle.std.specs.Prelude.{⊤}
 use Rattle.std.proofs.lemmas.Bool.{cases_eq}
@@ -36,7 +37,8 @@ module _ {T : Type 0} (tapes : Tape T) (i : ℕ) where
 
 -- ---- moments that show values
 
--- The nodes at index i, at these moments, are some of these values, in their order, and one may stay for several moments.
+-- The nodes at index i, at these moments, are some of these values, in their order, and one may
+-- stay for several moments.
 pub data Show {T : Type 0} (i : ℕ) : List (List (Node T)) → List (Node T) → Type 0 where
   Ends : (vs : List (Node T)) → Show i [] vs
   Stays : (nodes : List (Node T)) (times : List (List (Node T))) (v : Node T) (vs : List (Node T)) → slice_get nodes i ≡ Some v → Show i times (v ∷ vs) → Show i (nodes ∷ times) (v ∷ vs)

@@ -1,4 +1,5 @@
--- What was served, connection by connection, is steps of the nodes; each connection begins at one of their moments.
+-- What was served, connection by connection, is steps of the nodes; each connection begins at one
+-- of their moments.
 use Rattle.std.proofs.Common.{◌≡◌, ◌⊎◌, ℕ, zero, suc, ◌<◌, List, [], ◌∷◌, ◌++◌, length, slice_get, slice_set, Some, Result, Ok, Err, Vec, refl, sym, ap, subst, ◌∙◌, inl, inr, arith, length-set}
 use Rattle.std.proofs.lemmas.Option.{slice_get_within}
 use Rattle.std.specs.declared.alloc.Global.{Global}

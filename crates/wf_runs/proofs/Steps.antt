@@ -1,4 +1,5 @@
--- What was served is steps of the nodes: deliveries, a question and its answer, a publish, a restart of a proposal.
+-- What was served is steps of the nodes: deliveries, a question and its answer, a publish, a
+-- restart of a proposal.
 use Rattle.std.proofs.Common.{◌≡◌, ℕ, zero, suc, Bool, true, false, List, [], ◌∷◌, ◌++◌, slice_get, slice_set, Some, Result, Ok, Err, Vec, refl, sym, ap, subst, ◌∙◌, inl, inr, append-nil, append_assoc}
 use Rattle.std.proofs.lemmas.Option.{none-some, same_Some}
 use Rattle.std.specs.declared.alloc.Global.{Global}

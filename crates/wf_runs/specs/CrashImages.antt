@@ -1,5 +1,5 @@
--- What a durable tape gives: an opening that is cut off leaves what reads alike; and however a process ends, its disk leaves what a
--- run leaves.
+-- What a durable tape gives: an opening that is cut off leaves what reads alike; and however a
+-- process ends, its disk leaves what a run leaves.
 use Rattle.std.specs.Prelude.{◌≡◌, ℕ, true, false, List}
 use Rattle.wf_career.specs.Run.{Input, Run, last, Between, Failed, HasLeft, IsRun}
 use Rattle.wf_def.specs.Definition.{Definition}
@@ -14,19 +14,20 @@ use Rattle.wf_tape.specs.DiskTape.{DiskTape, images_of}
 use Rattle.wf_tape.specs.declared.tape.Tape.{Ghosts as Tape}
 use Rattle.wf_runs.specs.Folder.{ReadsAlike}
 
--- A crash inside the call that opens a node, by what that call promises (`Node::open`): it leaves what reads alike to something that one before the
--- call could leave.
+-- A crash inside the call that opens a node, by what that call promises (`Node::open`): it leaves
+-- what reads alike to something that one before the call could leave.
 abbrev pub OpeningReadsAlike : {T : Type 0} → Tape T → Type 0
 OpeningReadsAlike {T} tapes = (old new : T) → Follows ReadsSame (tapes.images old) (inside tapes old new) → (image : List ℕ) → inside tapes old new image →
     (earlier : List ℕ) × tapes.images old earlier × ReadsAlike earlier image
 
--- Inside the call that shortens its tape then (`Node::shorten`): it leaves what reads alike to the bytes that were read.
+-- Inside the call that shortens its tape then (`Node::shorten`): it leaves what reads alike to the
+-- bytes that were read.
 abbrev pub ShorteningReadsAlike : {T : Type 0} → Tape T → Type 0
 ShorteningReadsAlike {T} tapes = (old new : T) (stored : DurableState Definition) (bytes : List ℕ) → StandsFor stored bytes → AllStandFor stored (inside tapes old new) → (image : List ℕ) → inside tapes old new image →
     ReadsAlike bytes image
 
--- The process ends, by a kill or with the power, while the node runs and its durable state is on its tape, as after each call of
--- the node.
+-- The process ends, by a kill or with the power, while the node runs and its durable state is on
+-- its tape, as after each call of the node.
 abbrev pub DiskLeavesBetween : {D : Type 0} → Disk D → Type 0
 DiskLeavesBetween {D} disks = (run : Run (DiskTape D)) (folder : Folder) → (last run).halted ≡ false → AllStandFor (stored_of (last run)) (images_of disks (last run).tape.disk) →
     IsEnded (disks.folder (last run).tape.disk) folder → HasLeft run Between (bytes_in folder.own)

@@ -1,4 +1,5 @@
--- The sessions on one folder, one after the other: each reads what the one before it left on the tapes.
+-- The sessions on one folder, one after the other: each reads what the one before it left on the
+-- tapes.
 use Rattle.std.specs.Prelude.{◌≡◌, ℕ, ⊤, List, [], ◌∷◌, ◌++◌, length, slice_get, Some}
 use Rattle.wf_career.specs.Career.{IsOneOf}
 use Rattle.wf_career.specs.Run.{End, Between, Within, Failed, HasLeft, IsOpenedFrom}
@@ -12,8 +13,9 @@ use Rattle.wf_runs.specs.Session.{Session, AreTaken, moments_from, returned, run
 
 -- ---- what a session leaves
 
--- What openings that were cut off make of the bytes of a tape: whatever durable state the bytes stood for, they stand for it still.
--- The file is the old one, or a new one with its whole records or those of a shortened tape.
+-- What openings that were cut off make of the bytes of a tape: whatever durable state the bytes
+-- stood for, they stand for it still. The file is the old one, or a new one with its whole records
+-- or those of a shortened tape.
 abbrev pub ReadsAlike : List ℕ → List ℕ → Type 0
 ReadsAlike old new = (stored : DurableState Definition) → StandsFor stored old → StandsFor stored new
 
@@ -23,9 +25,10 @@ IsEndBy sent Between = ⊤
 IsEndBy sent (Within input) = IsOneOf sent input
 IsEndBy sent (Failed input) = ⊤
 
--- These bytes may be read of the tape at an index after the session: its node's run left them, as it ended for that node (`HasLeft`: between two
--- steps the bytes stand for what the node has stored; within one, and after its tape failed within one, for what it had stored
--- before it or has after it), or openings that were cut off since then made them of what that left.
+-- These bytes may be read of the tape at an index after the session: its node's run left them, as
+-- it ended for that node (`HasLeft`: between two steps the bytes stand for what the node has
+-- stored; within one, and after its tape failed within one, for what it had stored before it or has
+-- after it), or openings that were cut off since then made them of what that left.
 pub record IsLeftAt {T : Type 0} (session : Session T) (i : ℕ) (bytes : List ℕ) : Type 0 where
   pub first : Node T
   pub at : slice_get session.nodes i ≡ Some first

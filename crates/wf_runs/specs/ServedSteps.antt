@@ -43,8 +43,9 @@ module _ {T : Type 0} (tapes : Tape T) where
 -- ---- runs of `serve` on one folder
 
 module _ {M F : Type 0} (inside : Tape M) (outside : Tape F) where
-  -- A run of `serve` of a service that has a folder: what it returned, and steps by which that came about. If the process was killed or the
-  -- power was cut before, it is what it would have returned, and only the first ones of these steps were made.
+  -- A run of `serve` of a service that has a folder: what it returned, and steps by which that came
+  -- about. If the process was killed or the power was cut before, it is what it would have
+  -- returned, and only the first ones of these steps were made.
   pub record Ran : Type 0 where
     pub service : Service
     pub has : HasServed inside outside service
@@ -66,12 +67,14 @@ module _ {M F : Type 0} (inside : Tape M) (outside : Tape F) where
   unfoldable pub ReadsFrom : (ℕ → List ℕ → Type 0) → Ran → Type 0
   ReadsFrom found ran = (i : ℕ) (node : Node F) (at : slice_get (served_by ran).nodes i ≡ Some node) → found i ((served_by ran).read.each i node at).bytes
 
-  -- Each run of a service with n nodes, and each but the first read of the tapes what the one before it left.
+  -- Each run of a service with n nodes, and each but the first read of the tapes what the one
+  -- before it left.
   abbrev pub AreRuns : ℕ → (ℕ → List ℕ → Type 0) → List Ran → Type 0
   AreRuns n found [] = ⊤
   AreRuns n found (ran ∷ later) = (ran.service.nodes ≡ n) × ReadsFrom found ran × AreRuns n (IsLeftAt (session_of ran)) later
 
-  -- So they are on a folder that was new before the first of them, as each that `serve` was given one is.
+  -- So they are on a folder that was new before the first of them, as each that `serve` was given
+  -- one is.
   abbrev pub AreRunsOnOne : ℕ → List Ran → Type 0
   AreRunsOnOne n runs = AreRuns n IsNewTape runs
 

@@ -1,4 +1,5 @@
--- A session: the nodes of a farm share one process. They are opened, and take steps in one order of time, until the process ends.
+-- A session: the nodes of a farm share one process. They are opened, and take steps in one order of
+-- time, until the process ends.
 use Rattle.std.specs.Prelude.{◌≡◌, ℕ, ◌==◌, ⊤, List, [], ◌∷◌, ◌++◌, slice_get, slice_set, Some, if◌then◌else◌}
 use Rattle.wf_career.specs.Career.{IsOneOf}
 use Rattle.wf_career.specs.Run.{Act, End, Run, IsAct}
@@ -11,7 +12,8 @@ pub record Step (T : Type 0) : Type 0 where
   pub node_index : ℕ
   pub act : Act T
 
--- the nodes as they were opened, their steps since then, and how the session ended for the node at each index
+-- the nodes as they were opened, their steps since then, and how the session ended for the node at
+-- each index
 pub record Session (T : Type 0) : Type 0 where
   pub nodes : List (Node T)
   pub steps : List (Step T)
@@ -57,7 +59,8 @@ module _ {T : Type 0} (tapes : Tape T) where
     pub is : IsAct tapes before step.act
     pub arrived : IsOneOf sent step.act.input
 
-  -- The nodes took these steps, one after the other. Each message that was delivered is one of these, or an earlier step returned it.
+  -- The nodes took these steps, one after the other. Each message that was delivered is one of
+  -- these, or an earlier step returned it.
   abbrev pub AreTaken : List Message → List (Node T) → List (Step T) → Type 0
   AreTaken sent nodes [] = ⊤
   AreTaken sent nodes (step ∷ steps) = IsTaken sent nodes step × AreTaken (sent ++ step.act.outputs) (stepped nodes step) steps

@@ -23,7 +23,8 @@ use Rattle.wf_runs.specs.Folder.{IsFolder, moments, WasAt, WasOnce}
 
 -- ---- one farm of processes
 
--- Of two moments the node at one index was the one value and then the other: so it was in that process's career.
+-- Of two moments the node at one index was the one value and then the other: so it was in that
+-- process's career.
 pub record AreInOrder {T : Type 0} (n : ℕ) (careers : ℕ → Career T) (node_index : ℕ) (node next : Node T) : Type 0 where
   pub is_member : node_index < n
   pub moment : ℕ
@@ -32,7 +33,8 @@ pub record AreInOrder {T : Type 0} (n : ℕ) (careers : ℕ → Career T) (node_
   pub at : slice_get (values (careers node_index)) moment ≡ Some node
   pub then : slice_get (values (careers node_index)) later ≡ Some next
 
--- The sessions are a farm of n processes of `wf_career`, one for each index: what a node was at each moment, its process held, and in that order.
+-- The sessions are a farm of n processes of `wf_career`, one for each index: what a node was at
+-- each moment, its process held, and in that order.
 pub record IsOneFarm {T : Type 0} (tapes : Tape T) (n : ℕ) (sessions : List (Session T)) : Type 0 where
   pub careers : ℕ → Career T
   pub items : List Item
@@ -54,8 +56,8 @@ unfoldable pub HaveOneDefinition : {T : Type 0} → List (Session T) → Type 0
 HaveOneDefinition {T} sessions = (node other : Node T) → WasOnce sessions node → WasOnce sessions other → (s : ℕ) (c d : Definition) →
     definition_at node.parts.history s ≡ Some c → definition_at other.parts.history s ≡ Some d → c ≡ d
 
--- What the node at an index had published at one moment is a beginning of what it had published at each later one: no published sequence
--- goes back, whether in one session or across restarts.
+-- What the node at an index had published at one moment is a beginning of what it had published at
+-- each later one: no published sequence goes back, whether in one session or across restarts.
 unfoldable pub NoneGoesBack : {T : Type 0} → List (Session T) → Type 0
 NoneGoesBack {T} sessions = (moment later node_index : ℕ) (node next : Node T) → moment ≤ later → WasAt sessions moment node_index node → WasAt sessions later node_index next →
     IsBeginning node.parts.history next.parts.history
@@ -76,7 +78,8 @@ module _ {T : Type 0} (tapes : Tape T) where
     pub responds : Responds tapes input node response sent after
     pub asked : IsQueryTo responds.arrived query
 
-  -- The response was written to a connection, all of it or a first part, and it was to such a request.
+  -- The response was written to a connection, all of it or a first part, and it was to such a
+  -- request.
   abbrev pub IsReply : (input old new : Option (List ℕ)) (before after : Node T) (outputs : Vec Message Global) (got : Outcome) → IsOutcome tapes input old new before outputs after got → List ℕ → Response → Type 0
   IsReply input old new before after outputs (outcome.Sent status count) sends query response = (sends.response ≡ response) × IsQueryTo sends.responds.arrived query
   IsReply input old new before after outputs (outcome.WriteFailed status count) sends query response = (sends.response ≡ response) × IsQueryTo sends.responds.arrived query
@@ -95,7 +98,8 @@ module _ {T : Type 0} (tapes : Tape T) where
     pub connection : IsServedAt tapes node_index input old new nodes outputs served outcome
     pub reply : IsReply input old new connection.before connection.after outputs outcome connection.served query response
 
--- Two nodes, or one at two moments, respond to equal queries with equal bytes, if neither responds that an allocation failed (503).
+-- Two nodes, or one at two moments, respond to equal queries with equal bytes, if neither responds
+-- that an allocation failed (503).
 unfoldable pub RespondAlike : {T : Type 0} → Tape T → List (Session T) → Type 0
 RespondAlike {T} tapes sessions = (node other : Node T) (query : List ℕ) (response another : Response) → WasOnce sessions node → WasOnce sessions other →
     AskedAlike query node.parts.history other.parts.history → HasResponded tapes node query response → HasResponded tapes other query another →
@@ -110,7 +114,8 @@ GetAlike {T} tapes sessions = (moment later : ℕ) (nodes others : List (Node T)
 
 -- ---- all of it
 
--- Whatever runs of the program a folder has seen: its nodes agree, go on and answer alike across them.
+-- Whatever runs of the program a folder has seen: its nodes agree, go on and answer alike across
+-- them.
 pub record AreOneFarm {T : Type 0} (tapes : Tape T) (sessions : List (Session T)) : Type 0 where
   pub history : HasOneHistory sessions
   pub definition : HaveOneDefinition sessions

@@ -1,4 +1,5 @@
--- An example: a node on a disk in memory that is opened, takes a step, loses its power, and is opened again.
+-- An example: a node on a disk in memory that is opened, takes a step, loses its power, and is
+-- opened again.
 use Rattle.std.specs.Prelude.{◌≡◌, ℕ, List, [], ◌∷◌, length}
 use Rattle.wf_career.specs.Run.{IsOpenedFrom}
 use Rattle.wf_node.specs.Images.{StandsFor}
@@ -13,7 +14,8 @@ pub record IsOpenedAgain {T : Type 0} (n i : ℕ) (node again : Node T) : Type 0
   pub stands : StandsFor (stored_of node) bytes
   pub opened : IsOpenedFrom n i bytes again
 
--- Two sessions on one folder that was new, of one node: it took a step in the first, and the second opened it as this one.
+-- Two sessions on one folder that was new, of one node: it took a step in the first, and the second
+-- opened it as this one.
 pub record AreTwoSessions {T : Type 0} (tapes : Tape T) (again : Node T) : Type 0 where
   pub first : Session T
   pub second : Session T

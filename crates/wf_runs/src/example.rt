@@ -16,8 +16,9 @@ use wf_tape::{DiskTape, Tape};
 /// A tape on a disk in memory.
 pub type MemoryDiskTape = DiskTape<MemoryDisk>;
 
-/// A node on a new disk proposes a map; then the power is cut, which leaves of an earlier file, `back` changes of names ago, `keep` bytes that
-/// weren't synced (`MemoryDisk::cut`); and the node is opened again from what is left. Returns it. Err if an allocation fails.
+/// A node on a new disk proposes a map; then the power is cut, which leaves of an earlier file,
+/// `back` changes of names ago, `keep` bytes that weren't synced (`MemoryDisk::cut`); and the node
+/// is opened again from what is left. Returns it. Err if an allocation fails.
 pub fn run_twice(
     alloc: Global,
     map: Canon,
@@ -47,7 +48,8 @@ fn node_0() -> NodeId
     NodeId::new(0).unwrap()
 }
 
-/// Node `id` of `n`, opened on a disk and its tape shortened, as `serve` opens each of its nodes on a file. Err if an allocation or the disk fails.
+/// Node `id` of `n`, opened on a disk and its tape shortened, as `serve` opens each of its nodes on
+/// a file. Err if an allocation or the disk fails.
 pub fn open_on(
     alloc: Global,
     disk: MemoryDisk,
@@ -73,7 +75,8 @@ pub fn open_on(
     }
 }
 
-/// The power of a running node is cut, and it is opened again, as node `id` of `n`. Err if an allocation or the disk fails.
+/// The power of a running node is cut, and it is opened again, as node `id` of `n`. Err if an
+/// allocation or the disk fails.
 pub fn restart(
     alloc: Global,
     node: Node<MemoryDiskTape>,

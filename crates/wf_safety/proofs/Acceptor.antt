@@ -77,7 +77,8 @@ module _ {V : Type 0} (n i : ℕ) (stored : DurableState V) (volatile : Volatile
 
   -- ---- a ballot that comes too late is answered with a Nack, with the promise
 
-  -- Both ballots of a Nack are in messages: the late one in its own, the promise's in the request for it.
+  -- Both ballots of a Nack are in messages: the late one in its own, the promise's in the request
+  -- for it.
   nack_facts : (s : ℕ) (b : Ballot) (promise : Option Ballot) → Stands sent b → stored.promise ≡ promise → is_rejected promise b ≡ true →
       TransitionFacts n i stored sent (only_sends volatile (nack i s b promise))
   nack_facts s b None stands promise refused = absurd (false≢true refused)
@@ -138,8 +139,9 @@ module _ {V : Type 0} (n i : ℕ) (stored : DurableState V) (volatile : Volatile
   abbrev reported : ℕ → List (Option (Vote V))
   reported s = votes_from stored.votes s window
 
-  -- A Promise is sent after its record: the new promise isn't below its ballot; the reported votes are the stored ones, none of
-  -- which is below any vote that this node sent at that sequence, and all of which are below the ballot that it now promises.
+  -- A Promise is sent after its record: the new promise isn't below its ballot; the reported votes
+  -- are the stored ones, none of which is below any vote that this node sent at that sequence, and
+  -- all of which are below the ballot that it now promises.
   promise_may : (s : ℕ) (b : Ballot) → published stored < s → is_above stored.promise b ≡ true → IsIn (Prepare s b) sent → Stands sent b →
       MaySend n i (with_promise stored b) sent (Promise i s b (reported s))
   promise_may s b is_open lower is_sent stands = record {
@@ -223,8 +225,8 @@ module _ {V : Type 0} (n i : ℕ) (stored : DurableState V) (volatile : Volatile
       } in
       sends_facts n i stored sent volatile (Accepted i s b ∷ []) facts.stored facts.volatile (tt, tt) (may, tt)
 
-  -- A vote is sent after its record: the promise isn't below its ballot then, the vote is at it, and no promise of this node is
-  -- above it.
+  -- A vote is sent after its record: the promise isn't below its ballot then, the vote is at it,
+  -- and no promise of this node is above it.
   vote_may : (s : ℕ) (b : Ballot) (d : V) → published stored < s → is_rejected (stored.promise) b ≡ false → IsIn (Accept s b d) sent →
       MaySend n i (with_vote stored s b d) sent (Accepted i s b)
   vote_may s b d is_open lower is_sent = record {

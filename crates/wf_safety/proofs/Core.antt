@@ -1,4 +1,5 @@
--- The proof of agreement, from the messages' facts alone: what was chosen at a ballot is carried by each Accept at a later one.
+-- The proof of agreement, from the messages' facts alone: what was chosen at a ballot is carried by
+-- each Accept at a later one.
 use Rattle.std.proofs.Common.{◌≡◌, ◌⊎◌, ℕ, Bool, true, false, List, Option, Some, None, sym, subst, ◌∙◌, inl, inr}
 use Rattle.std.proofs.lemmas.Bool.{both_ways}
 use Rattle.wf_ballot.specs.Ballot.{Ballot, below}
@@ -21,8 +22,8 @@ module _ {V : Type 0} (n : ℕ) (sent : List (Message V)) (facts : MessageFacts 
   abbrev Carries : Ballot → Type 0
   Carries c = (e : V) → below b c ≡ true → IsIn (Accept s c e) sent → e ≡ d
 
-  -- The best reported vote isn't below b: some node both voted at b and promised at c, and reported that vote or a later one. So
-  -- it is the vote at b, or a later Accept carried it.
+  -- The best reported vote isn't below b: some node both voted at b and promised at c, and reported
+  -- that vote or a later one. So it is the vote at b, or a later Accept carried it.
   of_best : (base : ℕ) (c : Ballot) (e : V) (best : Vote V) → ((a : Ballot) → below a c ≡ true → Carries a) → below best.ballot b ≡ false → (nodes : ℕ → Bool) →
       IsReported sent base s c nodes best → e ≡ best.definition → e ≡ d
   of_best base c e best earlier not_below nodes reports carried =

@@ -1,5 +1,5 @@
--- What holds in every reached world: facts of the messages alone, of what a node stored, of its running proposal and of its
--- leadership. And what a message must satisfy for a node to send it.
+-- What holds in every reached world: facts of the messages alone, of what a node stored, of its
+-- running proposal and of its leadership. And what a message must satisfy for a node to send it.
 use Rattle.std.proofs.Common.{◌≡◌, ◌⊎◌, ℕ, ◌<◌, ◌≤◌, Bool, true, false, List, [], ◌∷◌, ◌++◌, Option, Some, None}
 use Rattle.std.specs.Prelude.{⊤}
 use Rattle.wf_ballot.specs.Ballot.{Ballot, below}
@@ -23,7 +23,8 @@ pub record Stands {V : Type 0} (sent : List (Message V)) (b : Ballot) : Type 0 w
 abbrev pub IsAsked : {V : Type 0} → List (Message V) → ℕ → Vote V → Type 0
 IsAsked sent s vote = IsIn (Accept s vote.ballot vote.definition) sent
 
--- the votes are those of a whole Promise from `base` on: it reports one, or that there is none, at each sequence of its window
+-- the votes are those of a whole Promise from `base` on: it reports one, or that there is none, at
+-- each sequence of its window
 abbrev pub IsWhole : {V : Type 0} → ℕ → List (Option (Vote V)) → Type 0
 IsWhole {V} base votes = (s : ℕ) → IsInWindow base s → (vote : Option (Vote V)) × Reports base votes s vote
 
@@ -42,7 +43,8 @@ pub record MessageFacts {V : Type 0} (n : ℕ) (sent : List (Message V)) : Type 
   pub requested : (i s : ℕ) (b : Ballot) (votes : List (Option (Vote V))) → IsIn (Promise i s b votes) sent → IsIn (Prepare s b) sent
   pub one_accept : (s : ℕ) (b : Ballot) (c d : V) → IsIn (Accept s b c) sent → IsIn (Accept s b d) sent → c ≡ d
   pub backed : (s : ℕ) (b : Ballot) (d : V) → IsIn (Accept s b d) sent → IsBacked n sent s b d
-  -- at each sequence of its report, a node that promised at b had reported each vote that it sent below b, or a later one
+  -- at each sequence of its report, a node that promised at b had reported each vote that it sent
+  -- below b, or a later one
   pub reports : (i base s : ℕ) (b c : Ballot) (vote : Option (Vote V)) → Reported sent base s b vote i → IsIn (Accepted i s c) sent →
       below c b ≡ true → VoteNotBelow vote c
   pub reported_asked : (i base s : ℕ) (b : Ballot) (vote : Vote V) → Reported sent base s b (Some vote) i → IsAsked sent s vote
@@ -54,7 +56,8 @@ pub record MessageFacts {V : Type 0} (n : ℕ) (sent : List (Message V)) : Type 
   pub voters : (i s : ℕ) (b : Ballot) → IsIn (Accepted i s b) sent → i < n
   -- a Promise reports inside its window alone
   pub within : (i base s : ℕ) (b : Ballot) (vote : Option (Vote V)) → Reported sent base s b vote i → IsInWindow base s
-  -- a Prepare and an Accept are for a sequence before which all are chosen, and a vote answers an Accept
+  -- a Prepare and an Accept are for a sequence before which all are chosen, and a vote answers an
+  -- Accept
   pub prepared_next : (s : ℕ) (b : Ballot) → IsIn (Prepare s b) sent → IsNext n sent s
   pub asked_next : (s : ℕ) (b : Ballot) (d : V) → IsIn (Accept s b d) sent → IsNext n sent s
   pub answered : (i s : ℕ) (b : Ballot) → IsIn (Accepted i s b) sent → IsAskedAt sent s b
@@ -66,13 +69,15 @@ pub record DurableFacts {V : Type 0} (n i : ℕ) (stored : DurableState V) (sent
   pub tried : (s : ℕ) (b : Ballot) (d : V) → IsIn (Accept s b d) sent → b.node ≡ i → published stored < s → b.round ≤ stored.tried
   -- votes are of open sequences alone
   pub open_votes : (s : ℕ) → s ≤ published stored → stored.votes s ≡ None
-  -- While a sequence of a promise's window is open, node i still has that promise, or a higher one; and while a sequence is open
-  -- for which it sent a vote, its promise isn't below that, and it has that vote, or a later one.
+  -- While a sequence of a promise's window is open, node i still has that promise, or a higher one;
+  -- and while a sequence is open for which it sent a vote, its promise isn't below that, and it has
+  -- that vote, or a later one.
   pub promised : (s : ℕ) (b : Ballot) (votes : List (Option (Vote V))) → IsIn (Promise i s b votes) sent → (t : ℕ) → IsInWindow s t → published stored < t →
       NotBelow stored.promise b
   pub accepted : (s : ℕ) (b : Ballot) → IsIn (Accepted i s b) sent → published stored < s → NotBelow stored.promise b
   pub voted : (s : ℕ) (b : Ballot) → IsIn (Accepted i s b) sent → published stored < s → VoteNotBelow (stored.votes s) b
-  -- an Accept was sent for a stored vote, which isn't above the promise, whose ballot is in a message
+  -- an Accept was sent for a stored vote, which isn't above the promise, whose ballot is in a
+  -- message
   pub vote_asked : (s : ℕ) (vote : Vote V) → stored.votes s ≡ Some vote → IsAsked sent s vote
   pub vote_within : (s : ℕ) (vote : Vote V) → stored.votes s ≡ Some vote → NotBelow stored.promise vote.ballot
   pub promise_stands : (b : Ballot) → stored.promise ≡ Some b → Stands sent b
@@ -108,15 +113,16 @@ ProposingFacts i stored sent (Overtaken s) = ⊤
 
 -- ---- the leadership
 
--- the last sequence for which a leader may have asked for votes: the next one while a proposal runs, else the last published one
+-- the last sequence for which a leader may have asked for votes: the next one while a proposal
+-- runs, else the last published one
 abbrev pub last_asked : {V : Type 0} → DurableState V → Proposing V → ℕ
 last_asked stored Idle = published stored
 last_asked stored (Running p) = next_sequence stored
 last_asked stored (Won s) = published stored
 last_asked stored (Overtaken s) = published stored
 
--- Its ballot is its node's own, and no Accept at it is for a sequence after the last one asked. The nodes are a majority that
--- promised, and its votes are the best that these reported.
+-- Its ballot is its node's own, and no Accept at it is for a sequence after the last one asked. The
+-- nodes are a majority that promised, and its votes are the best that these reported.
 pub record LeadershipFacts {V : Type 0} (n i : ℕ) (stored : DurableState V) (sent : List (Message V)) (last : ℕ) (l : Leadership V) : Type 0 where
   pub own : l.ballot.node ≡ i
   pub tried : l.ballot.round ≤ stored.tried

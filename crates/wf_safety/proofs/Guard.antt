@@ -1,5 +1,5 @@
--- The guard covers: what half of all nodes had stored since a node's last message bounds all that it may have said. And agreement
--- under the guard.
+-- The guard covers: what half of all nodes had stored since a node's last message bounds all that
+-- it may have said. And agreement under the guard.
 use Rattle.std.proofs.Common.{◌≡◌, ◌≢◌, ℕ, zero, suc, ◌+◌, ◌*◌, ◌<◌, ◌≤◌, Bool, List, [], ◌∷◌, ◌++◌, slice_get, Option, Some, None, refl, sym, subst, ◌∙◌, inl, inr, arith}
 use Rattle.std.proofs.lemmas.Bool.{cases_lt}
 use Rattle.std.proofs.lemmas.Option.{none-some}
@@ -188,7 +188,8 @@ module _ {V : Type 0} (same : V → V → Bool) (n : ℕ) where
 -- ---- up to m
 
 module _ {V : Type 0} (same : V → V → Bool) (n i m : ℕ) (w : World V) (since : List (Change V)) (facts : WorldFacts n w) (covered : AreCovered same n w since) (guard : Guard same n w since i m) where
-  -- A vote that was sent by then is stored, or a later one is, until its sequence is published: so it is for a sequence up to m.
+  -- A vote that was sent by then is stored, or a later one is, until its sequence is published: so
+  -- it is for a sequence up to m.
   vote_by : (j s : ℕ) (b : Ballot) (stored : DurableState V) (sent : List (Message V)) → DurableFacts n j stored sent → IsIn (Accepted j s b) sent → IsUpTo stored m → s ≤ m
   vote_by j s b stored sent known is_in up_to = elim (cases_lt m s) [
     | inl later ↦

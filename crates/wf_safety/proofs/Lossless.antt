@@ -1,5 +1,6 @@
--- What holds in runs in which no node loses what it stored, beyond the facts of all runs: a round is never used again, so promises
--- are requested at a ballot from one sequence on; a promise binds its node for ever; and no vote below it follows.
+-- What holds in runs in which no node loses what it stored, beyond the facts of all runs: a round
+-- is never used again, so promises are requested at a ballot from one sequence on; a promise binds
+-- its node for ever; and no vote below it follows.
 use Rattle.std.proofs.Common.{◌≡◌, ℕ, ◌<◌, ◌≤◌, Bool, false, List, [], ◌∷◌, ◌++◌, slice_get, slice_set, Option, Some, None, refl, sym, subst, ◌∙◌, inl, inr, arith, append_assoc, append-nil}
 use Rattle.std.specs.Prelude.{⊤}
 use Rattle.std.proofs.lemmas.Bool.{cases_eq}
@@ -61,7 +62,8 @@ VotesInOrder-last [] (Ask s) h k = (tt, tt)
 VotesInOrder-last (message ∷ later) last h k =
     (one_later message later last h.0 (k message (inl refl)), VotesInOrder-last later last h.1 (λ m is_in. k m (inr is_in)))
 
--- Of the messages before it only a Promise forbids a vote, and a vote is sent only at a ballot that its node's promise isn't above.
+-- Of the messages before it only a Promise forbids a vote, and a vote is sent only at a ballot that
+-- its node's promise isn't above.
 none_below : {V : Type 0} (n i : ℕ) (stored : DurableState V) (sent : List (Message V)) (last : Message V) → NodeMemory i stored sent → IsMeet n i stored sent last →
     (message : Message V) → IsIn message sent → NoneBelowLast message last
 none_below n i stored sent last memory meet (Prepare s b) is_in = tt

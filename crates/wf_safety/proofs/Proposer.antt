@@ -1,4 +1,5 @@
--- The transitions of a node that proposes or leads, and those for a chosen definition; and the whole table.
+-- The transitions of a node that proposes or leads, and those for a chosen definition; and the
+-- whole table.
 use Rattle.std.proofs.Common.{◌≡◌, ℕ, ◌+◌, ◌<◌, ◌≤◌, ◌==◌, nat_lt, nat_le, max, cond, Bool, true, false, is_some, List, [], ◌∷◌, ◌++◌, Option, Some, None, refl, sym, ap, subst, ◌∙◌, inl, inr, arith, le_refl, append-nil, eqb-true, leb-true, leb-false, ltb-true}
 use Rattle.std.specs.Prelude.{⊤}
 use Rattle.std.proofs.lemmas.Bool.{false≢true, true≢false, and_parts, cases_lt}
@@ -136,8 +137,9 @@ module _ {V : Type 0} (n i : ℕ) (stored : DurableState V) (sent : List (Messag
   unfolding first_vote from_sequence
   nothing_reported b all s t = tt
 
-  -- The round is stored before the Prepare is sent, so this node has tried the ballot's round; no Accept of it for an open sequence
-  -- was sent, since it tried no such round before; and no answer is counted yet.
+  -- The round is stored before the Prepare is sent, so this node has tried the ballot's round; no
+  -- Accept of it for an open sequence was sent, since it tried no such round before; and no answer
+  -- is counted yet.
   begin_facts : (own : V) (round : ℕ) → i < n → stored.tried < round → next_sequence stored ≤ last_sequence → DurableFacts n i stored sent → TransitionFacts n i stored sent (begin_at i stored own round)
   unfolding begin_at stores store with_record published next_sequence nobody
   begin_facts own round is_node higher is_sequence facts =
@@ -182,8 +184,8 @@ module _ {V : Type 0} (n i : ℕ) (stored : DurableState V) (sent : List (Messag
 
   -- ---- votes are asked for
 
-  -- The Accept is sent for the best vote that the leadership's majority reported at its sequence. So that majority backs it; and no
-  -- other Accept at this ballot and sequence was sent.
+  -- The Accept is sent for the best vote that the leadership's majority reported at its sequence.
+  -- So that majority backs it; and no other Accept at this ballot and sequence was sent.
   ask_votes_facts : (l : Leadership V) (p : Proposal V) (last : ℕ) → i < n → DurableFacts n i stored sent → LeadershipFacts n i stored sent last l →
       p.ballot ≡ l.ballot → p.sequence ≡ next_sequence stored → p.phase ≡ Accepting → p.responders ≡ nobody → first_vote p.best ≡ vote_of l.base l.best p.sequence →
       IsInWindow l.base p.sequence → last ≤ next_sequence stored → ((d : V) → IsIn (Accept p.sequence l.ballot d) sent → ⊥) → TransitionFacts n i stored sent (ask_votes l p)
@@ -246,8 +248,9 @@ module _ {V : Type 0} (n i : ℕ) (stored : DurableState V) (sent : List (Messag
 
   -- ---- a promise is received
 
-  -- The nodes counted before reported, at each sequence, votes within the best one before, so within the better one; the node
-  -- counted now reported its votes, and the better ones aren't below them.
+  -- The nodes counted before reported, at each sequence, votes within the best one before, so
+  -- within the better one; the node counted now reported its votes, and the better ones aren't
+  -- below them.
   with_promise_facts : (p : Proposal V) (sender : ℕ) (votes : List (Option (Vote V))) → PreparingFacts sent p → IsWhole p.sequence votes →
       IsIn (Promise sender p.sequence p.ballot votes) sent → PreparingFacts sent (with_promise p sender votes)
   unfolding with_promise
@@ -444,8 +447,8 @@ module _ {V : Type 0} (n i : ℕ) (stored : DurableState V) (sent : List (Messag
   -- ---- votes are received, and a chosen definition
 
   module _ (same : V → V → Bool) where
-    -- A running proposal ends when a definition is published; a leadership stays, and the last sequence that it may have asked for
-    -- is published then.
+    -- A running proposal ends when a definition is published; a leadership stays, and the last
+    -- sequence that it may have asked for is published then.
     ended_facts : (before : DurableState V) (all : List (Message V)) (p : Proposal V) (d : V) → ProposingFacts i before all (ended same p d)
     unfolding ended
     ended_facts before all p d = ends_by (same p.own d)
@@ -540,7 +543,8 @@ module _ {V : Type 0} (n i : ℕ) (stored : DurableState V) (sent : List (Messag
     voted_by volatile p q false is_node facts is_it at_work proposal accepting e same_end =
         rw e (quiet_facts n i stored sent (with_proposal volatile q) facts (with_proposal_facts volatile p q is_it at_work proposal))
 
-    -- The node counted now sent its vote at this sequence and ballot; the others were counted before.
+    -- The node counted now sent its vote at this sequence and ballot; the others were counted
+    -- before.
     received_vote : (volatile : VolatileState V) (p : Proposal V) (sender : ℕ) → NodeFacts n i stored volatile sent → volatile.proposing ≡ Running p →
         p.phase ≡ Accepting → IsIn (Accepted sender p.sequence p.ballot) sent → TransitionFacts n i stored sent (voted same n volatile (with_vote p sender))
     unfolding with_vote proposed ended

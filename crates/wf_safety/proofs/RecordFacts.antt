@@ -1,4 +1,5 @@
--- A record is stored, no message is sent, and what its node stored keeps its facts. This is a crash within a step too.
+-- A record is stored, no message is sent, and what its node stored keeps its facts. This is a crash
+-- within a step too.
 use Rattle.std.proofs.Common.{◌≡◌, ◌⊎◌, ℕ, zero, suc, ◌+◌, ◌<◌, ◌≤◌, Bool, true, false, cond, nat_lt, le_refl, List, [], ◌∷◌, ◌++◌, length, slice_get, Option, Some, None, refl, sym, ap, subst, inl, inr, arith, length-append, lt-ltb}
 use Rattle.std.proofs.lemmas.Option.{none-some, same_Some}
 use Rattle.wf_ballot.specs.Ballot.{Ballot, below}
@@ -161,7 +162,8 @@ module _ {V : Type 0} (n i : ℕ) (stored : DurableState V) (sent : List (Messag
   pub store_promised : (s : ℕ) (b : Ballot) → Stands sent b → DurableFacts n i stored sent → DurableFacts n i (with_record stored (Promised s b)) sent
   store_promised s b stands facts = subst (λ x. DurableFacts n i x sent) (sym (is_promised stored s b)) (promised_facts b stands facts)
 
-  -- The promise is raised, and at s the vote is at b now, which isn't below the old promise. Elsewhere no vote changed.
+  -- The promise is raised, and at s the vote is at b now, which isn't below the old promise.
+  -- Elsewhere no vote changed.
   accepted_facts : (s : ℕ) (b : Ballot) (d : V) → published stored < s → is_rejected stored.promise b ≡ false → IsIn (Accept s b d) sent → DurableFacts n i stored sent →
       DurableFacts n i (with_vote stored s b d) sent
   unfolding published
@@ -197,8 +199,8 @@ module _ {V : Type 0} (n i : ℕ) (stored : DurableState V) (sent : List (Messag
   unfolding published
   same_sequence s t first second = omega arith
 
-  -- The sequence is published, so nothing more is required of its vote, which is removed. The promise stays, and elsewhere no vote
-  -- changed; the new definition is chosen.
+  -- The sequence is published, so nothing more is required of its vote, which is removed. The
+  -- promise stays, and elsewhere no vote changed; the new definition is chosen.
   pub store_published : (s : ℕ) (d : V) → s ≡ published stored + 1 → IsChosen n sent s d → DurableFacts n i stored sent → DurableFacts n i (with_record stored (Published s d)) sent
   unfolding with_record
   store_published s d is_next is_chosen facts =

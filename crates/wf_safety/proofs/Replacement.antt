@@ -1,4 +1,5 @@
--- A replacement whose state covers what its node may have said keeps all facts, and the node's published list.
+-- A replacement whose state covers what its node may have said keeps all facts, and the node's
+-- published list.
 use Rattle.std.proofs.Common.{◌≡◌, ℕ, zero, suc, ◌≤◌, Bool, List, [], ◌∷◌, ◌++◌, length, slice_get, Option, Some, None, refl, sym, ap, subst, ◌∙◌, arith}
 use Rattle.std.proofs.lemmas.Option.{none-some}
 use Rattle.wf_model.specs.Message.{Message}
@@ -14,7 +15,8 @@ use Rattle.wf_safety.proofs.Core.{one_chosen}
 use Rattle.wf_safety.proofs.Growth.{begins_itself, begins_through, set_grows, happens_grows}
 use Rattle.wf_safety.proofs.Theorems.{agreement_in}
 
--- Whatever its node sent is of sequences that are published now, so nothing more is required of a vote or a promise.
+-- Whatever its node sent is of sequences that are published now, so nothing more is required of a
+-- vote or a promise.
 pub covered_facts : {V : Type 0} (n i : ℕ) (old stored : DurableState V) (sent : List (Message V)) → Covers n sent i old stored → DurableFacts n i stored sent
 covered_facts n i old stored sent covers = record {
   tried = λ s b d is_in of_i is_open. let closed : s ≤ published stored = covers.asked s b d is_in of_i in absurd (omega arith);

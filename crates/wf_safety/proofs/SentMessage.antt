@@ -1,4 +1,5 @@
--- One message is sent, and all facts stay: those of the messages, of the sending node, of every other node.
+-- One message is sent, and all facts stay: those of the messages, of the sending node, of every
+-- other node.
 use Rattle.std.proofs.Common.{◌≡◌, ℕ, ◌<◌, List, [], ◌∷◌, ◌++◌, Option, sym, subst, inl, inr}
 use Rattle.std.proofs.lemmas.Bool.{both_ways}
 use Rattle.wf_ballot.specs.Ballot.{Ballot, below}
@@ -26,9 +27,9 @@ module _ {V : Type 0} (n i : ℕ) (stored : DurableState V) (sent : List (Messag
       Reported sent base s b vote j
   still_reported promise h = record { votes = promise.votes; stated = h; reported = promise.reported }
 
-  -- Each fact is of messages in the longer list. Of old ones it is known, and stays true in a longer list; of the
-  -- last one it is what such a message must meet. Of two messages that are both the last one it is plain, or they
-  -- are of different kinds.
+  -- Each fact is of messages in the longer list. Of old ones it is known, and stays true in a
+  -- longer list; of the last one it is what such a message must meet. Of two messages that are both
+  -- the last one it is plain, or they are of different kinds.
   pub send_messages : MessageFacts n sent → MaySend n i stored sent last → MessageFacts n (sent ++ last ∷ [])
   send_messages facts may = record {
     requested = λ j s b votes.
@@ -96,7 +97,8 @@ module _ {V : Type 0} (n i : ℕ) (stored : DurableState V) (sent : List (Messag
 
   -- ---- the node that sends
 
-  -- What this node must still have, of old messages it is known to have; of the last one it is what that must meet.
+  -- What this node must still have, of old messages it is known to have; of the last one it is what
+  -- that must meet.
   pub send_own : DurableFacts n i stored sent → MaySend n i stored sent last → DurableFacts n i stored (sent ++ last ∷ [])
   send_own facts may = record {
     tried = λ s b d is_in of_i is_open.
@@ -120,8 +122,8 @@ module _ {V : Type 0} (n i : ℕ) (stored : DurableState V) (sent : List (Messag
 
   -- ---- every other node
 
-  -- The last message is this node's: it is no promise and no vote of another one, and each ballot in it is its own or was in a
-  -- message before.
+  -- The last message is this node's: it is no promise and no vote of another one, and each ballot
+  -- in it is its own or was in a message before.
   pub send_other : (j : ℕ) (other : DurableState V) → (j ≡ i → ⊥) → DurableFacts n j other sent → MaySend n i stored sent last → DurableFacts n j other (sent ++ last ∷ [])
   send_other j other differs facts may = record {
     tried = λ s b d is_in of_j is_open.

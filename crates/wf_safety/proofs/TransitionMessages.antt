@@ -1,4 +1,5 @@
--- The messages of a transition are sent: none, one, or a list. And what a running proposal and a leadership keep meanwhile.
+-- The messages of a transition are sent: none, one, or a list. And what a running proposal and a
+-- leadership keep meanwhile.
 use Rattle.std.proofs.Common.{◌≡◌, ℕ, ◌+◌, ◌<◌, ◌≤◌, List, [], ◌∷◌, ◌++◌, zero, suc, Option, Some, None, refl, sym, subst, inl, inr, arith, append_assoc, append-nil}
 use Rattle.std.specs.Prelude.{⊤}
 use Rattle.wf_ballot.specs.Ballot.{Ballot}

@@ -206,7 +206,8 @@ module _ {V : Type 0} (n : ℕ) (w : World V) (facts : WorldFacts n w) (i : ℕ)
   other_running t known j stored (Some volatile) differs h =
       volatile_other n i (store t.stored t.transition.entry) w.sent t.transition.messages j stored volatile differs known.step.sends h
 
-  -- Node i is what its transition makes of it, and every other node keeps its facts while the transition's messages are sent.
+  -- Node i is what its transition makes of it, and every other node keeps its facts while the
+  -- transition's messages are sent.
   after_members : (t : Turn V) (known : TurnFacts n w i t) (j : ℕ) (node : Node V) →
       slice_get (slice_set w.nodes i (record { stored = store t.stored t.transition.entry; volatile = Some t.transition.volatile })) j ≡ Some node →
       MemberFacts n j (w.sent ++ t.transition.messages) node

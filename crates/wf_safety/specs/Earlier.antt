@@ -1,4 +1,5 @@
--- Messages sent before all messages of a world: they shift the numbers of its messages, and change nothing else.
+-- Messages sent before all messages of a world: they shift the numbers of its messages, and change
+-- nothing else.
 use Rattle.std.specs.Prelude.{◌≡◌, ℕ, ◌+◌, Bool, List, [], ◌∷◌, ◌++◌, length}
 use Rattle.wf_model.specs.Message.{Message}
 use Rattle.wf_model.specs.Table as table
@@ -27,7 +28,8 @@ unfoldable pub raised : {V : Type 0} → ℕ → List (Event V) → List (Event 
 raised many [] = []
 raised many (event ∷ events) = raised_event many event ∷ raised many events
 
--- Events lead from a world to the same world with any messages sent before, once each message number is increased by their count.
+-- Events lead from a world to the same world with any messages sent before, once each message
+-- number is increased by their count.
 abbrev pub EarlierMessages : Type 0 → Type 0
 EarlierMessages V = (same : V → V → Bool) (earlier : List (Message V)) (w : World V) (events : List (Event V)) →
     steps same (sent_before earlier w) (raised (length earlier) events) ≡ sent_before earlier (steps same w events)

@@ -1,5 +1,5 @@
--- A node that lost its disk goes on from another stored state: runs with such replacements, what that state must have, and the
--- theorems.
+-- A node that lost its disk goes on from another stored state: runs with such replacements, what
+-- that state must have, and the theorems.
 use Rattle.std.specs.Prelude.{◌≡◌, ◌≢◌, ◌⊎◌, ℕ, suc, ◌+◌, ◌*◌, ◌<◌, ◌≤◌, Bool, true, ⊤, List, [], ◌∷◌, ◌++◌, slice_get, Option, Some, None}
 use Rattle.wf_ballot.specs.Ballot.{Ballot}
 use Rattle.wf_ballot.specs.Majority.{count_nodes}
@@ -13,7 +13,8 @@ use Rattle.wf_safety.specs.Theorems.{NodeHas, node_of, IsInWindow, IsBeginning, 
 
 -- ---- runs with replacements
 
--- A change of a world: an event of the model; or a replacement, by which a stopped node's stored state becomes this one.
+-- A change of a world: an event of the model; or a replacement, by which a stopped node's stored
+-- state becomes this one.
 pub data Change (V : Type 0) : Type 0 where
   Occurs : (event : Event V) → Change V
   Replaces : (node : ℕ) (stored : DurableState V) → Change V
@@ -61,8 +62,9 @@ pub record HasChosenAlone {V : Type 0} (n : ℕ) (sent : List (Message V)) (stor
   pub copy : IsCopy stored
   pub chosen : AreChosen n sent stored.history
 
--- The state, which has chosen definitions alone, covers all that node i may have said while its stored state was the old one: it
--- has published as much, and as far as each sequence at which i voted or asked for votes, and as the window of each of its promises.
+-- The state, which has chosen definitions alone, covers all that node i may have said while its
+-- stored state was the old one: it has published as much, and as far as each sequence at which i
+-- voted or asked for votes, and as the window of each of its promises.
 pub record Covers {V : Type 0} (n : ℕ) (sent : List (Message V)) (i : ℕ) (old stored : DurableState V) : Type 0 where
   pub chosen_alone : HasChosenAlone n sent stored
   pub grown : published old ≤ published stored
@@ -80,8 +82,9 @@ abbrev pub AreCovered : {V : Type 0} → (V → V → Bool) → ℕ → World V 
 AreCovered same n w [] = ⊤
 AreCovered same n w (change ∷ rest) = IsCovered n w change × AreCovered same n (world_changed same w change) rest
 
--- If each replacement's state covers what its node may have said, agreement holds at every time, and no published list loses a
--- definition, through replacements too. A run of events alone is such a run.
+-- If each replacement's state covers what its node may have said, agreement holds at every time,
+-- and no published list loses a definition, through replacements too. A run of events alone is such
+-- a run.
 pub record AgreementWithReplacements (V : Type 0) : Type 0 where
   pub facts : (same : V → V → Bool) (n : ℕ) (list : List (Change V)) → AreCovered same n (start n) list → AgreementIn n (after_changes same n list)
   pub grows : (same : V → V → Bool) (n i : ℕ) (list more : List (Change V)) → AreCovered same n (start n) (list ++ more) →
@@ -115,8 +118,8 @@ abbrev pub AreElsewhere : {V : Type 0} → ℕ → List (Change V) → Type 0
 AreElsewhere i [] = ⊤
 AreElsewhere i (change ∷ rest) = (node_changed change ≢ i) × AreElsewhere i rest
 
--- Since node i did anything, at least half of all n nodes were asked, each at a moment of its own, and P held of what they had
--- stored then.
+-- Since node i did anything, at least half of all n nodes were asked, each at a moment of its own,
+-- and P held of what they had stored then.
 pub record HeldOfHalf {V : Type 0} (same : V → V → Bool) (n : ℕ) (w : World V) (since : List (Change V)) (i : ℕ) (P : DurableState V → Type 0) : Type 0 where
   pub silent : AreElsewhere i since
   pub asked : ℕ → Bool
@@ -131,7 +134,8 @@ Guard {V} same n w since i m = HeldOfHalf same n w since i (λ (stored : Durable
 abbrev pub HasWindowAfter : {V : Type 0} → ℕ → DurableState V → Type 0
 HasWindowAfter m stored = (m + window ≤ published stored) ⊎ (last_sequence ≤ published stored)
 
--- Under the guard each state that has chosen definitions alone, up to a window after m, covers what node i may have said.
+-- Under the guard each state that has chosen definitions alone, up to a window after m, covers what
+-- node i may have said.
 abbrev pub GuardCovers : Type 0 → Type 0
 GuardCovers V = (same : V → V → Bool) (n i m : ℕ) (before since : List (Change V)) (old stored : DurableState V) →
     AreCovered same n (start n) (before ++ since) → Guard same n (after_changes same n before) since i m →
@@ -140,8 +144,8 @@ GuardCovers V = (same : V → V → Bool) (n i m : ℕ) (before since : List (Ch
 
 -- ---- agreement under the guard
 
--- A replacement after these changes: the guard holds of some last part of them; and the state is a copy of what some node had
--- published by then, up to a window after what was asked.
+-- A replacement after these changes: the guard holds of some last part of them; and the state is a
+-- copy of what some node had published by then, up to a window after what was asked.
 pub record IsGuarded {V : Type 0} (same : V → V → Bool) (n : ℕ) (changes : List (Change V)) (i : ℕ) (stored : DurableState V) : Type 0 where
   pub before : List (Change V)
   pub since : List (Change V)
@@ -165,8 +169,8 @@ abbrev pub AreGuarded : {V : Type 0} → (V → V → Bool) → ℕ → List (Ch
 AreGuarded same n before [] = ⊤
 AreGuarded same n before (change ∷ rest) = IsGuardedChange same n before change × AreGuarded same n (before ++ change ∷ []) rest
 
--- If each replacement is guarded, agreement holds at every time, and no published list loses a definition, through replacements
--- too: of whichever nodes, one after the other or at once.
+-- If each replacement is guarded, agreement holds at every time, and no published list loses a
+-- definition, through replacements too: of whichever nodes, one after the other or at once.
 pub record AgreementUnderGuard (V : Type 0) : Type 0 where
   pub facts : (same : V → V → Bool) (n : ℕ) (list : List (Change V)) → AreGuarded same n [] list → AgreementIn n (after_changes same n list)
   pub grows : (same : V → V → Bool) (n i : ℕ) (list more : List (Change V)) → AreGuarded same n [] (list ++ more) →
@@ -180,7 +184,8 @@ unfoldable pub published_from : {V : Type 0} → ℕ → List V → List (Record
 published_from s [] = []
 published_from s (d ∷ definitions) = Published s d ∷ published_from (suc s) definitions
 
--- A tape of published records alone folds to a state that has these definitions, and chosen ones alone.
+-- A tape of published records alone folds to a state that has these definitions, and chosen ones
+-- alone.
 pub record IsCopiedTape {V : Type 0} (n : ℕ) (sent : List (Message V)) (definitions : List V) : Type 0 where
   pub stored : DurableState V
   pub folded : fold (published_from 1 definitions) ≡ Some stored

@@ -1,4 +1,5 @@
--- The agreement theorem and the theorems that it is built on, as statements about the world after any events.
+-- The agreement theorem and the theorems that it is built on, as statements about the world after
+-- any events.
 use Rattle.std.specs.Prelude.{◌≡◌, ℕ, ◌+◌, ◌<◌, ◌≤◌, Bool, true, false, ⊤, List, [], ◌∷◌, ◌++◌, length, drop, slice_get, Option, Some, None}
 use Rattle.wf_ballot.specs.Ballot.{Ballot, below}
 use Rattle.wf_ballot.specs.Majority.{Majority}
@@ -59,7 +60,8 @@ node_of (world.Stop i) = i
 node_of (world.Restart i) = i
 node_of (world.Torn i action kept) = i
 
--- a node sends Prepare and Accept only at a ballot of its own, and its proposal at that ballot is running
+-- a node sends Prepare and Accept only at a ballot of its own, and its proposal at that ballot is
+-- running
 abbrev pub AsksForItself : {V : Type 0} → World V → ℕ → Message V → Type 0
 AsksForItself w i (Prepare s b) = (b.node ≡ i) × Proposes w i s b
 AsksForItself w i (Accept s b d) = (b.node ≡ i) × Proposes w i s b
@@ -71,8 +73,9 @@ pub record OwnBallotsIn {V : Type 0} (w : World V) : Type 0 where
   pub requested : (i s : ℕ) (b : Ballot) (votes : List (Option (Vote V))) → IsIn (Promise i s b votes) w.sent → IsIn (Prepare s b) w.sent
   pub one_accept : (s : ℕ) (b : Ballot) (c d : V) → IsIn (Accept s b c) w.sent → IsIn (Accept s b d) w.sent → c ≡ d
 
--- A ballot is used only by proposals of its own node; promises are requested at it from one sequence on, and votes for one
--- definition at each sequence, even after a restart that lost the volatile state.
+-- A ballot is used only by proposals of its own node; promises are requested at it from one
+-- sequence on, and votes for one definition at each sequence, even after a restart that lost the
+-- volatile state.
 pub record OwnBallots (V : Type 0) : Type 0 where
   pub facts : (same : V → V → Bool) (n : ℕ) (events : List (Event V)) → OwnBallotsIn (after same n events)
   pub asked : (same : V → V → Bool) (n : ℕ) (events : List (Event V)) (event : Event V) (message : Message V) →
@@ -103,8 +106,8 @@ pub record KeptPromisesIn {V : Type 0} (w : World V) : Type 0 where
   pub stored_vote : (i s : ℕ) (stored : DurableState V) (vote : Vote V) → NodeHas w i stored → stored.votes s ≡ Some vote → IsIn (Accept s vote.ballot vote.definition) w.sent
   pub reported_vote : (i base s : ℕ) (b : Ballot) (vote : Vote V) → Reported w.sent base s b (Some vote) i → IsIn (Accept s vote.ballot vote.definition) w.sent
 
--- A node keeps its promises: it stays bound, also after it published; it sends no vote below its promise; and for each vote that
--- it stores or reports an Accept was sent.
+-- A node keeps its promises: it stays bound, also after it published; it sends no vote below its
+-- promise; and for each vote that it stores or reports an Accept was sent.
 abbrev pub KeptPromises : Type 0 → Type 0
 KeptPromises V = (same : V → V → Bool) (n : ℕ) (events : List (Event V)) → KeptPromisesIn (after same n events)
 
@@ -120,7 +123,8 @@ abbrev pub AreReportsWithin : {V : Type 0} → Option (Vote V) → Option (Vote 
 AreReportsWithin None best = ⊤
 AreReportsWithin (Some vote) best = VoteNotBelow best vote.ballot
 
--- node i promised at the ballot from `base` on, and reported for the sequence a vote not above the best one, or none
+-- node i promised at the ballot from `base` on, and reported for the sequence a vote not above the
+-- best one, or none
 pub record HasPromised {V : Type 0} (sent : List (Message V)) (base s : ℕ) (b : Ballot) (best : Option (Vote V)) (i : ℕ) : Type 0 where
   pub vote : Option (Vote V)
   pub stated : Reported sent base s b vote i
@@ -148,8 +152,8 @@ pub record IsInWindow (base s : ℕ) : Type 0 where
   pub before_end : s < base + window
   pub is_sequence : s ≤ last_sequence
 
--- A majority promised at the ballot, all from one sequence on, at most three before s. And d is the definition of the highest vote
--- that they reported for s, or they reported none there.
+-- A majority promised at the ballot, all from one sequence on, at most three before s. And d is the
+-- definition of the highest vote that they reported for s, or they reported none there.
 pub record IsBacked {V : Type 0} (n : ℕ) (sent : List (Message V)) (s : ℕ) (b : Ballot) (d : V) : Type 0 where
   pub base : ℕ
   pub in_window : IsInWindow base s
@@ -177,8 +181,9 @@ pub record AgreementIn {V : Type 0} (n : ℕ) (w : World V) : Type 0 where
   pub reported_is_chosen : (s : ℕ) (d : V) → IsIn (Chosen s d) w.sent → IsChosen n w.sent s d
   pub same_definition : (empty : V) (i j s : ℕ) (c d : V) → definition empty w i s ≡ Some c → definition empty w j s ≡ Some d → c ≡ d
 
--- At every time, at most one definition is chosen for a sequence, and nodes publish only what is chosen. So no two nodes publish
--- different definitions under one sequence, and a node keeps what it published.
+-- At every time, at most one definition is chosen for a sequence, and nodes publish only what is
+-- chosen. So no two nodes publish different definitions under one sequence, and a node keeps what
+-- it published.
 pub record Agreement (V : Type 0) : Type 0 where
   pub facts : (same : V → V → Bool) (n : ℕ) (events : List (Event V)) → AgreementIn n (after same n events)
   pub grows : (same : V → V → Bool) (n i : ℕ) (events more : List (Event V)) →

@@ -15,8 +15,8 @@ abbrev pub before : ℕ → List (List ℕ) → List (List ℕ)
 before byte [] = (byte ∷ []) ∷ []
 before byte (line ∷ rest) = (byte ∷ line) ∷ rest
 
--- The lines of a text. A line feed ends a line, and the last line may end without one; a carriage return right before a line feed
--- is dropped.
+-- The lines of a text. A line feed ends a line, and the last line may end without one; a carriage
+-- return right before a line feed is dropped.
 unfoldable pub lines : List ℕ → List (List ℕ)
 lines [] = []
 lines (byte ∷ rest) = if byte == 10 then [] ∷ lines rest else (if byte == 13 && is_line_end rest then lines rest else before byte (lines rest))
@@ -78,6 +78,7 @@ lesser None second = second
 lesser (Some a) None = Some a
 lesser (Some a) (Some b) = Some (min a b)
 
--- the line at which a text is over a limit of scripts: the lesser, where it has too many bytes and too many lines
+-- the line at which a text is over a limit of scripts: the lesser, where it has too many bytes and
+-- too many lines
 unfoldable pub over_limit : List ℕ → Option ℕ
 over_limit bytes = lesser (over_bytes bytes) (over_lines bytes)

@@ -52,7 +52,8 @@ a_kept words = do
   part ← kept_of word.0
   Ok (part, word.1)
 
--- the step that a verb and the words after it make, of a node whose number has been read: the node may crash within it
+-- the step that a verb and the words after it make, of a node whose number has been read: the node
+-- may crash within it
 unfoldable pub step_by : List (List ℕ) → Verb → List (List ℕ) → Result (Action ℕ ℕ × List (List ℕ)) Wrong
 step_by names verb.Propose words = do
   map ← a_map names words
@@ -136,7 +137,8 @@ restart_order words = do
   node ← a_number words
   Ok (order.Restart node.0, node.1)
 
--- The order that a verb and the words after it make, and what is left of them. A map is named among those so far.
+-- The order that a verb and the words after it make, and what is left of them. A map is named among
+-- those so far.
 unfoldable pub order_by : List (List ℕ) → Verb → List (List ℕ) → Result (Order × List (List ℕ)) Wrong
 order_by names verb.Map words = Err BadLine
 order_by names verb.Propose words = step_order names verb.Propose words

@@ -23,7 +23,8 @@ wants_memory wrongs.BadLine = false
 wants_memory wrongs.OverLimit = false
 wants_memory wrongs.BadMap = false
 
--- After Ok the value, seen by `view`, is what is meant; an error other than allocation failure is the one that is meant.
+-- After Ok the value, seen by `view`, is what is meant; an error other than allocation failure is
+-- the one that is meant.
 abbrev pub Gives : {X Y : Type 0} → (X → Y) → Result X Wrong → Result Y Wrong → Type 0
 Gives view (Ok x) meant = meant ≡ Ok (view x)
 Gives view (Err wrong) meant = wants_memory wrong ≡ false → meant ≡ Err wrong
@@ -33,8 +34,8 @@ abbrev pub ReportsWithLine : {X Y : Type 0} → (X → Y) → Result X ScriptFau
 ReportsWithLine view (Ok x) meant = meant ≡ Ok (view x)
 ReportsWithLine view (Err fault) meant = is_memory fault ≡ false → meant ≡ Err fault
 
--- After Ok what is meant from here on is what is meant from there on; an error other than allocation failure is the one that is
--- meant, at the line of this number.
+-- After Ok what is meant from here on is what is meant from there on; an error other than
+-- allocation failure is the one that is meant, at the line of this number.
 abbrev pub ReadsFurther : {X Y : Type 0} → ℕ → Result X Wrong → Result Y ScriptFault → Result Y ScriptFault → Type 0
 ReadsFurther n (Ok x) here there = here ≡ there
 ReadsFurther n (Err wrong) here there = wants_memory wrong ≡ false → here ≡ Err (fault_of wrong n)

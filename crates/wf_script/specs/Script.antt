@@ -19,8 +19,9 @@ pub record Numbered : Type 0 where
 abbrev pub numbered : orders.Numbered → Numbered
 numbered n = record { line = n.line; order = view n.order }
 
--- How many nodes its farm has, its maps' names and definitions, and its orders with their lines, all in the order of its text. An
--- order names a map by its index among the maps. Text.antt defines which text is which script.
+-- How many nodes its farm has, its maps' names and definitions, and its orders with their lines,
+-- all in the order of its text. An order names a map by its index among the maps. Text.antt defines
+-- which text is which script.
 pub record Script : Type 0 where
   pub nodes : ℕ
   pub names : List (List ℕ)
@@ -48,7 +49,8 @@ abbrev pub or_unknown : Option (List ℕ) → List ℕ
 or_unknown None = codes "?"
 or_unknown (Some name) = name
 
--- the name of the map that a node published, a question mark where it published none that the script has
+-- the name of the map that a node published, a question mark where it published none that the
+-- script has
 abbrev pub name_of : Script → Option Definition → List ℕ
 name_of script None = codes "?"
 name_of script (Some d) = or_unknown (option_and_then (slice_get script.names) (index_with script.maps d))

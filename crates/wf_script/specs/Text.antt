@@ -102,8 +102,9 @@ line_meaning n s words = do
   verb ← ok_or (verb_of word.0) wrongs.BadLine
   meant_by n s verb word.1
 
--- What a line of this number means, outside of a map and within one. Nothing is skipped within a map: each of its lines is a line
--- of its text, followed by a line feed. An error of a map is reported at the line where it begins.
+-- What a line of this number means, outside of a map and within one. Nothing is skipped within a
+-- map: each of its lines is a line of its text, followed by a line feed. An error of a map is
+-- reported at the line where it begins.
 unfoldable pub line_means : Option Begun → ℕ → State → List ℕ → Result (Option Begun × State) ScriptFault
 line_means None n s line = if is_skipped line then outside s else at_line n (line_meaning n s (words line))
 line_means (Some begun) n s line =
@@ -124,7 +125,8 @@ on_from begun s ls = read_on begun (ls.number + 1) s ls.left
 unfoldable pub line_on : Option Begun → State → List ℕ → Lines → Result State ScriptFault
 line_on begun s line ls = line_means begun ls.number s line >>= (λ t. on_from t.0 t.1 ls)
 
--- a map begins with the words after its verb, on the line that was returned, and continues in the lines that are left
+-- a map begins with the words after its verb, on the line that was returned, and continues in the
+-- lines that are left
 unfoldable pub map_on : State → List (List ℕ) → Lines → Result State ScriptFault
 map_on s words ls = at_line ls.number (a_new_name s.names words) >>= (λ name. on_from (Some (begins ls.number name)) s ls)
 
@@ -136,8 +138,8 @@ nodes_of line = do
   end ← no_word n.1
   if not (n.0 == 0) && nat_le n.0 most_nodes then Ok n.0 else Err wrongs.BadLine
 
--- The number of nodes, from the first line that isn't skipped, and the lines after that. Where there is none, the first line is a
--- bad one.
+-- The number of nodes, from the first line that isn't skipped, and the lines after that. Where
+-- there is none, the first line is a bad one.
 unfoldable pub head : ℕ → List (List ℕ) → Result (ℕ × Lines) ScriptFault
 head n [] = Err (fault.BadLine 1)
 head n (line ∷ rest) = if is_skipped line then head (n + 1) rest else at_line n (nodes_of line) >>= (λ nodes. Ok (nodes, record { number = n; left = rest }))
@@ -164,7 +166,8 @@ abbrev pub unless_over : Option ℕ → Result Script ScriptFault → Result Scr
 unless_over None meant = meant
 unless_over (Some line) meant = Err (fault.OverLimit line)
 
--- The script that a text is, or the error for which it is none. That it is over a limit comes before all else.
+-- The script that a text is, or the error for which it is none. That it is over a limit comes
+-- before all else.
 unfoldable pub script_of : List ℕ → Result Script ScriptFault
 script_of text = unless_over (over_limit text) (script (record { number = 0; left = lines text }))
 

@@ -44,7 +44,8 @@ number word = if not (length word == 0) && nat_le (length word) most_digits && l
 unfoldable pub text_of : List ℕ → Result (List ℕ) Wrong
 text_of word = if is_utf8 word then Ok word else Err BadLine
 
--- the first word and those after it; a word that is a text; a number; and no word at all: another line is a bad one
+-- the first word and those after it; a word that is a text; a number; and no word at all: another
+-- line is a bad one
 unfoldable pub a_word : List (List ℕ) → Result (List ℕ × List (List ℕ)) Wrong
 a_word [] = Err BadLine
 a_word (word ∷ rest) = Ok (word, rest)

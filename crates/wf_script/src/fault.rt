@@ -7,8 +7,8 @@ ghost use Rattle.wf_script.specs.declared.fault.Wrong.TheVariants as wrongs;
 use std::alloc::{AllocError, AllocFailed};
 use thiserror::Error;
 
-/// Why a script isn't played, or not to its end, with the line of the first error. Lines are counted from 1, skipped ones and
-/// those of maps included.
+/// Why a script isn't played, or not to its end, with the line of the first error. Lines are
+/// counted from 1, skipped ones and those of maps included.
 #[derive(Clone, Copy, Debug, PartialEq, Eq, Error)]
 pub enum ScriptFault {
     /// S1: an allocation failed.

@@ -1,8 +1,10 @@
-//! Scripts that play a farm of nodes in memory: a line for each event, and for each question about the farm.
+//! Scripts that play a farm of nodes in memory: a line for each event, and for each question about
+//! the farm.
 //!
-//! A [`Script`] is read whole before its first order is performed. A line feed ends a line, and a carriage return before it is
-//! dropped. Empty lines and lines that begin with `#` are skipped, but not within a map. Spaces separate words. The first
-//! line is `nodes N`. A number has 1 to 9 digits.
+//! A [`Script`] is read whole before its first order is performed. A line feed ends a line, and a
+//! carriage return before it is dropped. Empty lines and lines that begin with `#` are skipped, but
+//! not within a map. Spaces separate words. The first line is `nodes N`. A number has 1 to 9
+//! digits.
 //!
 //! ```text
 //! map NAME, lines, endmap                names a map definition; NAME is 1 to 32 letters and digits
@@ -18,15 +20,18 @@
 //! equal I J QUERY                        whether nodes I and J answer the same; QUERY is one word
 //! ```
 //!
-//! A text is read in stages: `lines`, `words` of a line, the `verb` that is the first word, the `order` that the other words make,
-//! and `draft`, which collects maps and orders. `wf_play` plays what is read here.
+//! A text is read in stages: `lines`, `words` of a line, the `verb` that is the first word, the
+//! `order` that the other words make, and `draft`, which collects maps and orders. `wf_play` plays
+//! what is read here.
 //!
-//! Contracts see a script as its number of nodes, its maps with their names and definitions, and its orders with their lines.
+//! Contracts see a script as its number of nodes, its maps with their names and definitions, and
+//! its orders with their lines.
 //!
-//! [`Script::read`] returns exactly the script that the text is, or exactly the error for which it is none, with its line, unless
-//! allocation fails (`script_of` of `specs/Text.antt`). An allocation failure is reported at a line of the text, and never hides
-//! that a text is over a limit. [`a_beginning_is_examined_alike`]: the first bytes of a long input, one more than a script may
-//! have, are judged as the whole input is.
+//! [`Script::read`] returns exactly the script that the text is, or exactly the error for which it
+//! is none, with its line, unless allocation fails (`script_of` of `specs/Text.antt`). An
+//! allocation failure is reported at a line of the text, and never hides that a text is over a
+//! limit. [`a_beginning_is_examined_alike`]: the first bytes of a long input, one more than a
+//! script may have, are judged as the whole input is.
 #![tactic(auto)]
 
 mod draft;

@@ -11,8 +11,8 @@ pub const MOST_SCRIPT_BYTES: usize = 1_048_576;
 /// The most lines of a script.
 pub const MOST_LINES: usize = 10_000;
 
-/// The line that holds the first byte over the limit of bytes, or the first line over the limit of lines: the lesser, where both
-/// are.
+/// The line that holds the first byte over the limit of bytes, or the first line over the limit of
+/// lines: the lesser, where both are.
 #[tactic(auto, unfolding(crate::specs::Lines::over_limit))]
 pub(crate) fn line_over(bytes: &[u8]) -> Option<usize>
     ensures { result ≡ over_limit bytes.now }

@@ -20,14 +20,16 @@ pub struct Numbered {
     pub order: Order,
 }
 
-/// What a line does or asks. A node, a message and a sequence are their numbers, a map is its number in the script.
+/// What a line does or asks. A node, a message and a sequence are their numbers, a map is its
+/// number in the script.
 #[derive(Drop)]
 pub enum Order {
     /// A step of the node.
     Step(usize, Action<usize, usize>),
     /// The messages go to the node, one after the other.
     Deliver(usize, Vec<usize>),
-    /// The message of the second number is cut off on its way to the node, after this many bytes: it doesn't arrive. No event.
+    /// The message of the second number is cut off on its way to the node, after this many bytes:
+    /// it doesn't arrive. No event.
     Cut(usize, usize, usize),
     /// The node stops.
     Stop(usize),

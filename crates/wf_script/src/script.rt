@@ -27,7 +27,8 @@ pub struct Script {
     pub(crate) orders: Vec<Numbered>,
 }
 
-// Not derived, so that a crate above proves one call where it drops a script, and not each part of one anew.
+// Not derived, so that a crate above proves one call where it drops a script, and not each part of
+// one anew.
 impl Drop for Script {
     fn drop(self) {
         let Script {
@@ -68,10 +69,11 @@ impl Script {
     ghost use Rattle.std.specs.Prelude.{Some};
     ghost use Rattle.wf_script.specs.Script.{numbered, name_of};
 
-    /// Reads a script. The limits of bytes and lines are checked first (S3), then the lines in order, a map at the line
-    /// where it begins; on one line S2 comes before S3 before S4. A script without a line that isn't skipped is S2 at line 1.
-    /// Allocation failure is S1, at the line where it happens, whatever the text is otherwise. Each error is at a line of the
-    /// bytes, or at line 1 where they have none.
+    /// Reads a script. The limits of bytes and lines are checked first (S3), then the lines in
+    /// order, a map at the line where it begins; on one line S2 comes before S3 before S4. A script
+    /// without a line that isn't skipped is S2 at line 1. Allocation failure is S1, at the line
+    /// where it happens, whatever the text is otherwise. Each error is at a line of the bytes, or
+    /// at line 1 where they have none.
     #[tactic(auto, using(crate::proofs::LineCount::over_at, crate::proofs::LineCount::bytes_fit, crate::proofs::LineCount::lines_fit))]
     pub fn read(alloc: Global, bytes: &[u8]) -> Result<Script, ScriptFault>
         ensures value { ReportsWithLine (λ s. s) result (script_of bytes.now) }

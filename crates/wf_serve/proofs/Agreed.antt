@@ -1,4 +1,5 @@
--- Nodes with one history that published equally many maps, or are asked for one map, have that map, and so they respond alike.
+-- Nodes with one history that published equally many maps, or are asked for one map, have that map,
+-- and so they respond alike.
 use Rattle.std.proofs.Common.{◌≡◌, ◌<◌, ◌≤◌, ℕ, zero, suc, List, [], ◌∷◌, length, slice_get, Some, refl, ap, ◌∙◌, arith}
 use Rattle.std.specs.declared.alloc.Global.{Global}
 use Rattle.wf_def.specs.Definition.{Definition}

@@ -1,4 +1,5 @@
--- An exchange with a node of the farm is its part of a connection, or of what the farm itself asks it.
+-- An exchange with a node of the farm is its part of a connection, or of what the farm itself asks
+-- it.
 use Rattle.std.proofs.Common.{◌≡◌, ◌∙◌, ℕ, false, List, [], Vec, refl, sym, subst, arith}
 use Rattle.std.specs.Prelude.{slice_get, Some}
 use Rattle.std.proofs.lemmas.Option.{same_Some}

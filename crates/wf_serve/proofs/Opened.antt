@@ -9,7 +9,8 @@ use Rattle.wf_farm.specs.NodesTheorems.{length-nodes, long_from, none_run, one_m
 use Rattle.wf_serve.specs.OpenedNodes.{AreOpened, WasRead, WereRead}
 use Rattle.wf_node.specs.Node.{Node}
 
--- the element at an index of a list with one more at its end: the one that was there, or the last one
+-- the element at an index of a list with one more at its end: the one that was there, or the last
+-- one
 more_at : {A : Type 0} (xs : List A) (y : A) (i : ℕ) (x : A) → slice_get (xs ++ y ∷ []) i ≡ Some x → (slice_get xs i ≡ Some x) ⊎ ((i ≡ length xs) × (y ≡ x))
 more_at [] y zero x e = inr (refl, same_Some y x e)
 more_at [] y (suc i) x e = absurd (none-some x e)

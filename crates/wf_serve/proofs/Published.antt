@@ -72,7 +72,8 @@ no_fault publish.Memory answer reports is = no_error_response error_response.Una
 no_fault (publish.Node why) answer reports is = no_error_response (error_of_result why) (sym (ap status_in reports) ∙ is)
 
 module _ {T : Type 0} (tapes : Tape T) (before after : Node T) (outputs : Vec Message Global) where
-  -- The node made the step Propose of the map that the body of the request means, and these are its messages.
+  -- The node made the step Propose of the map that the body of the request means, and these are its
+  -- messages.
   record HasProposed (input : Option (List ℕ)) : Type 0 where
     request : Request
     received : IfSome input (λ bytes. BeginsWith bytes request)

@@ -41,7 +41,8 @@ module _ {T : Type 0} (tapes : Tape T)
       subst (λ ms. AreReachableSending tapes nodes ms (slice_set nodes i after)) (hands_outputs result outputs hands)
       (step_is_reachable tapes nodes i before after (table.Propose d) result at turns tt proposed.refused proposed.steps)
 
--- A node that was asked leads any nodes on among which it is, and isn't halted where its tape won't fail.
+-- A node that was asked leads any nodes on among which it is, and isn't halted where its tape won't
+-- fail.
 module _ {T : Type 0} (tapes : Tape T) (before after : Node T) (outputs : Vec Message Global) where
   pub asked_reaches_on : (input : table.Input Definition) → IsOwnInput input → IsAsked tapes input before outputs after → ReachabilityGoesOn tapes before outputs.items after
   unfolding ReachabilityGoesOn
@@ -59,7 +60,8 @@ module _ {T : Type 0} (tapes : Tape T) (before after : Node T) (outputs : Vec Me
   moved_sturdy (Stays unmoved) = same_sturdy tapes before after unmoved.same
   moved_sturdy (Proposes d result proposed hands) = step_sturdy tapes before after (table.Propose d) result proposed.steps proposed.sturdy proposed.sound
 
--- A node was asked for a step of its own, and its messages were delivered: each node keeps its index and what it published.
+-- A node was asked for a step of its own, and its messages were delivered: each node keeps its
+-- index and what it published.
 module _ {T : Type 0} (tapes : Tape T) (node_index : ℕ) (input : table.Input Definition) (own : IsOwnInput input)
     (nodes after : List (Node T)) (turns : StandInTurn nodes) (one : IsAskedAndArrived tapes node_index input nodes after) where
   asked_reachable : AreReachableSending tapes nodes one.outputs.items one.asked

@@ -25,7 +25,8 @@ use Rattle.wf_stream.specs.declared.stream.Source.{Ghosts as Source}
 use Rattle.wf_tape.specs.declared.tape.Tape.{Ghosts as Tape}
 
 module _ {T K S : Type 0} (tapes : Tape T) (sinks : Sink K) (sources : Source S) (node_index : ℕ) (source source_after : S) (sink sink_after : K) (nodes nodes_after : List (Node T)) (outcome : ConnectionOutcome) where
-  -- A request was served by the node at the index, whether or not it is one; how reading and writing ended.
+  -- A request was served by the node at the index, whether or not it is one; how reading and
+  -- writing ended.
   pub record IsServedWhole : Type 0 where
     pub served : IsServedAndArrived tapes node_index (sources.left source) (sinks.written sink) (sinks.written sink_after) nodes outcome.request nodes_after
     pub reads : CountsReceiving outcome.request (sources.failures source) (sources.failures source_after)

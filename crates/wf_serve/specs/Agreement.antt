@@ -12,15 +12,15 @@ use Rattle.wf_node.specs.Node.{Node}
 use Rattle.wf_tape.specs.declared.tape.Tape.{Ghosts as Tape}
 use Rattle.wf_wms.specs.Answer.{AsksForMap}
 
--- Two lists of published maps answer a query alike: they are equally long; or it asks both for the map of one sequence (MAPSEQ), however
--- long they are.
+-- Two lists of published maps answer a query alike: they are equally long; or it asks both for the
+-- map of one sequence (MAPSEQ), however long they are.
 pub data AskedAlike (query : List ℕ) (history other : List Definition) : Type 0 where
   AtOneSequence : length other ≡ length history → AskedAlike query history other
   ForOneMap : (m : ℕ) → AsksForMap m (length history) query → AsksForMap m (length other) query → AskedAlike query history other
 
 module _ {T : Type 0} (tapes : Tape T) where
-  -- Two of the nodes that answer a query alike respond to equal requests to the map service with equal bytes, if neither responds with
-  -- allocation failure.
+  -- Two of the nodes that answer a query alike respond to equal requests to the map service with
+  -- equal bytes, if neither responds with allocation failure.
   pub record RespondAlike (nodes : List (Node T)) : Type 0 where
     pub bytes : (i j : ℕ) (input query : List ℕ) (node node_after other other_after : Node T) (sent other_sent : Vec Message Global) (response another : Response) →
         slice_get nodes i ≡ Some node → slice_get nodes j ≡ Some other → AskedAlike query node.parts.history other.parts.history → AsksMapService input query →
@@ -28,7 +28,8 @@ module _ {T : Type 0} (tapes : Tape T) where
         Responds tapes (Some input) other another other_sent other_after → another.status ≢ 503 →
         response_bytes another ≡ response_bytes response
 
-  -- Some events lead from the start to what the nodes are; they publish one history, and so they respond alike.
+  -- Some events lead from the start to what the nodes are; they publish one history, and so they
+  -- respond alike.
   pub record AreAgreed (nodes : List (Node T)) : Type 0 where
     pub reached : AreReachable AnyPart nodes
     pub history : HaveOneHistory nodes
@@ -38,8 +39,8 @@ module _ {T : Type 0} (tapes : Tape T) where
   abbrev pub AgreeStill : List (Node T) → Type 0
   AgreeStill nodes = (before : List (Node T)) → AreReachable AnyPart before → AreReachableFrom tapes before nodes → AreAgreed nodes
 
-  -- Some events of the model lead the nodes on. So if its start leads to them, it does still; they publish one history, and respond
-  -- alike. And no list of published maps has lost one.
+  -- Some events of the model lead the nodes on. So if its start leads to them, it does still; they
+  -- publish one history, and respond alike. And no list of published maps has lost one.
   pub record HaveGoneOn (nodes nodes_after : List (Node T)) : Type 0 where
     pub reachable : AreReachableFrom tapes nodes nodes_after
     pub reached : AreReachable AnyPart nodes → AreReachable AnyPart nodes_after

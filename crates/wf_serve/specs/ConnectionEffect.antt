@@ -1,5 +1,6 @@
--- The effect of one connection on the nodes: one of them serves a request, its messages are delivered, and if its proposal still
--- runs then, it restarts it. Then each node that is behind catches up.
+-- The effect of one connection on the nodes: one of them serves a request, its messages are
+-- delivered, and if its proposal still runs then, it restarts it. Then each node that is behind
+-- catches up.
 use Rattle.std.specs.Prelude.{◌≡◌, ◌≢◌, ◌⊎◌, ◌<◌, ℕ, Bool, false, List, length, slice_get, slice_set, Option, Some, Result, Vec}
 use Rattle.std.specs.declared.alloc.Global.{Global}
 use Rattle.wf_codec.specs.declared.message.Message.{Message}
@@ -55,7 +56,8 @@ module _ {T : Type 0} (tapes : Tape T) where
     -- also if the input isn't known
     pub moves : MovesOnce tapes before outputs after
 
-  -- The node at index `node_index` served the request that was received, and its messages were delivered.
+  -- The node at index `node_index` served the request that was received, and its messages were
+  -- delivered.
   pub record IsServedAndArrived (node_index : ℕ) (input old new : Option (List ℕ)) (nodes : List (Node T)) (outcome : Outcome) (nodes_after : List (Node T)) : Type 0 where
     -- the node's messages in serving, and the nodes by then
     pub outputs : Vec Message Global
@@ -63,7 +65,8 @@ module _ {T : Type 0} (tapes : Tape T) where
     pub request : IsServedAt node_index input old new nodes outputs served outcome
     pub receiving : AreArrived served outputs nodes_after
 
-  -- The messages of a node that is asked for a step: exactly the step's, none if the step was rejected or failed.
+  -- The messages of a node that is asked for a step: exactly the step's, none if the step was
+  -- rejected or failed.
   pub record IsAsked (input : Input Definition) (before : Node T) (outputs : Vec Message Global) (after : Node T) : Type 0 where
     pub answer : Result (Vec Message Global) NodeFault
     pub answers : IsStepResult tapes input before answer after
@@ -85,15 +88,17 @@ module _ {T : Type 0} (tapes : Tape T) where
     pub step : IsAskedAt node_index input nodes outputs asked
     pub arrived : AreArrived asked outputs nodes_after
 
-  -- Each node that was behind has asked one that had published the most, which answered to it alone. Where no delivery was lost, all
-  -- nodes that run have published equally many maps afterwards.
+  -- Each node that was behind has asked one that had published the most, which answered to it
+  -- alone. Where no delivery was lost, all nodes that run have published equally many maps
+  -- afterwards.
   pub record HaveCaughtUp (nodes nodes_after : List (Node T)) : Type 0 where
     -- an allocation failed, and a delivery was lost
     pub lost : Bool
     pub caught : farm.HaveCaughtUp tapes nodes lost nodes_after
     pub level : lost ≡ false → StandLevel nodes_after
 
-  -- The proposal of the node at index `node_index` was running; the node was asked to restart it, and its messages were delivered.
+  -- The proposal of the node at index `node_index` was running; the node was asked to restart it,
+  -- and its messages were delivered.
   pub record IsBegunAnew (node_index : ℕ) (nodes nodes_after : List (Node T)) : Type 0 where
     pub runs : ProposesAt node_index nodes
     pub anew : IsAskedAndArrived node_index Retry nodes nodes_after
@@ -102,8 +107,9 @@ module _ {T : Type 0} (tapes : Tape T) where
   abbrev pub IsRetried : ℕ → List (Node T) → List (Node T) → Type 0
   IsRetried node_index nodes nodes_after = IsBegunAnew node_index nodes nodes_after ⊎ (RestsAt node_index nodes × (nodes_after ≡ nodes))
 
-  -- The effect of one connection: a request was served by the node at index `node_index`, its messages were delivered, and its
-  -- proposal was restarted if it was still running. Then the nodes caught up.
+  -- The effect of one connection: a request was served by the node at index `node_index`, its
+  -- messages were delivered, and its proposal was restarted if it was still running. Then the nodes
+  -- caught up.
   pub record IsConnection (node_index : ℕ) (input old new : Option (List ℕ)) (nodes : List (Node T)) (outcome : Outcome) (nodes_after : List (Node T)) : Type 0 where
     -- the node's messages in serving, and the nodes by then
     pub outputs : Vec Message Global
@@ -117,8 +123,9 @@ module _ {T : Type 0} (tapes : Tape T) where
     pub retry : IsRetried node_index arrived retried
     pub catch_up : HaveCaughtUp retried nodes_after
 
--- How writing the response ended, of any writer: a failed write is the last call, and some bytes were written without a failure
--- before it. If the input is empty or the reader failed, the writer isn't called.
+-- How writing the response ended, of any writer: a failed write is the last call, and some bytes
+-- were written without a failure before it. If the input is empty or the reader failed, the writer
+-- isn't called.
 abbrev pub EndsWriting : {K : Type 0} → Sink K → K → K → Outcome → Type 0
 EndsWriting sinks old new (outcome.Sent status count) = Unit {0}
 EndsWriting sinks old new (outcome.WriteFailed status count) = (bytes : List ℕ) × EndsByFailing sinks.written sinks.failures sinks.fails bytes old new

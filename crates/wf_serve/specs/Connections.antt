@@ -7,7 +7,8 @@ use Rattle.wf_serve.specs.declared.fault.ServeFault.{ServeFault}
 use Rattle.wf_tape.specs.declared.tape.Tape.{Ghosts as Tape}
 
 module _ {T : Type 0} (tapes : Tape T) where
-  -- One connection was served by the node at index `node_index`, whatever was received and sent on it.
+  -- One connection was served by the node at index `node_index`, whatever was received and sent on
+  -- it.
   pub record IsAnswered (node_index : ℕ) (nodes nodes_after : List (Node T)) : Type 0 where
     -- what was received, and what was written before and after, if known
     pub input : Option (List ℕ)
@@ -26,12 +27,14 @@ module _ {T : Type 0} (tapes : Tape T) where
   HaveCome count (suc connection) nodes nodes_after =
       (middle : List (Node T)) × HaveCome count connection nodes middle × MayBeAnswered (connection % count) middle nodes_after
 
-  -- for the crate's own contracts: the port was printed, and this many connections were served; or it wasn't, and none was
+  -- for the crate's own contracts: the port was printed, and this many connections were served; or
+  -- it wasn't, and none was
   abbrev pub IfReported : ℕ → List (Node T) → Result (Unit {0}) ServeFault → List (Node T) → Type 0
   IfReported requests nodes (Ok done) nodes_after = HaveCome (length nodes) requests nodes nodes_after
   IfReported requests nodes (Err why) nodes_after = nodes_after ≡ nodes
 
-  -- The nodes caught up; then the port was printed, and this many connections were served, or it wasn't, and none was.
+  -- The nodes caught up; then the port was printed, and this many connections were served, or it
+  -- wasn't, and none was.
   pub record IsServing (requests : ℕ) (nodes : List (Node T)) (reported : Result (Unit {0}) ServeFault) (nodes_after : List (Node T)) : Type 0 where
     -- the nodes after they caught up
     pub caught : List (Node T)

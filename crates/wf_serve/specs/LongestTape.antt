@@ -1,4 +1,5 @@
--- For the crate's own contracts: while the tapes are read, the node that has published most is kept.
+-- For the crate's own contracts: while the tapes are read, the node that has published most is
+-- kept.
 use Rattle.std.specs.Prelude.{◌≡◌, ◌≢◌, ◌≤◌, ◌⊎◌, ℕ, List, [], Option, Some, None, IfSome, length, slice_get}
 use Rattle.wf_def.specs.Definition.{Definition}
 use Rattle.wf_folder.specs.declared.presence.Presence.{Presence}

@@ -1,4 +1,5 @@
--- How a node of a farm answers a request: one that only reads from what it has published, a publish by a step whose messages the others receive.
+-- How a node of a farm answers a request: one that only reads from what it has published, a publish
+-- by a step whose messages the others receive.
 use Rattle.std.specs.Prelude.{◌≡◌, ◌⊎◌, ℕ, false, List, slice_get, Some, Result, Ok, Err, Vec}
 use Rattle.std.specs.declared.alloc.Global.{Global}
 use Rattle.wf_codec.specs.declared.message.Message.{Message}
@@ -21,7 +22,8 @@ abbrev pub no_deliveries : Pumped
 no_deliveries = record { deliveries = 0; lost = 0; stopped = false }
 
 module _ {T K : Type 0} (tapes : Tape T) (sinks : Sink K) where
-  -- The node at index `node_index` answered the request from what it has published. It stays as it is, and sends nothing.
+  -- The node at index `node_index` answered the request from what it has published. It stays as it
+  -- is, and sends nothing.
   pub record IsReadAt (node_index : ℕ) (request : Request) (sink sink_after : K) (nodes : List (Node T)) (outcome : Outcome) : Type 0 where
     pub node : Node T
     pub at : slice_get nodes node_index ≡ Some node
@@ -48,7 +50,8 @@ module _ {T K : Type 0} (tapes : Tape T) (sinks : Sink K) where
       (IsReadAt node_index request sink sink_after nodes outcome.request × (outcome.deliveries ≡ no_deliveries) × (nodes_after ≡ nodes))
       ⊎ IsAnsweredAt node_index request sink sink_after nodes outcome.request outcome.deliveries nodes_after
 
-  -- There is no request, for a reason. Its rejection was written, or nothing, and the nodes are as they were.
+  -- There is no request, for a reason. Its rejection was written, or nothing, and the nodes are as
+  -- they were.
   pub record IsRejected (why : RequestFault) (sink sink_after : K) (nodes : List (Node T)) (outcome : ConnectionOutcome) (nodes_after : List (Node T)) : Type 0 where
     pub outputs : IsErrorCompleted why (sinks.written sink) (sinks.written sink_after) outcome.request
     pub writes : CountsCompleting outcome.request (sinks.failures sink) (sinks.failures sink_after)

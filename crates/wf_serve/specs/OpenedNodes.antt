@@ -1,4 +1,5 @@
--- The nodes of a farm while they are opened, one after the other, and the bytes that are read of their tapes.
+-- The nodes of a farm while they are opened, one after the other, and the bytes that are read of
+-- their tapes.
 use Rattle.std.specs.Prelude.{◌≡◌, ℕ, false, List, slice_get, Some}
 use Rattle.wf_farm.specs.declared.cluster.NodeHost.{NodeHost}
 use Rattle.wf_delivery.specs.Delivery.{StandAmong}
@@ -7,8 +8,8 @@ use Rattle.wf_model.specs.VolatileState.{at_start}
 use Rattle.wf_node.specs.Images.{StandsFor}
 use Rattle.wf_node.specs.Node.{Node, stored_of, volatile_of}
 
--- The node was opened from bytes that were read of its tape, whatever tape it is: it runs, has stored what they stand for, and has no proposal
--- and no leadership.
+-- The node was opened from bytes that were read of its tape, whatever tape it is: it runs, has
+-- stored what they stand for, and has no proposal and no leadership.
 pub record WasRead {T : Type 0} (node : Node T) : Type 0 where
   pub bytes : List ℕ
   pub runs : node.halted ≡ false

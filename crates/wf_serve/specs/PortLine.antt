@@ -33,15 +33,15 @@ IsWriting bytes old new (Ok done) = Appends old new bytes
 IsWriting bytes old new (Err faults.Write) = (count : ℕ) × Appends old new (take count bytes)
 IsWriting bytes old new (Err faults.Start) = ⊥
 
--- What is written by the time that the nodes are served no more: the line with such a port, or a prefix of it if the writer
--- failed; nothing if they didn't start.
+-- What is written by the time that the nodes are served no more: the line with such a port, or a
+-- prefix of it if the writer failed; nothing if they didn't start.
 abbrev pub IsPrinted : {A : Type 0} → ℕ → Option (List ℕ) → Option (List ℕ) → Result A ServeFault → Type 0
 IsPrinted asked old new (Ok done) = (port : ℕ) × IsPortFor asked port × Appends old new (port_line port)
 IsPrinted asked old new (Err faults.Write) = (port : ℕ) × IsPortFor asked port × ((count : ℕ) × Appends old new (take count (port_line port)))
 IsPrinted asked old new (Err faults.Start) = Keeps old new
 
--- How the writing ended, of any writer: a failed write is the last call, and a prefix of the bytes was written without a failure
--- before it.
+-- How the writing ended, of any writer: a failed write is the last call, and a prefix of the bytes
+-- was written without a failure before it.
 module _ {K : Type 0} (sinks : Sink K) where
   -- for the crate's own contracts: of these bytes
   abbrev pub HasEnded : List ℕ → K → K → Result (Unit {0}) ServeFault → Type 0
@@ -55,7 +55,8 @@ module _ {K : Type 0} (sinks : Sink K) where
   IsEnded asked old new (Err faults.Write) = (port : ℕ) × IsPortFor asked port × ((count : ℕ) × EndsByFailing sinks.written sinks.failures sinks.fails (take count (port_line port)) old new)
   IsEnded asked old new (Err faults.Start) = new ≡ old
 
-  -- for the crate's own contracts: what is written of that line, whether a write failed, and how the writing ended
+  -- for the crate's own contracts: what is written of that line, whether a write failed, and how
+  -- the writing ended
   pub record PrintsPort {A : Type 0} (asked : ℕ) (old new : K) (result : Result A ServeFault) : Type 0 where
     pub reported : IsPrinted asked (sinks.written old) (sinks.written new) result
     pub writes : CountsWrites result (sinks.failures old) (sinks.failures new)

@@ -1,5 +1,5 @@
--- A map that is accepted over a connection to one of three new nodes is published on all of them; and new nodes that caught up are
--- new still.
+-- A map that is accepted over a connection to one of three new nodes is published on all of them;
+-- and new nodes that caught up are new still.
 use Rattle.std.specs.Prelude.{◌≡◌, ℕ, false, List, length, Option, IfSome}
 use Rattle.wf_def.specs.Definition.{Definition}
 use Rattle.wf_edge.specs.Publish.{IsMapOf}
@@ -26,7 +26,8 @@ WasAccepted (outcome.WriteFailed status count) = status ≡ accepted_status
 WasAccepted outcome.ReadFailed = ⊥
 WasAccepted outcome.NoRequest = ⊥
 
--- Each node has published the map that the body of the request means, under sequence 1, and no proposal is running.
+-- Each node has published the map that the body of the request means, under sequence 1, and no
+-- proposal is running.
 pub record HavePublishedTheMap {T : Type 0} (input : Option (List ℕ)) (nodes : List (Node T)) : Type 0 where
   pub request : Request
   -- the request that was received, if what was received is known
@@ -35,15 +36,15 @@ pub record HavePublishedTheMap {T : Type 0} (input : Option (List ℕ)) (nodes :
   pub is_map : IsMapOf request.body map
   pub published : AllPublish nodes map
 
--- What three new nodes accepted over a connection they have all published, if none of the deliveries was lost, they went on until none
--- was left, and no node is halted.
+-- What three new nodes accepted over a connection they have all published, if none of the
+-- deliveries was lost, they went on until none was left, and no node is halted.
 abbrev pub AcceptedMeansPublished : {T : Type 0} → Option (List ℕ) → List (Node T) → ConnectionOutcome → List (Node T) → Type 0
 AcceptedMeansPublished input nodes outcome nodes_after =
     length nodes ≡ 3 → AreFresh nodes → WasAccepted outcome.request → outcome.deliveries.lost ≡ 0 → outcome.deliveries.stopped ≡ false → NoneHalted nodes_after → HavePublishedTheMap input nodes_after
 
 module _ {T : Type 0} (tapes : Tape T) where
-  -- A connection to one of three new nodes was answered so; none of the deliveries of the node's messages was lost, they went on until
-  -- none was left, and no tape failed.
+  -- A connection to one of three new nodes was answered so; none of the deliveries of the node's
+  -- messages was lost, they went on until none was left, and no tape failed.
   abbrev pub AcceptedIsPublished : Type 0
   AcceptedIsPublished = (node_index : ℕ) (input old new : Option (List ℕ)) (nodes nodes_after : List (Node T)) (outcome : Outcome) →
       length nodes ≡ 3 → StandInTurn nodes → AreFresh nodes → (connection : IsConnection tapes node_index input old new nodes outcome nodes_after) → WasAccepted outcome →

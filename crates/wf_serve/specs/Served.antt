@@ -11,17 +11,18 @@ use Rattle.wf_service.specs.declared.service.Service.{Service}
 use Rattle.wf_tape.specs.declared.tape.Tape.{Ghosts as Tape}
 
 module _ {T : Type 0} (tapes : Tape T) where
-  -- The nodes, each at its own index, caught up and served this many connections, each with a cache for this many pictures. What
-  -- happened to them is one run of the model; so if the model's start leads to them, they have published one definition under one
-  -- sequence and respond alike; and no list of published maps has lost one.
+  -- The nodes, each at its own index, caught up and served this many connections, each with a cache
+  -- for this many pictures. What happened to them is one run of the model; so if the model's start
+  -- leads to them, they have published one definition under one sequence and respond alike; and no
+  -- list of published maps has lost one.
   pub record HaveServed (requests room : ℕ) (nodes nodes_after : List (Node T)) : Type 0 where
     pub in_turn : StandInTurn nodes
     pub serving : IsServing tapes requests nodes (Ok tt) nodes_after
     pub caches : HaveCaches room nodes_after
     pub headline : HaveGoneOn tapes nodes nodes_after
 
-  -- There were as many nodes as the service has, opened from what was read of their tapes, and they served its number of connections, with
-  -- caches of its size.
+  -- There were as many nodes as the service has, opened from what was read of their tapes, and they
+  -- served its number of connections, with caches of its size.
   pub record Served (service : Service) : Type 0 where
     pub nodes : List (Node T)
     pub nodes_after : List (Node T)
@@ -38,7 +39,8 @@ module _ {T : Type 0} (tapes : Tape T) where
     pub reached : AreReachable AnyPart nodes
     pub have : HaveServed service.requests service.cache nodes nodes_after
 
--- What was served of a service: new nodes on tapes in memory, if it has no folder; else nodes on tapes in files.
+-- What was served of a service: new nodes on tapes in memory, if it has no folder; else nodes on
+-- tapes in files.
 pub record HasServed {M F : Type 0} (inside : Tape M) (outside : Tape F) (service : Service) : Type 0 where
   pub memory : service.state ≡ None → NewServed inside service
   pub files : IsSome service.state → Served outside service

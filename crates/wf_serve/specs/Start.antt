@@ -79,13 +79,15 @@ pub record IsFiled (n : ℕ) (beginning : Beginning) (old new : List Call) : Typ
   pub drawn : IsMarkDrawn n beginning file old marked
   pub written : IsWritten n file marked new
 
--- in a folder of the farm's own its tapes were opened; one that is new, or taken over, got its file too
+-- in a folder of the farm's own its tapes were opened; one that is new, or taken over, got its file
+-- too
 abbrev pub IsFarmBegun : ℕ → Start → List Call → List Call → Type 0
 IsFarmBegun n (starts.Own file) old new = HaveOpened n old new
 IsFarmBegun n starts.New old new = IsFiled n beginnings.Empty old new
 IsFarmBegun n starts.TakenOver old new = IsFiled n beginnings.Found old new
 
--- By what was found the farm of n nodes may start; their tapes were read, and agree; and only then was one opened.
+-- By what was found the farm of n nodes may start; their tapes were read, and agree; and only then
+-- was one opened.
 pub record IsFarmAdmitted (n : ℕ) (survey : Survey) (start : Start) (old new : List Call) : Type 0 where
   pub checked : List Call
   pub tapes : AreTapesChecked n survey.tapes old checked
@@ -109,11 +111,13 @@ is_early FileUnwritten = false
 is_early Memory = false
 is_early cause = true
 
--- the tapes of so many nodes were opened, and then nothing was changed, or the next one couldn't be opened, or the file be written
+-- the tapes of so many nodes were opened, and then nothing was changed, or the next one couldn't be
+-- opened, or the file be written
 abbrev pub IsStoppedAt : ℕ → ℕ → List Call → List Call → Type 0
 IsStoppedAt n count before after = (after ≡ tape_opens count before) ⊎ ((count < n) × (after ≡ failed_at (NodeTape count) ∷ tape_opens count before)) ⊎ (after ≡ failed_at Farm ∷ tape_opens n before)
 
--- The farm didn't start: the first of its tapes were opened, or none was; and none was for an early cause.
+-- The farm didn't start: the first of its tapes were opened, or none was; and none was for an early
+-- cause.
 pub record IsFarmRejected (n : ℕ) (cause : Cause) (old new : List Call) : Type 0 where
   pub after : IsAfter old new
   pub count : ℕ
@@ -132,7 +136,8 @@ pub record IsTapeOpened (number : ℕ) (old new : List Call) : Type 0 where
   pub after : IsAfter old new
   pub changed : changes new ≡ opened (NodeTape number) ∷ changes old
 
--- The node isn't opened: nothing was changed, or to open its tape failed, or the tape was opened, and that was all.
+-- The node isn't opened: nothing was changed, or to open its tape failed, or the tape was opened,
+-- and that was all.
 pub record IsTapeStopped (number : ℕ) (cause : Cause) (old new : List Call) : Type 0 where
   pub after : IsAfter old new
   pub changed : (changes new ≡ changes old) ⊎ (changes new ≡ failed_at (NodeTape number) ∷ changes old) ⊎ (changes new ≡ opened (NodeTape number) ∷ changes old)

@@ -1,4 +1,5 @@
--- The tapes of a folder, read before any of them is opened, by the calls of the folder, the latest first.
+-- The tapes of a folder, read before any of them is opened, by the calls of the folder, the latest
+-- first.
 use Rattle.std.specs.Prelude.{◌≡◌, ℕ, zero, suc, List, [], ◌∷◌, Some, slice_get, slice_index_or}
 use Rattle.wf_def.specs.Definition.{Definition}
 use Rattle.wf_folder.specs.declared.presence.Presence.{Presence}

@@ -1,4 +1,5 @@
--- The tapes of one folder, taken one after the other: whether each is sound, and no two contradict each other.
+-- The tapes of one folder, taken one after the other: whether each is sound, and no two contradict
+-- each other.
 use Rattle.std.specs.Prelude.{◌≡◌, ℕ, List, [], ◌∷◌, Option, Some, None, slice_get}
 use Rattle.wf_def.specs.Definition.{Definition}
 use Rattle.wf_model.specs.DurableState.{DurableState}
@@ -20,7 +21,8 @@ AreFolds [] (tape ∷ tapes) = ⊥
 AreFolds (state ∷ states) [] = ⊥
 AreFolds (state ∷ states) (tape ∷ tapes) = IsFoldOf state tape.1 × AreFolds states tapes
 
--- Each tape is sound: its records fold. No two have different definitions as published under one sequence.
+-- Each tape is sound: its records fold. No two have different definitions as published under one
+-- sequence.
 pub record AreSound (tapes : List NumberedTape) : Type 0 where
   pub states : List (DurableState Definition)
   pub folds : AreFolds states tapes

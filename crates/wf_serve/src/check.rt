@@ -1,4 +1,5 @@
-//! The tapes of a folder are read before any of them is opened: none changes if one is bad, or two differ.
+//! The tapes of a folder are read before any of them is opened: none changes if one is bad, or two
+//! differ.
 ghost use Rattle.std.specs.Prelude.{◌≡◌, ◌≢◌, ◌+◌, ◌<◌, ◌≤◌, ◌∷◌, Some, false, true, length, IfErr, IfNone, IfOk, IfSome, OnOk};
 ghost use Rattle.wf_folder.specs.Admission.{IsStart};
 ghost use Rattle.wf_node.specs.Node.{stored_of};
@@ -30,8 +31,9 @@ pub(crate) struct Longest {
     node: Node<MemoryTape>,
 }
 
-/// Reads the tapes of n nodes in a folder, and changes none. Err: one can't be read, holds a bad record, or two hold different maps
-/// as published under one sequence; or an allocation fails. A tape that isn't there holds nothing.
+/// Reads the tapes of n nodes in a folder, and changes none. Err: one can't be read, holds a bad
+/// record, or two hold different maps as published under one sequence; or an allocation fails. A
+/// tape that isn't there holds nothing.
 #[tactic(auto, using(crate::proofs::Checked::all_checked, wf_store::specs::CallTheorems::reads_both))]
 pub fn check_tapes<S: Store>(
     alloc: Global,
@@ -56,8 +58,8 @@ pub fn check_tapes<S: Store>(
     Ok(())
 }
 
-/// On what the nodes of a folder's farm would start where its tapes are sound, and how many they are: as many as its file says, or as
-/// there are tapes. Err: why they wouldn't.
+/// On what the nodes of a folder's farm would start where its tapes are sound, and how many they
+/// are: as many as its file says, or as there are tapes. Err: why they wouldn't.
 #[tactic(auto, using(crate::proofs::Taken::start_caused))]
 pub fn examine(survey: &Survey) -> Result<(u8, Start), Cause>
     requires { length survey.now.tapes ≡ 64 }
@@ -196,7 +198,8 @@ pub(crate) fn with_next(
     }
 }
 
-/// The one of two nodes that has published more. Err: they have published different maps under one sequence.
+/// The one of two nodes that has published more. Err: they have published different maps under one
+/// sequence.
 #[tactic(auto, using(crate::proofs::Checked::first_is_longer, crate::proofs::Checked::second_is_longer, crate::proofs::Taken::is_first, crate::proofs::Taken::is_second))]
 fn longer(first: Longest, second: Longest) -> Result<Longest, Cause>
     ensures longer { IfOk result (λ longer.

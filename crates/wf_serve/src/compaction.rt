@@ -10,11 +10,11 @@ use wf_ballot::NodeId;
 use wf_node::{Node, NodeFault};
 use wf_tape::Tape;
 
-/// Node `id` of `n`, opened from its tape, which is shortened then. Returns also whether it is: if an allocation fails in shortening,
-/// the node is open on the tape as it was.
+/// Node `id` of `n`, opened from its tape, which is shortened then. Returns also whether it is: if
+/// an allocation fails in shortening, the node is open on the tape as it was.
 ///
-/// Err: the tape, if the node doesn't open, or the tape fails in shortening. What a crash leaves of it then reads as what it held,
-/// or stands for what the node had stored.
+/// Err: the tape, if the node doesn't open, or the tape fails in shortening. What a crash leaves of
+/// it then reads as what it held, or stands for what the node had stored.
 pub fn open_shortened<T: Tape>(
     alloc: Global,
     tape: T,

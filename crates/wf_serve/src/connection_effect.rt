@@ -1,4 +1,5 @@
-//! The effect of a connection on a farm, and the catch-up of its nodes before the first and after each.
+//! The effect of a connection on a farm, and the catch-up of its nodes before the first and after
+//! each.
 ghost use Rattle.std.specs.Prelude.{◌≡◌, ◌≢◌, ◌<◌, false, true};
 ghost use Rattle.wf_edge.specs.Receipt.{CountsReceiving};
 ghost use Rattle.wf_edge.specs.Page.{proposal_state_at};
@@ -36,12 +37,14 @@ use wf_wms::Cache;
 pub struct ConnectionOutcome {
     /// The outcome of its request.
     pub request: Outcome,
-    /// The deliveries of the messages that the node sent for the request, and of those sent in reply; none unless it was a publish.
+    /// The deliveries of the messages that the node sent for the request, and of those sent in
+    /// reply; none unless it was a publish.
     pub deliveries: Pumped,
 }
 
-/// Lets each node that is behind catch up: it asks one that has published the most, as long as that brings it on. Where no allocation
-/// fails, all nodes that run have published equally many maps afterwards; if none is behind, nothing happens.
+/// Lets each node that is behind catch up: it asks one that has published the most, as long as that
+/// brings it on. Where no allocation fails, all nodes that run have published equally many maps
+/// afterwards; if none is behind, nothing happens.
 pub fn catch_up<T: Tape>(alloc: Global, farm: &mut Farm<T>)
     requires { AllRun farm.old.hosts }
     ensures caught { HaveCaughtUp T.Tape (nodes_in farm.old) (nodes_in farm.new) }
@@ -51,11 +54,12 @@ pub fn catch_up<T: Tape>(alloc: Global, farm: &mut Farm<T>)
     let _ = wf_catch_up::catch_up(alloc, farm);
 }
 
-/// Serves one connection, over any reader and writer, by the node at index `node_index` and its cache, as `serve_one_cached` of
-/// `wf_edge` does. Then the node's messages are delivered, whether or not the response was written; and if its proposal still
-/// runs, the node is asked once to restart it, and its messages are delivered again. Then each node that is behind catches up, as
-/// by [`catch_up`]. A step that the node rejects, or for which an allocation fails, is skipped. A failed write is the last call of the
-/// writer.
+/// Serves one connection, over any reader and writer, by the node at index `node_index` and its
+/// cache, as `serve_one_cached` of `wf_edge` does. Then the node's messages are delivered, whether
+/// or not the response was written; and if its proposal still runs, the node is asked once to
+/// restart it, and its messages are delivered again. Then each node that is behind catches up, as
+/// by [`catch_up`]. A step that the node rejects, or for which an allocation fails, is skipped. A
+/// failed write is the last call of the writer.
 pub fn serve_connection<S: Source, K: Sink, T: Tape>(
     alloc: Global,
     source: &mut S,
@@ -108,9 +112,10 @@ pub(crate) fn agree_still<T: Tape>(farm: &Farm<T>)
     equal_requests_have_equal_responses::<T>();
 }
 
-/// Lets the node at an index answer the request that was read, with its cache; if there is none, writes its rejection, and nothing if
-/// the input was empty or a read failed. A request that only reads is answered from what the node has published, and sends nothing; a
-/// publish changes the node, and its messages are delivered.
+/// Lets the node at an index answer the request that was read, with its cache; if there is none,
+/// writes its rejection, and nothing if the input was empty or a read failed. A request that only
+/// reads is answered from what the node has published, and sends nothing; a publish changes the
+/// node, and its messages are delivered.
 fn respond<K: Sink, T: Tape>(
     alloc: Global,
     sink: &mut K,
@@ -193,7 +198,8 @@ fn publish_at<K: Sink, T: Tape>(
     }
 }
 
-/// Lets a publish ask the node at an index, and delivers the node's messages; returns what came of the deliveries.
+/// Lets a publish ask the node at an index, and delivers the node's messages; returns what came of
+/// the deliveries.
 fn exchange_at<K: Sink, T: Tape>(
     alloc: Global,
     farm: &mut Farm<T>,

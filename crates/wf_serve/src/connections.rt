@@ -22,15 +22,16 @@ use wf_wms::Cache;
 /// The time limit for a client to send its request, and then to receive the response, in seconds.
 const PEER_SECONDS: u64 = 10;
 
-/// Serves `requests` connections accepted at a listener, one after the other: connection c, counted from 0, is served by node c
-/// mod n, with its cache, as by [`serve_connection`]. A connection that can't be accepted counts as one without a request, and
-/// changes nothing.
+/// Serves `requests` connections accepted at a listener, one after the other: connection c, counted
+/// from 0, is served by node c mod n, with its cache, as by [`serve_connection`]. A connection that
+/// can't be accepted counts as one without a request, and changes nothing.
 ///
 /// What becomes of requests to publish and of the nodes' tapes is written to the log.
 ///
-/// A client has ten seconds to send its request: what it has sent by then is answered. Then it has ten seconds to receive the
-/// response; then the connection is closed. What it sends
-/// after its request is read and dropped, so that it can receive the response, for at most a second and a megabyte.
+/// A client has ten seconds to send its request: what it has sent by then is answered. Then it has
+/// ten seconds to receive the response; then the connection is closed. What it sends after its
+/// request is read and dropped, so that it can receive the response, for at most a second and a
+/// megabyte.
 pub fn serve_connections<R: Clock + Eprint + AllocGlobal, T: Tape>(
     rt: &R,
     log: &Log<'_, R>,
@@ -73,7 +74,8 @@ fn turn_of(connection: u32, count: usize) -> usize
     connection as usize % count
 }
 
-/// Serves the next connection by the node at an index, and closes it. If none can be accepted, nothing happens.
+/// Serves the next connection by the node at an index, and closes it. If none can be accepted,
+/// nothing happens.
 fn serve_next<R: Clock + Eprint + AllocGlobal, T: Tape>(
     rt: &R,
     watch: &mut Watch<'_, '_, R>,

@@ -17,7 +17,8 @@ pub enum ServeEvent<'a> {
         nodes: u8,
         beginning: Beginning,
     },
-    /// A tape has opened: its bytes before that and now, if the system says, and whether it was shortened.
+    /// A tape has opened: its bytes before that and now, if the system says, and whether it was
+    /// shortened.
     Tape {
         path: &'a str,
         before: Option<u64>,

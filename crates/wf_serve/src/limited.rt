@@ -8,8 +8,8 @@ use std::io::{ErrorKind, IoSlice, Read};
 use std::net::TcpStream;
 use std::time::{Clock, Duration, Instant};
 
-/// One direction of a connection, with one time limit for all its reads or writes together. The time starts with the first call,
-/// and a call still waiting at its end is given up.
+/// One direction of a connection, with one time limit for all its reads or writes together. The
+/// time starts with the first call, and a call still waiting at its end is given up.
 #[derive(Drop)]
 pub(crate) struct TimeLimited<'a, R: Clock> {
     clock: &'a R,
@@ -29,7 +29,8 @@ impl<'a, R: Clock> TimeLimited<'a, R> {
         }
     }
 
-    /// Reads once, and again if a signal interrupted it. `TimedOut` or `WouldBlock` if the time ends before bytes come.
+    /// Reads once, and again if a signal interrupted it. `TimedOut` or `WouldBlock` if the time
+    /// ends before bytes come.
     pub(crate) fn read(&mut self, buf: &mut [u8]) -> io::Result<usize>
         ensures { ReadsAtMost result buf.new }
     {
@@ -42,8 +43,8 @@ impl<'a, R: Clock> TimeLimited<'a, R> {
         Err(io::Error::from(ErrorKind::TimedOut))
     }
 
-    /// Writes once, some bytes from the front of two buffers, and again if a signal interrupted it. `TimedOut` or `WouldBlock` if the
-    /// time ends before the peer takes any.
+    /// Writes once, some bytes from the front of two buffers, and again if a signal interrupted it.
+    /// `TimedOut` or `WouldBlock` if the time ends before the peer takes any.
     pub(crate) fn write(&mut self, one: &[u8], two: &[u8]) -> io::Result<usize>
         ensures { WritesAtMost result (one.now ++ two.now) }
     {
@@ -87,7 +88,8 @@ impl<'a, R: Clock> TimeLimited<'a, R> {
         }
     }
 
-    /// When the time ends; it starts now if it hasn't yet. None if the clock can't represent the end.
+    /// When the time ends; it starts now if it hasn't yet. None if the clock can't represent the
+    /// end.
     fn end_from(&mut self, now: Instant) -> Option<Instant> {
         if self.end.is_none() {
             self.end = now.checked_add(self.time);

@@ -17,9 +17,10 @@ const PIECE_BYTES: usize = 8_192;
 /// The least status of a rejection.
 const LEAST_REJECTION: u16 = 400;
 
-/// Ends the response, and drops what the client still sends, until it closes or its time is over: if the connection were closed
-/// with unread bytes, the system could discard the rest of the response. A client that has sent nothing after its request isn't
-/// waited for, unless the request was rejected: then it may still be sending it.
+/// Ends the response, and drops what the client still sends, until it closes or its time is over:
+/// if the connection were closed with unread bytes, the system could discard the rest of the
+/// response. A client that has sent nothing after its request isn't waited for, unless the request
+/// was rejected: then it may still be sending it.
 pub(crate) fn part<R: Clock>(clock: &R, stream: &TcpStream, outcome: Outcome) {
     let may_send = is_rejection(outcome) || has_more(stream);
     if may_send && stream.shutdown(Shutdown::Write).is_ok() {

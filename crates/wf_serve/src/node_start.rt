@@ -22,10 +22,11 @@ use wf_store::{FileName, FolderFault, Store, path_in};
 use wf_tape::Tape;
 use wf_visitors::Log;
 
-/// Locks the folder at a path, and opens the farm of n nodes on their tapes in it, if it is new, this farm's or taken over; then it has
-/// its file `farm`. It is locked before anything in it is read, and its tapes are read before any is opened: if another program has
-/// locked it, it isn't the farm's, a tape is bad or two differ, nothing in it changes. The path is for the log alone. The folder's tapes
-/// are of a kind that isn't known to be durable, as a file isn't (`Farm::open`).
+/// Locks the folder at a path, and opens the farm of n nodes on their tapes in it, if it is new,
+/// this farm's or taken over; then it has its file `farm`. It is locked before anything in it is
+/// read, and its tapes are read before any is opened: if another program has locked it, it isn't
+/// the farm's, a tape is bad or two differ, nothing in it changes. The path is for the log alone.
+/// The folder's tapes are of a kind that isn't known to be durable, as a file isn't (`Farm::open`).
 #[tactic(auto, using(crate::proofs::Started::only_read))]
 pub fn open_folder<R: Eprint + Clock, S: Store>(
     alloc: Global,
@@ -302,7 +303,8 @@ fn open_tape<R: Eprint + Clock, S: Store>(
     added
 }
 
-/// Appends the node of this number, of n, opened from its tape, which is shortened then. The path is for the log.
+/// Appends the node of this number, of n, opened from its tape, which is shortened then. The path
+/// is for the log.
 fn add_node<R: Eprint + Clock, S: Store>(
     alloc: Global,
     log: &Log<'_, R>,

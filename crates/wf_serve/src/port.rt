@@ -11,8 +11,8 @@ use std::io;
 use std::net::{Ipv4Addr, Net, SocketAddr, SocketAddrV4, TcpListener, TcpStream};
 use wf_stream::{Sink, write_all};
 
-/// Listens at a port of 127.0.0.1, which only this machine can reach; 0 asks for any free port. Err: the system's error, if the
-/// port is taken or not permitted.
+/// Listens at a port of 127.0.0.1, which only this machine can reach; 0 asks for any free port.
+/// Err: the system's error, if the port is taken or not permitted.
 pub fn listen<R: Net<Listener = TcpListener, Stream = TcpStream>>(
     rt: &R,
     port: u16,
@@ -27,8 +27,8 @@ fn address_of(port: u16) -> SocketAddr
     SocketAddr::V4(SocketAddrV4::new(Ipv4Addr::new(127, 0, 0, 1), port))
 }
 
-/// Writes the line with the listener's port. Err: `Start`, with nothing written, if it isn't the requested port, the system
-/// doesn't report it, or an allocation fails.
+/// Writes the line with the listener's port. Err: `Start`, with nothing written, if it isn't the
+/// requested port, the system doesn't report it, or an allocation fails.
 pub(crate) fn print_port<K: Sink>(
     alloc: Global,
     listener: &TcpListener,
@@ -51,7 +51,8 @@ pub(crate) fn print_port<K: Sink>(
     outcome
 }
 
-/// The port of a listener's address, which isn't 0. None if another one was requested; 0 requests any.
+/// The port of a listener's address, which isn't 0. None if another one was requested; 0 requests
+/// any.
 fn port_of(address: &SocketAddr, asked: u16) -> Option<u16>
     ensures own { IfSome result (λ port. port ≡ socket_port address.now) }
     ensures asked { IfSome result (IsPortFor asked) }

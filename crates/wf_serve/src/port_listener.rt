@@ -31,17 +31,20 @@ use wf_tape::{FileTape, MemoryTape, Tape};
 use wf_visitors::Log;
 use wf_wms::Cache;
 
-/// Serves nodes at a port of 127.0.0.1, to the service's number of connections, one after the other: connection c, counted from
-/// 0, by node c mod N. The port is bound first: if that fails, no tape is opened. Then the nodes are opened from their tapes in the
-/// service's folder, or new ones in memory if there is no folder, and it goes on as [`serve_nodes`].
+/// Serves nodes at a port of 127.0.0.1, to the service's number of connections, one after the
+/// other: connection c, counted from 0, by node c mod N. The port is bound first: if that fails, no
+/// tape is opened. Then the nodes are opened from their tapes in the service's folder, or new ones
+/// in memory if there is no folder, and it goes on as [`serve_nodes`].
 ///
-/// Each tape in the folder is shortened once its node is open. The folder is locked first, and as long as the nodes are served: if
-/// another program has locked it, nothing in it changes; nor if it isn't this farm's, a tape is bad or two tapes differ. If the
-/// service asks for a log, each event is written to it.
+/// Each tape in the folder is shortened once its node is open. The folder is locked first, and as
+/// long as the nodes are served: if another program has locked it, nothing in it changes; nor if it
+/// isn't this farm's, a tape is bad or two tapes differ. If the service asks for a log, each event
+/// is written to it.
 ///
-/// Err: `Start` if the port can't be bound, the folder can't be locked or isn't this farm's, a tape doesn't open or an allocation
-/// fails; the writer isn't called then. `Write` if the line can't be written; a prefix of it may be, and the failed write is the
-/// last call. The port is the service's, or one chosen by the system if that is 0.
+/// Err: `Start` if the port can't be bound, the folder can't be locked or isn't this farm's, a tape
+/// doesn't open or an allocation fails; the writer isn't called then. `Write` if the line can't be
+/// written; a prefix of it may be, and the failed write is the last call. The port is the
+/// service's, or one chosen by the system if that is 0.
 #[tactic(auto, using(crate::proofs::Serves::served_in_files))]
 pub fn serve<
     'a,
@@ -78,11 +81,12 @@ pub fn serve<
     }
 }
 
-/// Serves the nodes on their tapes in a folder at a listener: they are opened by [`open_folder`], and it goes on as [`serve_nodes`].
-/// The folder's path is for the log alone; events are written to it.
+/// Serves the nodes on their tapes in a folder at a listener: they are opened by [`open_folder`],
+/// and it goes on as [`serve_nodes`]. The folder's path is for the log alone; events are written to
+/// it.
 ///
-/// Err: `Start` if the folder can't be locked or isn't this farm's, a tape doesn't open, or for the causes of [`serve_nodes`]; the
-/// writer isn't called then. `Write` as there.
+/// Err: `Start` if the folder can't be locked or isn't this farm's, a tape doesn't open, or for the
+/// causes of [`serve_nodes`]; the writer isn't called then. `Write` as there.
 pub fn serve_folder<R: Clock + Eprint + AllocGlobal, S: Store, K: Sink>(
     rt: &R,
     log: &Log<'_, R>,
@@ -139,13 +143,15 @@ fn write_port<R: Clock + Eprint>(log: &Log<'_, R>, listener: &TcpListener) {
     }
 }
 
-/// Serves a farm that a caller holds at a listener: each node requests the definitions that it missed, and the messages are delivered;
-/// the line `listening P` with the listener's port is written; and then connections are served as by [`serve_connections`]. The
-/// service gives the number of pictures cached for each node; its number of nodes is ignored. Events are written to the log.
+/// Serves a farm that a caller holds at a listener: each node requests the definitions that it
+/// missed, and the messages are delivered; the line `listening P` with the listener's port is
+/// written; and then connections are served as by [`serve_connections`]. The service gives the
+/// number of pictures cached for each node; its number of nodes is ignored. Events are written to
+/// the log.
 ///
-/// Err: `Start` if the listener's port isn't the service's, unless that is 0, or an allocation fails; the writer isn't called
-/// then. `Write` if the line can't be written; a prefix of it may be, and the failed write is the last call. In both cases no
-/// connection is served.
+/// Err: `Start` if the listener's port isn't the service's, unless that is 0, or an allocation
+/// fails; the writer isn't called then. `Write` if the line can't be written; a prefix of it may
+/// be, and the failed write is the last call. In both cases no connection is served.
 pub fn serve_nodes<R: Clock + Eprint + AllocGlobal, K: Sink, T: Tape>(
     rt: &R,
     log: &Log<'_, R>,

@@ -22,7 +22,8 @@ pub struct Survey {
     pub tapes: [Presence; 64],
 }
 
-/// Looks what is in a folder, and changes nothing. Err: the system doesn't say, or an allocation fails.
+/// Looks what is in a folder, and changes nothing. Err: the system doesn't say, or an allocation
+/// fails.
 #[tactic(auto, using(crate::proofs::Surveyed::surveyed, wf_store::specs::CallTheorems::reads_both))]
 pub fn inspect<S: Store>(store: &mut S) -> Result<Survey, Cause>
     ensures surveyed { IfOk result

@@ -8,7 +8,8 @@ use crate::event::Cause;
 use std::alloc::{AllocError, Global};
 use wf_ballot::NODES;
 
-/// Tapes that were taken: whether each is sound, and no two contradict each other; else the first cause why not.
+/// Tapes that were taken: whether each is sound, and no two contradict each other; else the first
+/// cause why not.
 #[derive(Drop)]
 pub struct TapeCheck {
     longest: Option<Longest>,
@@ -47,8 +48,8 @@ impl TapeCheck {
         }
     }
 
-    /// The first cause why the tapes aren't sound, in the order in which they were taken. None: each is sound, and no two contradict
-    /// each other.
+    /// The first cause why the tapes aren't sound, in the order in which they were taken. None:
+    /// each is sound, and no two contradict each other.
     #[tactic(auto, using(crate::proofs::Taken::sound_or))]
     pub fn cause(&self) -> Option<Cause>
         ensures { (tapes : List NumberedTape) → HasTakenTapes tapes self.now → AreSoundOr tapes result }

@@ -10,8 +10,8 @@ use std::net::TcpStream;
 use std::time::{Clock, Duration};
 use wf_stream::Source;
 
-/// What a client sends, within a time limit. At its end the input counts as ended, so that a client that stays gets the response to
-/// what it has sent. Its first bytes are kept for the log.
+/// What a client sends, within a time limit. At its end the input counts as ended, so that a client
+/// that stays gets the response to what it has sent. Its first bytes are kept for the log.
 #[derive(Drop)]
 pub(crate) struct TimedReader<'a, R: Clock> {
     peer: TimeLimited<'a, R>,

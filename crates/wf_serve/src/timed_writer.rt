@@ -10,8 +10,8 @@ use std::net::TcpStream;
 use std::time::{Clock, Duration};
 use wf_stream::Sink;
 
-/// What is sent to a client, within a time limit; a write after its end fails. Two buffers are written in one call of the system. The
-/// first bytes are kept for the log.
+/// What is sent to a client, within a time limit; a write after its end fails. Two buffers are
+/// written in one call of the system. The first bytes are kept for the log.
 #[derive(Drop)]
 pub(crate) struct TimedWriter<'a, R: Clock> {
     peer: TimeLimited<'a, R>,

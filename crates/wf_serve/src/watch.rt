@@ -16,8 +16,8 @@ const PUBLISH: &[u8] = b"POST /publish";
 /// The status of an accepted request to publish.
 const ACCEPTED: u16 = 202;
 
-/// What was last seen of a node: the sequence that its map was published as, the one under which another was, 0 if there is none, and
-/// whether its tape has failed.
+/// What was last seen of a node: the sequence that its map was published as, the one under which
+/// another was, 0 if there is none, and whether its tape has failed.
 #[derive(Clone, Copy)]
 struct Seen {
     published: u16,
@@ -52,7 +52,8 @@ impl<'a, 'b, R: Clock + Eprint> Watch<'a, 'b, R> {
         look_at(self.log, self.seen.as_mut_slice(), farm);
     }
 
-    /// Writes how a request to publish was answered by a node, by the first bytes of the request and of the response.
+    /// Writes how a request to publish was answered by a node, by the first bytes of the request
+    /// and of the response.
     pub(crate) fn receive(&self, node: usize, outcome: Outcome, request: &[u8], response: &[u8]) {
         if !request.starts_with(PUBLISH) {
             return;

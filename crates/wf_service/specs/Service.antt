@@ -2,7 +2,8 @@
 use Rattle.std.specs.Prelude.{◌≤◌, ℕ}
 use Rattle.wf_service.specs.declared.service.Service.{Service}
 
--- the greatest number of nodes, the greatest port, the greatest number of connections, and of pictures that a node keeps
+-- the greatest number of nodes, the greatest port, the greatest number of connections, and of
+-- pictures that a node keeps
 abbrev pub most_nodes : ℕ
 most_nodes = 64
 

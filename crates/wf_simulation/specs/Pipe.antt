@@ -1,7 +1,8 @@
 -- The model of a pipe.
 use Rattle.std.specs.Prelude.{◌≡◌, ℕ, ◌≤◌, List, ◌++◌, length}
 
--- all bytes that were taken at the one end, all that were read at the other, and how many wait at most
+-- all bytes that were taken at the one end, all that were read at the other, and how many wait at
+-- most
 pub record PipeState : Type 0 where
   pub sent : List ℕ
   pub came : List ℕ

@@ -143,8 +143,8 @@ impl Channel {
         }
     }
 
-    /// Closes an end: over unread bytes the other end is reset, else it reads to the end of what was sent. A host that is off tells nobody;
-    /// once it is on it answers by a reset.
+    /// Closes an end: over unread bytes the other end is reset, else it reads to the end of what
+    /// was sent. A host that is off tells nobody; once it is on it answers by a reset.
     pub(crate) fn close(&mut self, side: Side, medium: &mut Medium)
         ensures { KeepsBoth self.old self.new }
     {
@@ -256,7 +256,8 @@ impl Channel {
         back.step(forth, callee, caller, medium);
     }
 
-    /// The caller asks. Nothing answers if it doesn't come through, the queue is full, or by chance; then it asks again, and gives up at last.
+    /// The caller asks. Nothing answers if it doesn't come through, the queue is full, or by
+    /// chance; then it asks again, and gives up at last.
     fn call(&mut self, medium: &mut Medium, doors: &mut Vec<Door>, calls: u32)
         ensures { KeepsBoth self.old self.new }
     {
@@ -336,7 +337,8 @@ impl Channel {
         }
     }
 
-    /// The listener comes to know of it: it waits there. Where there is no listener any more, a reset comes back.
+    /// The listener comes to know of it: it waits there. Where there is no listener any more, a
+    /// reset comes back.
     fn confirm(&mut self, medium: &mut Medium, doors: &mut Vec<Door>)
         ensures { KeepsBoth self.old self.new }
     {
@@ -354,7 +356,8 @@ impl Channel {
     }
 }
 
-/// Where a connection goes: the hosts, the address from which it comes, and the one to which it goes.
+/// Where a connection goes: the hosts, the address from which it comes, and the one to which it
+/// goes.
 #[derive(Clone, Copy)]
 pub(crate) struct Route {
     pub(crate) caller: usize,
@@ -402,7 +405,8 @@ fn read_from(flow: &mut Flow, back: &mut Flow, buf: &mut [u8], medium: &mut Medi
     moved
 }
 
-/// Writes in a direction: what was taken is on its way. Where it was short, an event is due once there is room.
+/// Writes in a direction: what was taken is on its way. Where it was short, an event is due once
+/// there is room.
 fn write_to(flow: &mut Flow, end: &mut Endpoint, bytes: &[u8], medium: &mut Medium) -> Moved
     ensures sent { flow.new.pipe.sent ≡ flow.old.pipe.sent ++ moved result bytes.now }
     ensures came { flow.new.pipe.came ≡ flow.old.pipe.came }
@@ -439,7 +443,8 @@ fn watch_end(end: &mut Endpoint, incoming: &Flow, outgoing: &Flow, token: usize,
     end.is_ready = !is_opening && (incoming.pipe.is_readable() || outgoing.pipe.is_writable());
 }
 
-/// Closes an end: by a reset over unread bytes, in silence where its host is off, else after what was sent.
+/// Closes an end: by a reset over unread bytes, in silence where its host is off, else after what
+/// was sent.
 fn close_end(end: &mut Endpoint, incoming: &mut Flow, outgoing: &mut Flow, medium: &mut Medium)
     ensures incoming { KeepsBytes incoming.old.pipe incoming.new.pipe }
     ensures outgoing { KeepsBytes outgoing.old.pipe outgoing.new.pipe }

@@ -11,7 +11,8 @@ pub struct Counts {
     pub unanswered: u64,
     /// Connections that were reset by chance.
     pub resets: u64,
-    /// Resets since an end was closed over unread bytes, or something came for an end that was closed or that its host has forgotten.
+    /// Resets since an end was closed over unread bytes, or something came for an end that was
+    /// closed or that its host has forgotten.
     pub answers: u64,
     /// Directions that were lost.
     pub losses: u64,

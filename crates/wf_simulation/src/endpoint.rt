@@ -1,6 +1,7 @@
 //! One end of a connection.
 
-/// Which end of a connection: that of the host that connected, or that of the host that was connected to.
+/// Which end of a connection: that of the host that connected, or that of the host that was
+/// connected to.
 #[derive(Clone, Copy)]
 pub enum Side {
     /// The host that connected.
@@ -9,7 +10,8 @@ pub enum Side {
     Callee,
 }
 
-/// One end of a connection: its host, the token under which it is watched, and whether an event of it waits.
+/// One end of a connection: its host, the token under which it is watched, and whether an event of
+/// it waits.
 #[derive(Clone, Copy)]
 pub(crate) struct Endpoint {
     pub(crate) host: usize,

@@ -72,8 +72,8 @@ impl Flow {
         }
     }
 
-    /// Does the step that is due, if one is: what is on its way from an end to another arrives, or it doesn't. What a host that has
-    /// forgotten the connection had sent is lost; its reset isn't.
+    /// Does the step that is due, if one is: what is on its way from an end to another arrives, or
+    /// it doesn't. What a host that has forgotten the connection had sent is lost; its reset isn't.
     pub(crate) fn step(
         &mut self,
         back: &mut Flow,
@@ -101,7 +101,8 @@ impl Flow {
         }
     }
 
-    /// What is on its way arrives, or a part of it. A host that has forgotten the connection answers all but a reset by a reset.
+    /// What is on its way arrives, or a part of it. A host that has forgotten the connection
+    /// answers all but a reset by a reset.
     fn arrive(&mut self, back: &mut Flow, to: &mut Endpoint, medium: &mut Medium)
         ensures forth { KeepsBytes self.old.pipe self.new.pipe }
         ensures back { KeepsBytes back.old.pipe back.new.pipe }

@@ -25,7 +25,8 @@ pub(crate) struct Medium {
     pub(crate) faults: Faults,
     pub(crate) hosts: Vec<Host>,
     pub(crate) counts: Counts,
-    // until when nothing goes from a host to another, the first's row after the row of the one before
+    // until when nothing goes from a host to another, the first's row after the row of the one
+    // before
     blocked: Vec<u64>,
 }
 

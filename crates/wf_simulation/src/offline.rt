@@ -4,8 +4,8 @@ use std::io;
 use std::io::ErrorKind;
 use std::net::{Net, SocketAddr, TcpListener, TcpStream};
 
-/// A runtime without a network of the system: a program that has it opens no socket but those of a simulated network. Each call fails by
-/// `Unsupported`.
+/// A runtime without a network of the system: a program that has it opens no socket but those of a
+/// simulated network. Each call fails by `Unsupported`.
 #[derive(Clone, Copy, Debug)]
 pub struct Offline;
 

@@ -9,13 +9,14 @@ use std::io::{Read, Write};
 use std::marker::Model;
 use wf_sockets::{Moved, Trail};
 
-/// One direction of a connection: what was written at one end and not yet read at the other, in a bounded buffer. A part of it, at the
-/// front, has arrived. Model: all bytes that were taken at the one end, all that were read at the other, and how many wait at most.
+/// One direction of a connection: what was written at one end and not yet read at the other, in a
+/// bounded buffer. A part of it, at the front, has arrived. Model: all bytes that were taken at the
+/// one end, all that were read at the other, and how many wait at most.
 #[derive(Drop)]
 pub struct Pipe {
     waiting: VecDeque<u8>,
-    // how many of those that wait are in flight no more, how many of these may be read, and how many that were read still take room,
-    // since the writer doesn't know of it
+    // how many of those that wait are in flight no more, how many of these may be read, and how
+    // many that were read still take room, since the writer doesn't know of it
     arrived: usize,
     readable: usize,
     unconfirmed: usize,
@@ -23,7 +24,8 @@ pub struct Pipe {
     // whether the writer has ended, and whether the reader has come to know of it
     is_ended: bool,
     has_end_arrived: bool,
-    // whether each end has come to know that the connection has failed: what arrives then is never read
+    // whether each end has come to know that the connection has failed: what arrives then is never
+    // read
     has_reader_failed: bool,
     has_writer_failed: bool,
     sent: Trail,
@@ -63,8 +65,8 @@ impl Pipe {
         }
     }
 
-    /// Takes bytes at the writer's end, as many as there is room for. `Failed` once the writer has ended or failed, or if an allocation
-    /// fails.
+    /// Takes bytes at the writer's end, as many as there is room for. `Failed` once the writer has
+    /// ended or failed, or if an allocation fails.
     #[tactic(auto, using(crate::proofs::Pipes::written))]
     pub fn write(&mut self, bytes: &[u8]) -> Moved
         ensures sent { self.new.sent ≡ self.old.sent ++ moved result bytes.now }
@@ -95,7 +97,8 @@ impl Pipe {
         }
     }
 
-    /// Reads at the reader's end what has arrived. Once that was read: `Closed` if the end has arrived, `Failed` if the reader has failed.
+    /// Reads at the reader's end what has arrived. Once that was read: `Closed` if the end has
+    /// arrived, `Failed` if the reader has failed.
     #[tactic(auto, using(crate::proofs::Pipes::was_read))]
     pub fn read(&mut self, buf: &mut [u8]) -> Moved
         ensures came { self.new.came ≡ self.old.came ++ moved result buf.new }
@@ -131,7 +134,8 @@ impl Pipe {
         }
     }
 
-    /// What was read is a beginning of what was sent, always: no byte is changed, skipped, repeated or invented. The call does nothing.
+    /// What was read is a beginning of what was sent, always: no byte is changed, skipped, repeated
+    /// or invented. The call does nothing.
     #[tactic(auto, using(crate::proofs::Pipes::carries))]
     pub fn always_carries(&self)
         ensures { IsBeginning self.now.came self.now.sent }
@@ -186,7 +190,8 @@ impl Pipe {
         self.has_reader_failed
     }
 
-    /// So many bytes more arrive, if so many are in flight. A reader that has failed never reads them.
+    /// So many bytes more arrive, if so many are in flight. A reader that has failed never reads
+    /// them.
     pub fn arrive(&mut self, count: usize)
         ensures { KeepsBytes self.old self.new }
     {
@@ -218,7 +223,8 @@ impl Pipe {
         self.has_end_arrived = self.is_ended && self.in_flight() == 0 && !self.has_reader_failed;
     }
 
-    /// The reader comes to know that the connection has failed. What has arrived and wasn't read is lost, unless it is kept.
+    /// The reader comes to know that the connection has failed. What has arrived and wasn't read is
+    /// lost, unless it is kept.
     pub fn fail_reader(&mut self, keeps: bool)
         ensures { KeepsBytes self.old self.new }
     {

@@ -12,7 +12,8 @@ use std::alloc::{AllocError, Global};
 use std::net::{Ipv4Addr, SocketAddr, SocketAddrV4};
 use wf_sockets::{Moved, NotAccepted};
 
-/// The end of a connection that a program has: the slot of the connection, its number, and which end it is.
+/// The end of a connection that a program has: the slot of the connection, its number, and which
+/// end it is.
 #[derive(Clone, Copy)]
 pub(crate) struct Handle {
     slot: usize,
@@ -41,8 +42,9 @@ fn free_slots(alloc: Global, count: usize) -> Result<Vec<Option<Channel>>, Alloc
 }
 
 impl World {
-    /// A network of so many hosts, all of which are on, on which at most so many connections are open at once. Its time is 0. The same
-    /// seed, faults and calls give the same network. The only error is allocation failure.
+    /// A network of so many hosts, all of which are on, on which at most so many connections are
+    /// open at once. Its time is 0. The same seed, faults and calls give the same network. The only
+    /// error is allocation failure.
     pub fn new(
         alloc: Global,
         seed: u64,
@@ -76,18 +78,20 @@ impl World {
         self.medium.faults = faults;
     }
 
-    /// Nothing goes from a host to another until then. What was sent stays on its way; nobody is told.
+    /// Nothing goes from a host to another until then. What was sent stays on its way; nobody is
+    /// told.
     pub fn block(&mut self, from: usize, to: usize, until: u64) {
         self.medium.block(from, to, until);
     }
 
-    /// Turns a host off: nothing reaches it any more, and what is closed there is closed in silence. Its programs have to be ended by
-    /// the caller.
+    /// Turns a host off: nothing reaches it any more, and what is closed there is closed in
+    /// silence. Its programs have to be ended by the caller.
     pub fn turn_off(&mut self, host: usize) {
         self.set_host(host, false);
     }
 
-    /// Turns a host on. It knows of no connection from before, and answers what comes for one by a reset.
+    /// Turns a host on. It knows of no connection from before, and answers what comes for one by a
+    /// reset.
     pub fn turn_on(&mut self, host: usize) {
         self.set_host(host, true);
     }
@@ -115,8 +119,9 @@ impl World {
         due
     }
 
-    /// Goes on to a moment, in milliseconds, unless it is past: what is due by then arrives, each at most one step. A caller that goes
-    /// from one moment of [`due`](World::due) to the next misses none.
+    /// Goes on to a moment, in milliseconds, unless it is past: what is due by then arrives, each
+    /// at most one step. A caller that goes from one moment of [`due`](World::due) to the next
+    /// misses none.
     pub fn advance(&mut self, time: u64) {
         self.medium.time = self.medium.time.max(time);
         let World {
@@ -133,8 +138,9 @@ impl World {
         }
     }
 
-    /// The token of a socket of a host that may be ready, as it was watched or listened under. None: no socket has anything new. By chance
-    /// one is told of a socket that isn't ready, or of one that was closed.
+    /// The token of a socket of a host that may be ready, as it was watched or listened under.
+    /// None: no socket has anything new. By chance one is told of a socket that isn't ready, or of
+    /// one that was closed.
     pub fn take_ready(&mut self, host: usize) -> Option<usize> {
         if self.medium.chance.happens(self.medium.faults.false_events) {
             return self.false_token(host);
@@ -145,7 +151,8 @@ impl World {
         }
     }
 
-    /// The token of an event of a connection of a host, which is taken: of those after one by chance first.
+    /// The token of an event of a connection of a host, which is taken: of those after one by
+    /// chance first.
     fn take_channel_event(&mut self, host: usize) -> Option<usize> {
         let count = self.channels.len();
         let first = self.medium.chance.up_to(u32::try_from(count).unwrap_or(1)) as usize;

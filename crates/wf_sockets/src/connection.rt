@@ -14,15 +14,16 @@ pub trait Connection {
     /// All bytes that were taken to be sent.
     ghost sent: { Self → List ℕ };
 
-    /// Reads once, to the front of a buffer. What stands in the buffer behind the bytes that were read is any. `Blocked` if the buffer
-    /// is empty.
+    /// Reads once, to the front of a buffer. What stands in the buffer behind the bytes that were
+    /// read is any. `Blocked` if the buffer is empty.
     fn read(&mut self, buf: &mut [u8]) -> Moved
         ensures came { came self.new ≡ came self.old ++ moved result buf.new }
         ensures sent { sent self.new ≡ sent self.old }
         ensures within { IsWithin (length buf.old) result }
         ensures empty { length buf.old ≡ 0 → result ≡ Moved.Blocked };
 
-    /// Writes once, from the front of some bytes. It is never `Closed`; `Blocked` if there are no bytes.
+    /// Writes once, from the front of some bytes. It is never `Closed`; `Blocked` if there are no
+    /// bytes.
     fn write(&mut self, bytes: &[u8]) -> Moved
         ensures sent { sent self.new ≡ sent self.old ++ moved result bytes.now }
         ensures came { came self.new ≡ came self.old }
@@ -30,13 +31,14 @@ pub trait Connection {
         ensures empty { length bytes.now ≡ 0 → result ≡ Moved.Blocked }
         ensures open { result ≢ Moved.Closed };
 
-    /// From now on each write is sent at once, and doesn't wait to be joined with others; where the system doesn't do that, nothing
-    /// changes.
+    /// From now on each write is sent at once, and doesn't wait to be joined with others; where the
+    /// system doesn't do that, nothing changes.
     fn send_at_once(&mut self)
         ensures came { came self.new ≡ came self.old }
         ensures sent { sent self.new ≡ sent self.old };
 
-    /// Ends the writing direction: once all that was sent has come, the other side reads `Closed`. Each later write fails; reads go on.
+    /// Ends the writing direction: once all that was sent has come, the other side reads `Closed`.
+    /// Each later write fails; reads go on.
     fn end_writing(&mut self)
         ensures came { came self.new ≡ came self.old }
         ensures sent { sent self.new ≡ sent self.old };

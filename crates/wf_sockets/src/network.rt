@@ -22,8 +22,9 @@ pub enum NetworkError {
     Memory,
 }
 
-/// A network, on which one listens and connects. No call blocks, and none says which sockets are ready: a caller waits for the tokens
-/// under which it listens and watches, and may be told of one too often. What opens a socket is given the runtime, which permits it.
+/// A network, on which one listens and connects. No call blocks, and none says which sockets are
+/// ready: a caller waits for the tokens under which it listens and watches, and may be told of one
+/// too often. What opens a socket is given the runtime, which permits it.
 pub trait Network {
     /// A connection of it.
     type Connection: Connection + Drop;
@@ -31,14 +32,15 @@ pub trait Network {
     /// A listener of it. The port is closed where it is dropped.
     type Listener: Drop;
 
-    /// Listens at an address, under a token. Port 0 stands for any free one. None: the address is taken, isn't of this host, or the
-    /// system doesn't permit it.
+    /// Listens at an address, under a token. Port 0 stands for any free one. None: the address is
+    /// taken, isn't of this host, or the system doesn't permit it.
     fn listen<R: Net>(&self, rt: &R, address: SocketAddr, token: usize) -> Option<Self::Listener>;
 
     /// Where a listener listens, with its port. None: the system doesn't say.
     fn address(&self, listener: &Self::Listener) -> Option<SocketAddr>;
 
-    /// The next connection that waits at a listener, and the address from which it came. It isn't watched yet.
+    /// The next connection that waits at a listener, and the address from which it came. It isn't
+    /// watched yet.
     fn accept(
         &self,
         listener: &mut Self::Listener,
@@ -46,14 +48,14 @@ pub trait Network {
         ensures came { IfOk result (λ accepted. Self.Connection.came accepted.0 ≡ []) }
         ensures sent { IfOk result (λ accepted. Self.Connection.sent accepted.0 ≡ []) };
 
-    /// Begins to open a connection to an address. Until it is open, its reads and writes are `Blocked`; once it can't be opened they
-    /// fail. It isn't watched yet. None: it can't begin.
+    /// Begins to open a connection to an address. Until it is open, its reads and writes are
+    /// `Blocked`; once it can't be opened they fail. It isn't watched yet. None: it can't begin.
     fn connect<R: Net>(&self, rt: &R, address: SocketAddr) -> Option<Self::Connection>
         ensures came { IfSome result (λ connection. Self.Connection.came connection ≡ []) }
         ensures sent { IfSome result (λ connection. Self.Connection.sent connection ≡ []) };
 
-    /// Watches a connection under a token, in place of an earlier one: its next event comes although not all was read or written
-    /// since its last. Returns whether it is watched.
+    /// Watches a connection under a token, in place of an earlier one: its next event comes
+    /// although not all was read or written since its last. Returns whether it is watched.
     fn watch(&self, connection: &mut Self::Connection, token: usize) -> bool
         ensures came { Self.Connection.came connection.new ≡ Self.Connection.came connection.old }
         ensures sent { Self.Connection.sent connection.new ≡ Self.Connection.sent connection.old };

@@ -9,7 +9,8 @@ use std::io;
 use std::io::ErrorKind;
 use wf_stream::Sink;
 
-/// A connection as a sink, with a count of its failed writes. One that takes no byte now fails by `WouldBlock`.
+/// A connection as a sink, with a count of its failed writes. One that takes no byte now fails by
+/// `WouldBlock`.
 #[derive(Drop)]
 pub struct ConnectionSink<'a, C> {
     connection: &'a mut C,

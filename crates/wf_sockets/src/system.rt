@@ -1,4 +1,5 @@
-//! The network of the system, over mio. That its calls move the bytes that they report is a premise, and this the text to read for it.
+//! The network of the system, over mio. That its calls move the bytes that they report is a
+//! premise, and this the text to read for it.
 ghost use Rattle.std.specs.Prelude.{◌≡◌, ◌≢◌, ◌≤◌, [], length};
 ghost use Rattle.wf_sockets.specs.Moved.{IsNone};
 
@@ -133,9 +134,10 @@ impl SystemNetwork {
         }
     }
 
-    /// Waits until a socket is ready, for so many milliseconds at most. Puts the tokens of the sockets that are to the front of the
-    /// buffer, and returns how many that are: none after a signal, or where the system can't wait. Those that had no room are told of
-    /// again only by a later event.
+    /// Waits until a socket is ready, for so many milliseconds at most. Puts the tokens of the
+    /// sockets that are to the front of the buffer, and returns how many that are: none after a
+    /// signal, or where the system can't wait. Those that had no room are told of again only by a
+    /// later event.
     pub fn wait(&mut self, millis: u64, tokens: &mut [usize]) -> usize
         ensures { result ≤ length tokens.old }
     {

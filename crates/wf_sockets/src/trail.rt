@@ -4,7 +4,8 @@ ghost use Rattle.std.specs.Borrow.{ftrue};
 
 use std::marker::{Model, PhantomData};
 
-/// Bytes that only proofs read: a clause names them `bytes`. It takes no memory, and its calls do nothing.
+/// Bytes that only proofs read: a clause names them `bytes`. It takes no memory, and its calls do
+/// nothing.
 #[derive(Drop)]
 pub struct Trail {
     marker: PhantomData<u8>,

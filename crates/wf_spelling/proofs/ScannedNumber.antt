@@ -59,7 +59,8 @@ some_digit (suc digit) behind unit below some = λ none. grind (arith, none, bel
 digit_within : (digit parts unit tenth : ℕ) → digit < 10 → unit ≡ tenth * 10 → parts + unit ≤ 1000000 → parts + digit * tenth + tenth ≤ 1000000
 digit_within digit parts unit tenth few whole below = grind arith
 
--- the digits so far, and the millionths of any behind them, are those of a fraction, unless the last digit is zero
+-- the digits so far, and the millionths of any behind them, are those of a fraction, unless the
+-- last digit is zero
 pub record IsFraction (start : Cursor) (places unit parts last : ℕ) (now : Cursor) : Type 0 where
   pub behind : (rest : ℕ) (end : Cursor) → rest < unit → last + rest ≢ 0 → Scans now (fraction_digits places rest) end → Scans start (fraction_digits 6 (parts + rest)) end
   pub power : unit ≡ 10 ^ places

@@ -1,5 +1,6 @@
--- The canonical text of a map definition: one item a line, each line ended by LF, single spaces, keywords and choices in
--- capitals, every default filled in. An optional value has a line only if it is present.
+-- The canonical text of a map definition: one item a line, each line ended by LF, single spaces,
+-- keywords and choices in capitals, every default filled in. An optional value has a line only if
+-- it is present.
 use Rattle.std.specs.Prelude.{◌≡◌, ℕ, ℤ, ◌≤◌, length, Bool, true, false, List, [], ◌∷◌, ◌++◌, map, Option, Some, None, codes, ◌<◌, min}
 use Rattle.std.specs.List.{flat_map}
 use Rattle.std.specs.Fmt.{decimal}

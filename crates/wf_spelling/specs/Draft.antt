@@ -3,7 +3,8 @@ use Rattle.std.specs.Prelude.{◌≡◌, ◌+◌, ◌≤◌, ℕ, true, List, �
 use Rattle.wf_spelling.specs.Canon.{counted, most_canon_bytes}
 use Rattle.wf_spelling.specs.declared.draft.Draft.{Draft}
 
--- what was written so far is this text: its bytes are counted up to 2^64 - 1, and a whole draft holds them all
+-- what was written so far is this text: its bytes are counted up to 2^64 - 1, and a whole draft
+-- holds them all
 pub record IsDraftOf (d : Draft) (text : List ℕ) : Type 0 where
   pub total : d.length ≡ counted (length text)
   pub whole : d.is_whole ≡ true → d.text.items ≡ text

@@ -35,7 +35,8 @@ text_before d index = text_of (opening_lines d ++ flat_map layer_lines (take ind
 abbrev pub EndsWithin : List ℕ → List ℕ × LayerDefinition → Type 0
 EndsWithin text entry = length (text ++ text_of (layer_opening_lines entry ++ flat_map feature_lines entry.1.features)) ≤ most_canon_bytes
 
--- behind a text, this feature of a layer is the first that ends behind the limit; or none, where the layer is over it before its features
+-- behind a text, this feature of a layer is the first that ends behind the limit; or none, where
+-- the layer is over it before its features
 abbrev pub Exceeds : List ℕ → List ℕ × LayerDefinition → Option ℕ → Type 0
 Exceeds text entry None = most_canon_bytes < length (with_features text entry 0)
 Exceeds text entry (Some feature) = (feature < length entry.1.features)

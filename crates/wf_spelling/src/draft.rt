@@ -7,8 +7,8 @@ ghost use Rattle.wf_spelling.specs.Draft.{HasRoomForBytes, IsDraftOf, Writes};
 use crate::text::MOST_CANON_BYTES;
 use std::alloc::{AllocError, Global};
 
-/// A canonical text while it is written, piece by piece. Its length is counted even if allocation fails for its bytes, so a text
-/// over the limit is distinguished from an allocation failure.
+/// A canonical text while it is written, piece by piece. Its length is counted even if allocation
+/// fails for its bytes, so a text over the limit is distinguished from an allocation failure.
 #[derive(Drop)]
 pub struct Draft {
     text: Vec<u8>,
@@ -89,7 +89,8 @@ impl Draft {
     }
 }
 
-/// Appends bytes; most pieces are one byte, a space, a quote or an LF, which needs no call that copies.
+/// Appends bytes; most pieces are one byte, a space, a quote or an LF, which needs no call that
+/// copies.
 fn append(text: &mut Vec<u8>, bytes: &[u8]) -> Result<(), AllocError>
     ensures items { text.new.items ≡
         (if is_ok result then text.old.items ++ bytes.now else text.old.items) }

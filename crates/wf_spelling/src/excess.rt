@@ -24,7 +24,8 @@ pub struct Excess {
     pub feature: Option<usize>,
 }
 
-/// The number of bytes of a map's canonical text, up to 2^64 - 1. It is counted as it is written, and allocates nothing.
+/// The number of bytes of a map's canonical text, up to 2^64 - 1. It is counted as it is written,
+/// and allocates nothing.
 #[tactic(auto, using(crate::proofs::WriteSequences::whole_text))]
 pub fn text_length(alloc: Global, map: &MapDef) -> usize
     ensures { result ≡ counted (length (canon map.now)) }
@@ -54,8 +55,8 @@ pub fn features_length(alloc: Global, features: &[Feature]) -> usize
     draft.length()
 }
 
-/// The first layer of a map, or feature of a layer, that ends behind the limit of the canonical text; none if only an END does, or
-/// nothing.
+/// The first layer of a map, or feature of a layer, that ends behind the limit of the canonical
+/// text; none if only an END does, or nothing.
 #[tactic(auto, using(crate::proofs::ExcessTheorem::first_draft, crate::proofs::ExcessTheorem::next_draft, crate::proofs::ExcessTheorem::none_before, crate::proofs::ExcessTheorem::within_next, crate::proofs::ExcessTheorem::is_excess))]
 pub fn first_excess(alloc: Global, map: &MapDef) -> Option<Excess>
     ensures none { IfNone result (EndWithin map.now (length map.now.layers)) }

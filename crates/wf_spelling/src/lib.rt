@@ -1,15 +1,19 @@
 //! The canonical text of a map: its definition, how it is written, and a quick reader of it.
 //!
-//! A canonical text is a mapfile with one item a line, single spaces, keywords in capitals and every default filled in (MapServer
-//! mapfile reference). `specs/Canon.antt` defines it as the lines of a definition, one after the other. wf_token defines how tokens
-//! are written on a line, wf_text how a number is written.
+//! A canonical text is a mapfile with one item a line, single spaces, keywords in capitals and
+//! every default filled in (MapServer mapfile reference). `specs/Canon.antt` defines it as the
+//! lines of a definition, one after the other. wf_token defines how tokens are written on a line,
+//! wf_text how a number is written.
 //!
-//! Promises: [`text_of`] returns exactly the text of its definition. [`text_length`], [`layer_length`] and [`features_length`] count
-//! its bytes, also of a text that is too long, and [`first_excess`] is where it passes its limit (`specs/Excess.antt`). [`scan_text`] accepts canonical texts alone, and
-//! returns their definition. Not here: whether bytes that the scanner leaves are a canonical text (wf_canon decides it).
+//! Promises: [`text_of`] returns exactly the text of its definition. [`text_length`],
+//! [`layer_length`] and [`features_length`] count its bytes, also of a text that is too long, and
+//! [`first_excess`] is where it passes its limit (`specs/Excess.antt`). [`scan_text`] accepts
+//! canonical texts alone, and returns their definition. Not here: whether bytes that the scanner
+//! leaves are a canonical text (wf_canon decides it).
 //!
-//! Modules: `draft` is a text while it is written, `line` writes the lines of one item; `class`, `feature`, `layer` and `writer`
-//! write blocks of lines; `text` writes a whole text, `excess` counts one; `scan` reads them, in files of the same names.
+//! Modules: `draft` is a text while it is written, `line` writes the lines of one item; `class`,
+//! `feature`, `layer` and `writer` write blocks of lines; `text` writes a whole text, `excess`
+//! counts one; `scan` reads them, in files of the same names.
 #![tactic(auto)]
 
 mod class;

@@ -13,8 +13,8 @@ use wf_def::MapDef;
 /// The longest canonical text, in bytes.
 pub const MOST_CANON_BYTES: usize = 65_536;
 
-/// The canonical text of a definition, within the limit, in a buffer that begins with this room. Beyond that room bytes are
-/// counted before memory for them is allocated.
+/// The canonical text of a definition, within the limit, in a buffer that begins with this room.
+/// Beyond that room bytes are counted before memory for them is allocated.
 pub fn text_of(alloc: Global, def: &MapDef, room: usize) -> Result<Vec<u8>, CanonFault>
     ensures written { IfOk result (λ text. text.items ≡ canon def.now) }
     ensures short { OnOk result (length (canon def.now) ≤ most_canon_bytes) }

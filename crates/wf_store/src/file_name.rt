@@ -12,7 +12,8 @@ pub enum FileName {
     Farm,
     /// `heard`, which says what a node heard of its peers.
     Heard,
-    /// `joins`, which says what the folder of a node was told that joins in the place of a lost one.
+    /// `joins`, which says what the folder of a node was told that joins in the place of a lost
+    /// one.
     Joins,
     /// `replaced`, which says what a node knows of replacements.
     Replaced,

@@ -1,22 +1,27 @@
 //! The folder of a farm, a node or a replica, as the one process that uses it sees it.
 //!
-//! A [`Store`] is a folder with files of known names ([`FileName`]). Its calls: [`Store::make`] and [`Store::lock`] of the folder,
-//! [`Store::is_same`] (whether the folder at its path is still the one that is locked), [`Store::count_names`], [`Store::draw`] of
-//! random bits; of a file [`Store::presence`], [`Store::length`], [`Store::read`], [`Store::open`] and [`Store::open_existing`] as a
-//! tape, and [`Store::replace`]. [`SystemStore`] is a folder of the system; [`MemoryStore`] is one in memory, in a [`MemoryFolder`]
-//! that outlives it, whose disks fail where that was set, and whose power is cut.
+//! A [`Store`] is a folder with files of known names ([`FileName`]). Its calls: [`Store::make`] and
+//! [`Store::lock`] of the folder, [`Store::is_same`] (whether the folder at its path is still the
+//! one that is locked), [`Store::count_names`], [`Store::draw`] of random bits; of a file
+//! [`Store::presence`], [`Store::length`], [`Store::read`], [`Store::open`] and
+//! [`Store::open_existing`] as a tape, and [`Store::replace`]. [`SystemStore`] is a folder of the
+//! system; [`MemoryStore`] is one in memory, in a [`MemoryFolder`] that outlives it, whose disks
+//! fail where that was set, and whose power is cut.
 //!
-//! **Model.** What a clause sees of any store is the list of its calls (`specs/Call.antt`): in which order they were made, what was
-//! read and what was written. `changes` of it are those that changed a file, or may have.
+//! **Model.** What a clause sees of any store is the list of its calls (`specs/Call.antt`): in
+//! which order they were made, what was read and what was written. `changes` of it are those that
+//! changed a file, or may have.
 //!
-//! **Promises.** Each call is noted, with the bytes that were read or left, and an error is one of those that its call has, of the
-//! file that it was about (`specs/Fault.antt`); a call that reads changes no file. A file is replaced whole by [`replace_on`], over
-//! any disk: of a durable one a power cut at any moment leaves the bytes from before or the new ones, and once it has returned the
-//! new ones alone.
+//! **Promises.** Each call is noted, with the bytes that were read or left, and an error is one of
+//! those that its call has, of the file that it was about (`specs/Fault.antt`); a call that reads
+//! changes no file. A file is replaced whole by [`replace_on`], over any disk: of a durable one a
+//! power cut at any moment leaves the bytes from before or the new ones, and once it has returned
+//! the new ones alone.
 //!
-//! **Doesn't.** What the system does with files and locks has no model: that what is read stands in the file, that a lock keeps
-//! others out, and that two folders with one device and number are the same are premises. Nor has what a cell contains: the
-//! clauses of a folder in memory are those on its calls, and what a cut leaves of it is tested (`wf_test_store`).
+//! **Doesn't.** What the system does with files and locks has no model: that what is read stands in
+//! the file, that a lock keeps others out, and that two folders with one device and number are the
+//! same are premises. Nor has what a cell contains: the clauses of a folder in memory are those on
+//! its calls, and what a cut leaves of it is tested (`wf_test_store`).
 #![tactic(auto)]
 
 mod calls;

@@ -6,11 +6,11 @@ use std::alloc::{AllocError, Global};
 use std::cell::{Cell, RefCell, RefMut};
 use wf_disk::{Disk, DiskFault, MemoryDisk, Name};
 
-/// A folder in memory, with a disk for each file. It outlives the stores over it, so that a process that has ended is started on it
-/// anew, after a power cut too.
+/// A folder in memory, with a disk for each file. It outlives the stores over it, so that a process
+/// that has ended is started on it anew, after a power cut too.
 ///
-/// What a cell contains has no clause, so neither has what the folder holds: the clauses of a store are those on its calls, and
-/// those on power cuts are of a `MemoryDisk` that is owned.
+/// What a cell contains has no clause, so neither has what the folder holds: the clauses of a store
+/// are those on its calls, and those on power cuts are of a `MemoryDisk` that is owned.
 #[derive(Drop)]
 pub struct MemoryFolder {
     alloc: Global,
@@ -28,8 +28,8 @@ pub struct MemoryFolder {
 }
 
 impl MemoryFolder {
-    /// A folder without files, for the tapes of so many nodes; that of a node with a higher number can't be made. No failure is set.
-    /// The only error is allocation failure.
+    /// A folder without files, for the tapes of so many nodes; that of a node with a higher number
+    /// can't be made. No failure is set. The only error is allocation failure.
     pub fn new(alloc: Global, nodes: u8) -> Result<MemoryFolder, AllocError>
         ensures { IfOk result (λ folder. length folder.node_tapes.items ≡ nodes) }
     {
@@ -53,9 +53,10 @@ impl MemoryFolder {
         self.bits.set(bits);
     }
 
-    /// Sets a failure: the `call`-th call of any of the disks from now, counted from 1, fails once, and keeps so much, as in
-    /// `MemoryDisk::set_fuse`. Call 0 sets no failure. Calls that only look (whether a file is there, how long it is, the names) don't
-    /// count. A failure that was set before and that no call has reached is no longer set.
+    /// Sets a failure: the `call`-th call of any of the disks from now, counted from 1, fails once,
+    /// and keeps so much, as in `MemoryDisk::set_fuse`. Call 0 sets no failure. Calls that only
+    /// look (whether a file is there, how long it is, the names) don't count. A failure that was
+    /// set before and that no call has reached is no longer set.
     pub fn set_failure(&self, call: usize, kept: usize) {
         self.call.set(call);
         self.kept.set(kept);
@@ -66,8 +67,9 @@ impl MemoryFolder {
         self.call.get() != 0
     }
 
-    /// A power cut: under each file's name is then one of the files that it may put back there, the one that is there for 0, with all
-    /// its synced bytes and at most `keep` bytes of the rest, as in `MemoryDisk::cut`.
+    /// A power cut: under each file's name is then one of the files that it may put back there, the
+    /// one that is there for 0, with all its synced bytes and at most `keep` bytes of the rest, as
+    /// in `MemoryDisk::cut`.
     pub fn cut(&self, back: usize, keep: usize) {
         cut_disk(&self.farm, back, keep);
         cut_disk(&self.heard, back, keep);
@@ -179,7 +181,8 @@ fn count_on(disk: &RefCell<MemoryDisk>) -> usize {
     }
 }
 
-/// Whether a disk on which no failure is set has a file under a name: then no bytes can be appended to it.
+/// Whether a disk on which no failure is set has a file under a name: then no bytes can be appended
+/// to it.
 fn is_there(disk: &mut MemoryDisk, name: Name) -> bool {
     disk.append(name, &[]).is_ok()
 }

@@ -10,8 +10,9 @@ use std::rt::Files;
 use std::{fs, io};
 use wf_disk::{Disk, DiskFault, Name};
 
-/// The disk of a file of the system that is replaced: only its second file is opened, so the own file needn't be there. It keeps the
-/// system's cause of the last failure. What the system does has no model, so it declares itself not durable.
+/// The disk of a file of the system that is replaced: only its second file is opened, so the own
+/// file needn't be there. It keeps the system's cause of the last failure. What the system does has
+/// no model, so it declares itself not durable.
 #[derive(Drop)]
 pub(crate) struct NewFile<'a, R: Files> {
     rt: &'a R,
@@ -24,7 +25,8 @@ pub(crate) struct NewFile<'a, R: Files> {
 }
 
 impl<'a, R: Files> NewFile<'a, R> {
-    /// The disk of the file at a path in a folder, with the path of the second file. Nothing is opened yet.
+    /// The disk of the file at a path in a folder, with the path of the second file. Nothing is
+    /// opened yet.
     pub(crate) fn new(rt: &'a R, folder: &'a str, path: &'a str, second_path: &'a str) -> Self {
         NewFile {
             rt,

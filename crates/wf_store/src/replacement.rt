@@ -6,9 +6,9 @@ ghost use Rattle.wf_tape.specs.DiskTape.{unsynced, IsButSecond, placed, LeavesOn
 
 use wf_disk::{Disk, DiskFault, Name};
 
-/// Puts bytes in the place of a disk's own file, which needn't be there or open: they are written to the second file, which is synced
-/// and gets the own name, and the names are synced last. Of a durable disk a power cut meanwhile leaves what one could before, or
-/// exactly the bytes.
+/// Puts bytes in the place of a disk's own file, which needn't be there or open: they are written
+/// to the second file, which is synced and gets the own name, and the names are synced last. Of a
+/// durable disk a power cut meanwhile leaves what one could before, or exactly the bytes.
 pub fn replace_on<D: Disk>(disk: &mut D, bytes: &[u8]) -> Result<(), DiskFault>
     ensures ok { D.durable → OnOk result (IsSynced (D.folder disk.new) bytes.now) }
     ensures passes { D.durable → LeavesOnly D.Disk

@@ -10,7 +10,8 @@ use std::cell::RefMut;
 use std::io::ErrorKind;
 use wf_disk::{Disk, DiskFault, MemoryDisk, Name};
 
-/// The disk of a file of a folder in memory, which the folder keeps. No clause says what the folder holds, so it isn't durable.
+/// The disk of a file of a folder in memory, which the folder keeps. No clause says what the folder
+/// holds, so it isn't durable.
 #[derive(Drop)]
 pub struct SharedDisk<'a> {
     folder: &'a MemoryFolder,
@@ -30,7 +31,8 @@ impl<'a> SharedDisk<'a> {
         }
     }
 
-    /// The folder's disk, for one call: that fails if the failure that is set in the folder is its own.
+    /// The folder's disk, for one call: that fails if the failure that is set in the folder is its
+    /// own.
     fn begin(&self) -> Option<RefMut<'a, MemoryDisk>> {
         let mut disk = self.folder.disk(self.file)?;
         if let Some(kept) = self.folder.count_call() {

@@ -70,7 +70,8 @@ pub(crate) fn lock_folder<R: Files<File = File>>(rt: &R, folder: &str) -> Result
     }
 }
 
-/// Whether the folder at a path is the one that is locked: it has the device and the number of that one.
+/// Whether the folder at a path is the one that is locked: it has the device and the number of that
+/// one.
 pub(crate) fn is_at<R: Files<File = File>>(
     rt: &R,
     folder: &str,

@@ -29,7 +29,8 @@ Interrupts old new = (old ≤ new) × (new ≤ max old most_interruptions)
 abbrev pub IsReadError : ℕ → ℕ → Error → Type 0
 IsReadError old new error = error_kind error ≢ OutOfMemory → Rises old new
 
--- `OutOfMemory` is never a reader's own error: an allocation for the read bytes failed, and no read has failed
+-- `OutOfMemory` is never a reader's own error: an allocation for the read bytes failed, and no read
+-- has failed
 abbrev pub IsMemoryAlone : ℕ → ℕ → Error → Type 0
 IsMemoryAlone old new error = error_kind error ≡ OutOfMemory → new ≡ old
 

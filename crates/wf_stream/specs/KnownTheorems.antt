@@ -109,7 +109,8 @@ takes_after a b c count room limit first before (front, size, one, is) (piece, s
 pub takes_read : (a b : Option (List ℕ)) (count limit : ℕ) (first before : List ℕ) → ReadsPiece count a b first before → count ≤ limit → TakesUpTo limit a b
 takes_read a b count limit first before (front, size, one, is) short = (front, omega arith, one)
 
--- what is read into an empty buffer is the front of what was left, and all of that where fewer than the limit are read
+-- what is read into an empty buffer is the front of what was left, and all of that where fewer than
+-- the limit are read
 pub all_read : (a b : Option (List ℕ)) (count : ℕ) (bytes : List ℕ) → ReadsPiece count a b [] bytes → Consumes a b bytes
 all_read a b count bytes (front, size, one, is) = rw is one
 

@@ -2,8 +2,8 @@
 use Rattle.std.specs.Prelude.{◌≡◌, ℕ, ◌-◌, ◌==◌, Bool, false, List, Option, Some, None}
 use Rattle.wf_stream.specs.Effects.{IsOneMore}
 
--- a reader: the bytes still to be read, the most bytes that a call returns, the number of calls before those that fail, if any
--- do, and the number of failed calls
+-- a reader: the bytes still to be read, the most bytes that a call returns, the number of calls
+-- before those that fail, if any do, and the number of failed calls
 pub record Reader : Type 0 where
   pub left : List ℕ
   pub piece : ℕ

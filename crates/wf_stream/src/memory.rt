@@ -8,7 +8,8 @@ use std::io;
 use std::io::ErrorKind;
 use std::marker::Model;
 
-/// A reader of bytes in memory, which returns them in pieces. From a given call on, every call may fail.
+/// A reader of bytes in memory, which returns them in pieces. From a given call on, every call may
+/// fail.
 #[derive(Drop)]
 pub struct Bytes<'b> {
     rest: &'b [u8],
@@ -29,7 +30,8 @@ impl<'b> Model for Bytes<'b> {
 }
 
 impl<'b> Bytes<'b> {
-    /// A reader that returns at most `piece` bytes a call. With `until_failure`, each call after that many fails.
+    /// A reader that returns at most `piece` bytes a call. With `until_failure`, each call after
+    /// that many fails.
     pub fn new(bytes: &'b [u8], piece: usize, until_failure: Option<u64>) -> Self
         requires { 0 < piece }
         ensures { result ≡ record {

@@ -20,7 +20,8 @@ pub trait Source {
     /// The number of failed calls.
     ghost failures: { Self → ℕ };
 
-    /// Reads some bytes to the front of a buffer and returns their number: 0 only at the end, or if the buffer is empty.
+    /// Reads some bytes to the front of a buffer and returns their number: 0 only at the end, or if
+    /// the buffer is empty.
     fn read(&mut self, buf: &mut [u8]) -> io::Result<usize>
         ensures bound { ReadsAtMost result buf.new }
         ensures bytes { ReadConsumes (left self.old) (left self.new) result buf.new }
@@ -28,7 +29,8 @@ pub trait Source {
         ensures cause { Counts result (failures self.old) (failures self.new) };
 }
 
-/// A writer. It has no flush, since no contract could tell it from a no-op: a buffering writer is flushed by its creator.
+/// A writer. It has no flush, since no contract could tell it from a no-op: a buffering writer is
+/// flushed by its creator.
 pub trait Sink {
     /// The bytes written, if known.
     ghost written: { Self → Option (List ℕ) } = { λ _. None };
@@ -39,7 +41,8 @@ pub trait Sink {
     /// The effect of one failed call, if known: of the writer before it and after it.
     ghost fails: { Self → Self → Type 0 } = { λ _ _. Unit {0} };
 
-    /// Writes some bytes from the front of a buffer and returns their number: at least one, unless the buffer is empty.
+    /// Writes some bytes from the front of a buffer and returns their number: at least one, unless
+    /// the buffer is empty.
     fn write(&mut self, buf: &[u8]) -> io::Result<usize>
         ensures bound { WritesAtMost result buf.now }
         ensures some { IfOk result (λ count. 0 < length buf.now → 0 < count) }
@@ -47,8 +50,9 @@ pub trait Sink {
         ensures cause { Counts result (failures self.old) (failures self.new) }
         ensures failed { OnErr result (fails self.old self.new) };
 
-    /// Writes some bytes from the front of two buffers, one after the other, and returns their number: at least one, unless both
-    /// are empty. A writer that can write both in one call of the system does so.
+    /// Writes some bytes from the front of two buffers, one after the other, and returns their
+    /// number: at least one, unless both are empty. A writer that can write both in one call of the
+    /// system does so.
     #[tactic(auto, using(crate::specs::KnownTheorems::writes_first, crate::specs::KnownTheorems::writes_second, crate::specs::KnownTheorems::most_first, crate::specs::KnownTheorems::most_second))]
     fn write_pair(&mut self, one: &[u8], two: &[u8]) -> io::Result<usize>
         ensures bound { WritesAtMost result (one.now ++ two.now) }
@@ -66,11 +70,13 @@ pub trait Sink {
     }
 }
 
-/// The most calls of one stream that signals may interrupt. It is above the 139,265 reads that the other limits of a request allow.
+/// The most calls of one stream that signals may interrupt. It is above the 139,265 reads that the
+/// other limits of a request allow.
 const MOST_INTERRUPTIONS: u32 = 200_000;
 
-/// Any reader or writer of std, with a count of its failed calls. A call that a signal interrupts is made again. Once 200,000 calls
-/// of the stream were interrupted, each further one fails at once, by `TimedOut`.
+/// Any reader or writer of std, with a count of its failed calls. A call that a signal interrupts
+/// is made again. Once 200,000 calls of the stream were interrupted, each further one fails at
+/// once, by `TimedOut`.
 #[derive(Drop)]
 pub struct Stream<S> {
     inner: S,
@@ -101,8 +107,8 @@ impl<S> Stream<S> {
     }
 }
 
-/// Reads once; repeats the read if a signal interrupted it, and after no other error. `TimedOut` without a further read once the most
-/// calls were interrupted.
+/// Reads once; repeats the read if a signal interrupted it, and after no other error. `TimedOut`
+/// without a further read once the most calls were interrupted.
 #[tactic(auto, using(crate::specs::KnownTheorems::keeps_same, crate::specs::KnownTheorems::keeps_twice, crate::specs::KnownTheorems::reads_after))]
 fn read_again<R: Read>(reader: &mut R, interruptions: &mut u32, buf: &mut [u8]) -> io::Result<usize>
     ensures bound { ReadsAtMost result buf.new }
@@ -135,8 +141,8 @@ impl<R: Read> Source for Stream<R> {
     }
 }
 
-/// Writes once; repeats the write if a signal interrupted it. A writer that takes no byte has failed. `TimedOut` without a further
-/// write once the most calls were interrupted.
+/// Writes once; repeats the write if a signal interrupted it. A writer that takes no byte has
+/// failed. `TimedOut` without a further write once the most calls were interrupted.
 #[tactic(auto, using(crate::specs::KnownTheorems::keeps_same, crate::specs::KnownTheorems::keeps_twice, crate::specs::KnownTheorems::writes_after))]
 fn write_again<W: Write>(writer: &mut W, interruptions: &mut u32, buf: &[u8]) -> io::Result<usize>
     ensures bound { WritesAtMost result buf.now }
@@ -177,7 +183,8 @@ impl<W: Write> Sink for Stream<W> {
 /// The most bytes read at once.
 const PIECE_BYTES: usize = 8_192;
 
-/// The error of a failed read. A reader's own `OutOfMemory` isn't an allocation failure here, and is replaced.
+/// The error of a failed read. A reader's own `OutOfMemory` isn't an allocation failure here, and
+/// is replaced.
 fn failed_read(error: io::Error) -> io::Error
     ensures { error_kind result ≢ ErrorKind.OutOfMemory }
 {
@@ -188,8 +195,8 @@ fn failed_read(error: io::Error) -> io::Error
     }
 }
 
-/// Reads once, at most `room` bytes, appends them, and returns their number: 0 only at the end. Err: the error of a failed read,
-/// or `OutOfMemory` if the buffer can't be grown.
+/// Reads once, at most `room` bytes, appends them, and returns their number: 0 only at the end.
+/// Err: the error of a failed read, or `OutOfMemory` if the buffer can't be grown.
 pub fn read_piece<S: Source>(source: &mut S, bytes: &mut Vec<u8>, room: usize) -> io::Result<usize>
     requires { 0 < room }
     ensures read { IfOk result (λ count.
@@ -211,8 +218,9 @@ pub fn read_piece<S: Source>(source: &mut S, bytes: &mut Vec<u8>, room: usize) -
     Ok(count)
 }
 
-/// Reads to the end, or `limit` bytes, appends them, and returns their number: fewer than the limit only at the end. Err: the error
-/// of a failed read, or `OutOfMemory` if the buffer can't be grown; what was read before is appended.
+/// Reads to the end, or `limit` bytes, appends them, and returns their number: fewer than the limit
+/// only at the end. Err: the error of a failed read, or `OutOfMemory` if the buffer can't be grown;
+/// what was read before is appended.
 #[tactic(auto, using(crate::specs::KnownTheorems::nothing_read, crate::specs::KnownTheorems::reads_more, crate::specs::KnownTheorems::takes_read))]
 pub fn read_onto<S: Source>(source: &mut S, bytes: &mut Vec<u8>, limit: usize) -> io::Result<usize>
     ensures read { IfOk result (λ count.
@@ -236,7 +244,8 @@ pub fn read_onto<S: Source>(source: &mut S, bytes: &mut Vec<u8>, limit: usize) -
     Ok(count)
 }
 
-/// Reads to the end, or `limit` bytes. Err: the error of a failed read, or `OutOfMemory` if the buffer can't be grown.
+/// Reads to the end, or `limit` bytes. Err: the error of a failed read, or `OutOfMemory` if the
+/// buffer can't be grown.
 #[tactic(auto, using(crate::specs::KnownTheorems::first_read, crate::specs::KnownTheorems::all_read))]
 pub fn read_up_to<S: Source>(alloc: Global, source: &mut S, limit: usize) -> io::Result<Vec<u8>>
     // If the bytes are known, the result is their prefix.

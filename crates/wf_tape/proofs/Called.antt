@@ -1,4 +1,5 @@
--- A call of a tape in memory meets the contract of its kind, whether or not the failure that is set is this call's.
+-- A call of a tape in memory meets the contract of its kind, whether or not the failure that is set
+-- is this call's.
 use Rattle.std.proofs.Common.{◌≡◌, ◌⊎◌, ℕ, ◌≤◌, zero, suc, nat_eq, nat_lt, Bool, true, false, List, ◌∷◌, ◌++◌, length, take, drop, Option, Some, None, Result, Ok, Err, IsErrOf, IfErr, OnOk, OnErr, if◌then◌else◌, refl, sym, ap, subst, ◌∙◌, arith, inl, inr, le_refl}
 use Rattle.std.proofs.lemmas.Bool.Decides.{nat_tests}
 use Rattle.std.proofs.lemmas.List.{take-append-drop}

@@ -8,7 +8,8 @@ use Rattle.wf_disk.specs.Folder.{File, Folder, bytes_in, MayLeave}
 use Rattle.wf_tape.specs.declared.fault.TapeFault.{TapeFault}
 use Rattle.wf_tape.specs.declared.fault.TapeFault.TheVariants as tape
 
--- the model of a tape on a disk: the disk, whether its names are synced, and whether the own file may be doubtful
+-- the model of a tape on a disk: the disk, whether its names are synced, and whether the own file
+-- may be doubtful
 pub record DiskTape (D : Type 0) : Type 0 where
   pub disk : D
   pub are_names_synced : Bool

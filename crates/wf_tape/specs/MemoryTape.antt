@@ -1,4 +1,5 @@
--- A tape in memory: its bytes, of which the first are synced, its earlier states since it was made or crashed, and its failures.
+-- A tape in memory: its bytes, of which the first are synced, its earlier states since it was made
+-- or crashed, and its failures.
 use Rattle.std.specs.Prelude.{◌≡◌, ◌⊎◌, ◌≤◌, ℕ, ◌+◌, zero, suc, nat_lt, nat_eq, List, [], ◌∷◌, ◌++◌, length, take, Option, Some, None, if◌then◌else◌}
 use Rattle.wf_tape.specs.declared.memory.Earlier.{Earlier}
 use Rattle.wf_tape.specs.declared.memory.Earlier.TheVariants.{Front, Replaced}
@@ -13,7 +14,8 @@ pub record State : Type 0 where
   pub bytes : List ℕ
   pub synced : ℕ
 
--- the tape: its state, its earlier states, the latest first, the failure that is set, and the count of the failures that were
+-- the tape: its state, its earlier states, the latest first, the failure that is set, and the count
+-- of the failures that were
 pub record TapeValue : Type 0 where
   pub bytes : List ℕ
   pub synced : ℕ
@@ -29,8 +31,8 @@ IsLeftBy state image = IsBeginning image state.bytes × IsBeginning (take state.
 abbrev pub IsImageNow : TapeValue → List ℕ → Type 0
 IsImageNow kept image = IsBeginning image kept.bytes × IsBeginning (take kept.synced kept.bytes) image
 
--- Of states in order, the latest first, the earliest stood at moment 0, the next one at moment 1, and so on. A crash in one of
--- them, at this moment or a later one, may leave the image.
+-- Of states in order, the latest first, the earliest stood at moment 0, the next one at moment 1,
+-- and so on. A crash in one of them, at this moment or a later one, may leave the image.
 unfoldable pub WasLeft : List State → ℕ → List ℕ → Type 0
 WasLeft [] moment image = ⊥
 WasLeft (state ∷ older) moment image = ((moment ≤ length older) × IsLeftBy state image) ⊎ WasLeft older moment image
@@ -47,7 +49,8 @@ moment_of kept = length kept.past
 abbrev pub IsLeftSince : TapeValue → ℕ → List ℕ → Type 0
 IsLeftSince kept moment image = WasLeft (state_of kept ∷ kept.past) moment image
 
--- the states before these bytes, the latest first, by the notes on how to go back to each of them, the latest first
+-- the states before these bytes, the latest first, by the notes on how to go back to each of them,
+-- the latest first
 unfoldable pub states_before : List ℕ → List Earlier → List State
 states_before bytes [] = []
 states_before bytes (Front length synced ∷ older) = record { bytes = take length bytes; synced = synced } ∷ states_before (take length bytes) older
@@ -97,8 +100,9 @@ done (Append bytes) tape = appended tape bytes
 done Sync tape = settled tape
 done (Replace bytes) tape = replaced tape bytes
 
--- What a call leaves that fails and keeps so much: an append so many of the new bytes, at most all of them; a replacement the old
--- content for 0 and the new one otherwise; a read or a sync has changed nothing.
+-- What a call leaves that fails and keeps so much: an append so many of the new bytes, at most all
+-- of them; a replacement the old content for 0 and the new one otherwise; a read or a sync has
+-- changed nothing.
 abbrev pub cut_short : ℕ → Call → TapeValue → TapeValue
 cut_short kept Read tape = tape
 cut_short kept (Append bytes) tape = appended tape (take kept bytes)
@@ -106,8 +110,9 @@ cut_short kept Sync tape = tape
 cut_short zero (Replace bytes) tape = tape
 cut_short (suc kept) (Replace bytes) tape = replaced tape bytes
 
--- What a call leaves, of the tape with that call counted: the device fails if and only if the failure that is set is this call's,
--- which keeps so much. If an allocation fails, nothing has changed.
+-- What a call leaves, of the tape with that call counted: the device fails if and only if the
+-- failure that is set is this call's, which keeps so much. If an allocation fails, nothing has
+-- changed.
 abbrev pub IsLeft : Call → Option ℕ → TapeValue → Option TapeFault → TapeValue → Type 0
 IsLeft call None tape None after = after ≡ done call tape
 IsLeft call None tape (Some Device) after = ⊥

@@ -5,8 +5,8 @@ use Rattle.std.proofs.lemmas.List.{append-nil}
 use Rattle.wf_tape.specs.declared.tape.Tape.{Ghosts as Tape}
 use Rattle.wf_tape.specs.Tape.{IsBeginning, IsExtended, IsCutShort, LeavesOldOrCut}
 
--- Where each image before an append was a prefix of the content, each image after it is one of the new content that begins with an
--- image from before.
+-- Where each image before an append was a prefix of the content, each image after it is one of the
+-- new content that begins with an image from before.
 abbrev pub CutsShort : {T : Type 0} → Tape T → Type 0
 CutsShort {T} tapes = (old new : T) (bytes : List ℕ) → ((image : List ℕ) → tapes.images old image → IsBeginning image (tapes.content old)) → IsExtended (tapes.content old) bytes (tapes.content new) →
     LeavesOldOrCut (tapes.content new) (tapes.images old) (tapes.images new) → IsCutShort (tapes.content new) (tapes.images old) (tapes.images new)

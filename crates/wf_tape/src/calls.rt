@@ -63,7 +63,8 @@ fn sync_names<D: Disk>(disk: &mut D, are_names_synced: bool) -> Result<(), DiskF
     disk.sync_names()
 }
 
-/// Makes the bytes the content: writes them to the second file, syncs it, and gives it the own name.
+/// Makes the bytes the content: writes them to the second file, syncs it, and gives it the own
+/// name.
 pub(crate) fn replace<D: Disk>(disk: &mut D, bytes: &[u8]) -> Result<(), DiskFault>
     ensures ok { D.durable → OnOk result (IsSynced (D.folder disk.new) bytes.now) }
     ensures err { D.durable → ((D.folder disk.new).own ≡ (D.folder disk.old).own)

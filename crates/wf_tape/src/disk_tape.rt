@@ -13,11 +13,13 @@ use std::marker::Model;
 use std::rt::Files;
 use wf_disk::{Disk, DiskFault, Name, SystemDisk};
 
-/// A tape in a file of the system. What such a disk holds is an assumption, so the tape isn't durable.
+/// A tape in a file of the system. What such a disk holds is an assumption, so the tape isn't
+/// durable.
 pub type FileTape<R> = DiskTape<SystemDisk<R>>;
 
-/// A tape on a disk: its content is that of the disk's own file, and a replacement writes the second one. It is durable where the
-/// disk is. Model: the disk, whether its names are synced, and whether a sync of its file can't be relied on.
+/// A tape on a disk: its content is that of the disk's own file, and a replacement writes the
+/// second one. It is durable where the disk is. Model: the disk, whether its names are synced, and
+/// whether a sync of its file can't be relied on.
 #[derive(Drop)]
 pub struct DiskTape<D: Disk> {
     disk: D,
@@ -36,8 +38,9 @@ impl<D: Disk> Model for DiskTape<D> {
 }
 
 impl<R: Files + Drop> DiskTape<SystemDisk<R>> {
-    /// The tape in the file at the path, which is created if it is absent. `replace` uses a second file beside it, whose name has
-    /// `.new` appended; a leftover one doesn't matter. Returns `Device` if the file can't be opened or created.
+    /// The tape in the file at the path, which is created if it is absent. `replace` uses a second
+    /// file beside it, whose name has `.new` appended; a leftover one doesn't matter. Returns
+    /// `Device` if the file can't be opened or created.
     pub fn open(alloc: Global, files: R, path: &str) -> Result<FileTape<R>, TapeFault>
         ensures { IfOk result (λ tape. tape.disk.failures ≡ 0) }
     {
@@ -47,8 +50,9 @@ impl<R: Files + Drop> DiskTape<SystemDisk<R>> {
         }
     }
 
-    /// The tape in the file at the path, which has to be there: no file is created at the path. Returns `Device` if the file is absent
-    /// or can't be opened. Otherwise it is as [`FileTape::open`].
+    /// The tape in the file at the path, which has to be there: no file is created at the path.
+    /// Returns `Device` if the file is absent or can't be opened. Otherwise it is as
+    /// [`FileTape::open`].
     pub fn open_existing(alloc: Global, files: R, path: &str) -> Result<FileTape<R>, TapeFault>
         ensures { IfOk result (λ tape. tape.disk.failures ≡ 0) }
     {
@@ -73,8 +77,9 @@ fn open_on<R: Files + Drop>(disk: SystemDisk<R>) -> Result<FileTape<R>, TapeFaul
 }
 
 impl<D: Disk> DiskTape<D> {
-    /// The tape on the disk, whose file is made if it is absent. Who had the file before isn't known, and a sync of it may have failed,
-    /// so the tape is doubtful until its content is replaced. An error returns the disk.
+    /// The tape on the disk, whose file is made if it is absent. Who had the file before isn't
+    /// known, and a sync of it may have failed, so the tape is doubtful until its content is
+    /// replaced. An error returns the disk.
     pub fn over(disk: D) -> Result<DiskTape<D>, (D, TapeFault)>
         ensures doubtful { IfOk result (λ tape. tape.doubtful ≡ true) }
         ensures names { D.durable → IfOk result (λ tape. (D.folder tape.disk).earlier ≡ []) }

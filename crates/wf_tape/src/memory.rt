@@ -10,8 +10,8 @@ use std::io::ErrorKind;
 use std::marker::Model;
 use std::mem;
 
-/// An earlier state of a tape in memory, as what it takes to go back to it from the one after it: what the content was, and how
-/// many bytes of it were synced.
+/// An earlier state of a tape in memory, as what it takes to go back to it from the one after it:
+/// what the content was, and how many bytes of it were synced.
 #[derive(Drop)]
 pub enum Earlier {
     /// So many first bytes of the content after it; the number of them that were synced.
@@ -25,17 +25,20 @@ pub enum Earlier {
 pub struct Fuse {
     /// The number of calls before the one that fails.
     pub before: usize,
-    /// How many bytes an append that fails keeps of the new ones; whether a replacement that fails has the new content.
+    /// How many bytes an append that fails keeps of the new ones; whether a replacement that fails
+    /// has the new content.
     pub kept: usize,
 }
 
-/// A tape in memory. It is durable, and its device fails only where a failure was set (`set_fuse`). It keeps notes on its changes
-/// since it was made or crashed, so that what a crash at each earlier moment could have left is known.
+/// A tape in memory. It is durable, and its device fails only where a failure was set (`set_fuse`).
+/// It keeps notes on its changes since it was made or crashed, so that what a crash at each earlier
+/// moment could have left is known.
 pub struct MemoryTape {
     bytes: Vec<u8>,
     // the number of synced bytes
     synced: usize,
-    // the earlier states, the latest last; while some bytes aren't synced there is room for one more, that of the sync
+    // the earlier states, the latest last; while some bytes aren't synced there is room for one
+    // more, that of the sync
     earlier: Vec<Earlier>,
     // the failure that is set
     fuse: Option<Fuse>,
@@ -99,8 +102,8 @@ impl MemoryTape {
         &self.bytes
     }
 
-    /// A crash: the synced bytes are kept and at most `keep` bytes of the rest; all that is kept is then synced. No earlier state is
-    /// known any more.
+    /// A crash: the synced bytes are kept and at most `keep` bytes of the rest; all that is kept is
+    /// then synced. No earlier state is known any more.
     #[tactic(auto, unfolding(crate::specs::MemoryTape::states_before))]
     pub fn crash(&mut self, keep: usize)
         ensures bytes { self.new.bytes ≡ take (self.old.synced + keep) self.old.bytes }
@@ -114,11 +117,13 @@ impl MemoryTape {
         self.synced = self.bytes.len();
     }
 
-    /// Sets a failure: the `call`-th call of `read`, `append`, `sync` or `replace` from now, counted from 1, fails once. An append
-    /// that fails keeps `kept` bytes of the new ones, at most all of them, and none of those is synced. A replacement that fails
-    /// keeps the old content if `kept` is 0, and has the new one otherwise. A read or a sync that fails changes nothing. A call in
-    /// which an allocation fails counts too, and if it is the `call`-th the device doesn't fail. Call 0 sets no failure. A failure
-    /// that was set before and that no call has reached is no longer set.
+    /// Sets a failure: the `call`-th call of `read`, `append`, `sync` or `replace` from now,
+    /// counted from 1, fails once. An append that fails keeps `kept` bytes of the new ones, at most
+    /// all of them, and none of those is synced. A replacement that fails keeps the old content if
+    /// `kept` is 0, and has the new one otherwise. A read or a sync that fails changes nothing. A
+    /// call in which an allocation fails counts too, and if it is the `call`-th the device doesn't
+    /// fail. Call 0 sets no failure. A failure that was set before and that no call has reached is
+    /// no longer set.
     pub fn set_fuse(&mut self, call: usize, kept: usize)
         ensures { self.new ≡ with_fuse call kept self.old }
     {
@@ -155,7 +160,8 @@ impl MemoryTape {
         TapeFault::Device
     }
 
-    /// Appends the bytes, and notes the state before. An allocation failure leaves the tape as it was.
+    /// Appends the bytes, and notes the state before. An allocation failure leaves the tape as it
+    /// was.
     fn extend(&mut self, bytes: &[u8]) -> Result<(), TapeFault>
         ensures ok { OnOk result (self.new ≡ appended self.old bytes.now) }
         ensures err { OnErr result (self.new ≡ self.old) }
@@ -184,8 +190,8 @@ impl MemoryTape {
         }
     }
 
-    /// Makes these bytes the content, all of them synced, and notes the state before. An allocation failure leaves the tape as it
-    /// was.
+    /// Makes these bytes the content, all of them synced, and notes the state before. An allocation
+    /// failure leaves the tape as it was.
     fn put(&mut self, bytes: &[u8]) -> Result<(), TapeFault>
         ensures ok { OnOk result (self.new ≡ replaced self.old bytes.now) }
         ensures err { OnErr result (self.new ≡ self.old) }
@@ -246,7 +252,8 @@ impl MemoryTape {
         }
     }
 
-    /// Replaces the content. If the failure that is set is this call's, it does so unless nothing is kept.
+    /// Replaces the content. If the failure that is set is this call's, it does so unless nothing
+    /// is kept.
     #[tactic(auto, using(crate::proofs::Called::called_sound, crate::proofs::Called::called_lost, crate::proofs::Called::called_replaced, crate::proofs::Called::called_unreplaced))]
     fn replace_or_fail(&mut self, bytes: &[u8]) -> Result<(), TapeFault>
         ensures called { IsCalled (Replace bytes.now) self.old (error_of result) self.new }

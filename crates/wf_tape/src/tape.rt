@@ -8,17 +8,21 @@ use crate::fault::TapeFault;
 use std::alloc::Global;
 use std::io::ErrorKind;
 
-/// A tape: bytes that are appended to, synced and replaced as a whole. A crash may lose what isn't synced yet.
+/// A tape: bytes that are appended to, synced and replaced as a whole. A crash may lose what isn't
+/// synced yet.
 ///
-/// Model: its content, its images (what a crash now may leave), what a crash at each earlier moment could have left, those inside
-/// a call included, and the count of its failures. The contracts about content, images and moments hold of a durable tape. Honesty
-/// is a property of the type, so no call changes it. A tape may be doubtful (`is_doubtful`). Any tape has counted a failure if a
-/// call returns `Device`. A tape may promise that its device won't fail (`never_fails`), and then no call returns `Device`.
+/// Model: its content, its images (what a crash now may leave), what a crash at each earlier moment
+/// could have left, those inside a call included, and the count of its failures. The contracts
+/// about content, images and moments hold of a durable tape. Honesty is a property of the type, so
+/// no call changes it. A tape may be doubtful (`is_doubtful`). Any tape has counted a failure if a
+/// call returns `Device`. A tape may promise that its device won't fail (`never_fails`), and then
+/// no call returns `Device`.
 pub trait Tape {
     /// The tape holds what was written.
     ghost durable: { Type 0 };
 
-    /// The tape is durable, and its device fails only where a failure was set. Of a tape that can't promise this it never holds.
+    /// The tape is durable, and its device fails only where a failure was set. Of a tape that can't
+    /// promise this it never holds.
     ghost certain: { Type 0 } = { ⊥ };
 
     /// The bytes that a read returns.
@@ -33,20 +37,24 @@ pub trait Tape {
     /// What the system said of the last failure. None: nothing.
     ghost said: { Self → Option ErrorKindValue } = { λ _. None };
 
-    /// A sync that succeeds may leave bytes unsynced: an earlier one failed, or who had the tape before isn't known. Then a system may
-    /// have dropped bytes that it didn't write. Only a replacement ends this. It never holds of a tape that loses no bytes so.
+    /// A sync that succeeds may leave bytes unsynced: an earlier one failed, or who had the tape
+    /// before isn't known. Then a system may have dropped bytes that it didn't write. Only a
+    /// replacement ends this. It never holds of a tape that loses no bytes so.
     ghost doubtful: { Self → Bool } = { λ _. false };
 
     /// The moment now, as a number that doesn't fall: each change of the tape ends a moment.
     ghost moment: { Self → ℕ } = { λ _. 0 };
 
-    /// What a crash at this moment or a later one, up to now, could have left, inside a call or between two.
+    /// What a crash at this moment or a later one, up to now, could have left, inside a call or
+    /// between two.
     ghost left_since: { Self → ℕ → List ℕ → Type 0 } = { λ _ _ _. ⊥ };
 
-    /// The device won't fail: no call returns `Device` any more. Of a tape that can't promise this it never holds.
+    /// The device won't fail: no call returns `Device` any more. Of a tape that can't promise this
+    /// it never holds.
     ghost never_fails: { Self → Type 0 } = { λ _. ⊥ };
 
-    /// What else is known of a call: the tape before it, the error it returned, if any, and the tape after it.
+    /// What else is known of a call: the tape before it, the error it returned, if any, and the
+    /// tape after it.
     ghost leaves: { Call → Self → Option TapeFault → Self → Type 0 } = { λ _ _ _ _. Unit {0} };
 
     /// The content, which is one of the images. Changes nothing, at no moment.
@@ -65,8 +73,9 @@ pub trait Tape {
         ensures doubt { doubtful self.new ≡ doubtful self.old }
         ensures exact { leaves Read self.old (error_of result) self.new };
 
-    /// Appends the bytes. Until they are synced a crash may leave any prefix of them, or what it could leave before; after `Device` a
-    /// prefix of them may be there, and no more. A crash inside the call leaves what one could before it, or what one can after it.
+    /// Appends the bytes. Until they are synced a crash may leave any prefix of them, or what it
+    /// could leave before; after `Device` a prefix of them may be there, and no more. A crash
+    /// inside the call leaves what one could before it, or what one can after it.
     fn append(&mut self, bytes: &[u8]) -> Result<(), TapeFault>
         ensures ok { durable → OnOk result (content self.new ≡ content self.old ++ bytes.now) }
         ensures err { durable →
@@ -85,7 +94,8 @@ pub trait Tape {
         ensures doubt { doubtful self.new ≡ doubtful self.old }
         ensures exact { leaves (Append bytes.now) self.old (error_of result) self.new };
 
-    /// After it a crash leaves exactly the content, unless the tape is doubtful; inside it, what one could before. Doesn't allocate.
+    /// After it a crash leaves exactly the content, unless the tape is doubtful; inside it, what
+    /// one could before. Doesn't allocate.
     fn sync(&mut self) -> Result<(), TapeFault>
         ensures ok { durable → doubtful self.old ≡ false →
             OnOk result (IsOnlyImage (content self.new) (images self.new)) }
@@ -102,8 +112,9 @@ pub trait Tape {
         ensures doubt { OnOk result (doubtful self.new ≡ doubtful self.old) }
         ensures exact { leaves Sync self.old (error_of result) self.new };
 
-    /// Replaces the content by the bytes, all of them synced. After `Device` the content is the bytes, or that of before. A crash
-    /// inside the call leaves what one could before it, or exactly the bytes.
+    /// Replaces the content by the bytes, all of them synced. After `Device` the content is the
+    /// bytes, or that of before. A crash inside the call leaves what one could before it, or
+    /// exactly the bytes.
     fn replace(&mut self, bytes: &[u8]) -> Result<(), TapeFault>
         ensures ok { durable → OnOk result (content self.new ≡ bytes.now) }
         ensures synced { durable → OnOk result (IsOnlyImage bytes.now (images self.new)) }
@@ -128,7 +139,8 @@ pub trait Tape {
     fn failures(&self) -> u64
         ensures { result ≡ failed self.now };
 
-    /// What the system said of the last failure of the device. None: it hasn't failed, or no system said why.
+    /// What the system said of the last failure of the device. None: it hasn't failed, or no system
+    /// said why.
     fn cause(&self) -> Option<ErrorKind>
         ensures { result ≡ said self.now };
 

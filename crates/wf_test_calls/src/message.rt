@@ -46,7 +46,8 @@ impl Spoken<'_> {
         }
     }
 
-    /// What a Promise reports from the slot on: the votes that all further words name, and none where no words are left.
+    /// What a Promise reports from the slot on: the votes that all further words name, and none
+    /// where no words are left.
     pub fn report(mut self, slot: Slot) -> Result<Report, Unanswered> {
         let mut votes = ArrayVec::new();
         push_votes(&mut self, vote_count(slot), &mut votes)?;
@@ -143,7 +144,8 @@ fn push_votes(spoken: &mut Spoken<'_>, count: usize, votes: &mut Votes) -> Answe
     push_votes(spoken, count - 1, votes)
 }
 
-/// How many votes a report from the slot on has: one for it and each of the three after it, as far as there are slots.
+/// How many votes a report from the slot on has: one for it and each of the three after it, as far
+/// as there are slots.
 #[tactic(auto, unfolding(wf_model::specs::Table::sequences_from))]
 fn vote_count(slot: Slot) -> usize
     ensures value { result ≡ sequences_from slot window }

@@ -1,5 +1,5 @@
-//! Messages in words, on one line: the kind and the fields. A definition is `map` and its name in the
-//! script, or else its text, from the next line on.
+//! Messages in words, on one line: the kind and the fields. A definition is `map` and its name in
+//! the script, or else its text, from the next line on.
 use crate::lines::write_field;
 use crate::script::CallMaps;
 use wf_ballot::{Ballot, NodeId, Slot};
@@ -48,7 +48,8 @@ fn write_from(kind: &str, node: NodeId, slot: Slot, ballot: Ballot, answer: &mut
     write_at("", slot, ballot, answer);
 }
 
-/// Appends the votes that a promise reports. That at its slot is `voted` and its ballot, a later one has its slot before that.
+/// Appends the votes that a promise reports. That at its slot is `voted` and its ballot, a later
+/// one has its slot before that.
 fn write_votes(report: &Report, maps: CallMaps<'_>, answer: &mut Transcript) {
     let mut slot = report.slot().number();
     let mut gap = " ";

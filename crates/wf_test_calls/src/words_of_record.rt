@@ -6,8 +6,8 @@ use wf_codec::Message;
 use wf_journal::Record;
 use wf_test_table::Transcript;
 
-/// Appends a line: the record to store and the messages to send after that, each `nothing` where there is
-/// none.
+/// Appends a line: the record to store and the messages to send after that, each `nothing` where
+/// there is none.
 pub fn write_step(
     record: Option<&Record>,
     messages: &[Message],

@@ -22,7 +22,8 @@ content_at tape path = if is_file path then Some tape else None
 abbrev pub two_tapes : List Presence
 two_tapes = slice_set (slice_set (replicate 64 Absent) 0 Written) 1 Written
 
--- the file `farm` of a farm of three nodes, which the folder has where the tapes are empty, and no other
+-- the file `farm` of a farm of three nodes, which the folder has where the tapes are empty, and no
+-- other
 abbrev pub of_three_nodes : FarmFile
 of_three_nodes = record { nodes = 3; beginning = Empty; mark = replicate 16 0 }
 

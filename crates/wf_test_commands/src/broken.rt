@@ -64,7 +64,8 @@ impl Write for CheckedSink {
     }
 }
 
-/// The outcome of a run whose reader and writer fail at these calls, and how many bytes weren't written.
+/// The outcome of a run whose reader and writer fail at these calls, and how many bytes weren't
+/// written.
 fn run_broken(
     alloc: Global,
     failing_read: u64,
@@ -102,8 +103,8 @@ fn failing(word: &str) -> Result<u64, Unanswered> {
     }
 }
 
-/// `canon_broken`: how `canon` ends, and how many bytes of the canonical text aren't written, where a call of its reader and a
-/// call of its writer fail. The input is their numbers, counted from 0.
+/// `canon_broken`: how `canon` ends, and how many bytes of the canonical text aren't written, where
+/// a call of its reader and a call of its writer fail. The input is their numbers, counted from 0.
 pub(crate) fn canon_broken(asked: CaseInput<'_>, answer: &mut Transcript) -> Answered {
     let (read, write) = asked.text()?.split_once(' ').unwrap_or(("", ""));
     let (outcome, left) = run_broken(asked.alloc, failing(read)?, failing(write)?);

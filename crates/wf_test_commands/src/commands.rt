@@ -72,7 +72,8 @@ fn write_canon_twice(alloc: Global, once: &Transcript, answer: &mut Transcript) 
     Ok(())
 }
 
-/// `canon_twice`: the length of the canonical text, and whether this text's own canonical text is the same.
+/// `canon_twice`: the length of the canonical text, and whether this text's own canonical text is
+/// the same.
 pub(crate) fn canon_twice(asked: CaseInput<'_>, answer: &mut Transcript) -> Answered {
     let mut once = Transcript::new(asked.alloc);
     let reported_as = match run_canon_on(asked.alloc, asked.input, &mut once) {
@@ -107,7 +108,8 @@ fn write_caps(
     Ok(())
 }
 
-/// `caps SEQ QUERY`: what the command `caps` writes about the input, or its error line. QUERY is spelled with escapes.
+/// `caps SEQ QUERY`: what the command `caps` writes about the input, or its error line. QUERY is
+/// spelled with escapes.
 pub(crate) fn caps(mut asked: CaseInput<'_>, answer: &mut Transcript) -> Answered {
     let Some(sequence) = Seq::new(asked.words.short()?) else {
         return Err(Unanswered::BadWords);

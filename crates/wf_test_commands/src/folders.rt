@@ -60,7 +60,8 @@ fn tapes_of(text: &str) -> [Presence; 64] {
     tapes
 }
 
-/// What is found as the file: `none`, the text of one, spelled as the number of its nodes, or `bad`.
+/// What is found as the file: `none`, the text of one, spelled as the number of its nodes, or
+/// `bad`.
 fn read_case_file(word: &str) -> FoundFile {
     match word {
         "none" => FoundFile::Nothing,

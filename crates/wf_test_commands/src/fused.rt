@@ -13,9 +13,10 @@ const NODES: u8 = 3;
 /// How many messages are delivered, each to each node: those of a publish in which nothing fails.
 const MESSAGES: usize = 9;
 
-/// `fused NODE CALL LAST`: what is left of a publish in which the node's tape fails at that call, where an append keeps so many of the
-/// new bytes and the crash so many of those that aren't synced: for each number from 0 to LAST in turn. Numbers that leave the same
-/// stand in one line; the last line has the number of runs.
+/// `fused NODE CALL LAST`: what is left of a publish in which the node's tape fails at that call,
+/// where an append keeps so many of the new bytes and the crash so many of those that aren't
+/// synced: for each number from 0 to LAST in turn. Numbers that leave the same stand in one line;
+/// the last line has the number of runs.
 pub(crate) fn fused(mut asked: CaseInput<'_>, answer: &mut Transcript) -> Answered {
     let node = asked.words.count()?;
     let call = asked.words.count()?;
@@ -46,7 +47,8 @@ fn publish(alloc: Global, map: Canon) -> Result<Vec<Event>, AllocError> {
     Ok(events)
 }
 
-/// Appends what each run leaves, a line for those in turn that leave the same, and then how many runs were made.
+/// Appends what each run leaves, a line for those in turn that leave the same, and then how many
+/// runs were made.
 fn write_runs(
     alloc: Global,
     events: &[Event],
@@ -102,7 +104,8 @@ fn write_fault(fault: FarmFault, answer: &mut Transcript) {
     answer.value(fault);
 }
 
-/// Appends what a run left: where it was torn and how, the published sequences and the number of messages.
+/// Appends what a run left: where it was torn and how, the published sequences and the number of
+/// messages.
 fn write_left(fused: Fused, answer: &mut Transcript) {
     let Fused { farm, torn } = fused;
     write_torn(torn, answer);

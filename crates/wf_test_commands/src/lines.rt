@@ -107,8 +107,8 @@ fn write_words(alloc: Global, words: &[&str], answer: &mut Transcript) {
     }
 }
 
-/// `line`: what a command line asks for, or that it is rejected. Its words have spaces between; `line in lines` has a word a
-/// line.
+/// `line`: what a command line asks for, or that it is rejected. Its words have spaces between;
+/// `line in lines` has a word a line.
 pub(crate) fn line_of(asked: CaseInput<'_>, answer: &mut Transcript) -> Answered {
     let text = asked.text()?;
     let words = match asked.words.rest() {
@@ -154,9 +154,10 @@ fn write_run<C: Carrier>(
     }
 }
 
-/// `run WORDS`: what the program writes about the input, its error line, and the exit status if that isn't 0. WORDS are the
-/// command line's, spelled with escapes, with `\n` between. The input is also the file `node-0.tape`, the only one that there is.
-/// The messages of `wire` come by the carrier.
+/// `run WORDS`: what the program writes about the input, its error line, and the exit status if
+/// that isn't 0. WORDS are the command line's, spelled with escapes, with `\n` between. The input
+/// is also the file `node-0.tape`, the only one that there is. The messages of `wire` come by the
+/// carrier.
 pub(crate) fn run<C: Carrier>(
     asked: CaseInput<'_>,
     carrier: &mut C,

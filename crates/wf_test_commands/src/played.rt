@@ -6,7 +6,8 @@ use wf_play::run_script;
 use wf_stream::Stream;
 use wf_test_table::{Answered, CaseInput, Transcript};
 
-/// What the script writes with its messages brought by the carrier, and its error line after that, where it has one.
+/// What the script writes with its messages brought by the carrier, and its error line after that,
+/// where it has one.
 pub(crate) fn script<C: Carrier>(
     asked: CaseInput<'_>,
     carrier: &mut C,

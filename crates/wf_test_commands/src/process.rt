@@ -25,8 +25,9 @@ enum Broken {
     Held,
 }
 
-/// A process whose words are the lines of a text, and whose standard input is these bytes. It has the files of this machine, but finds
-/// no name in a folder, or one in the folder `full`; no port is free, no connection is accepted, and its clocks stand at 0.
+/// A process whose words are the lines of a text, and whose standard input is these bytes. It has
+/// the files of this machine, but finds no name in a folder, or one in the folder `full`; no port
+/// is free, no connection is accepted, and its clocks stand at 0.
 struct TestProcess<'a, R> {
     files: &'a R,
     alloc: Global,
@@ -338,11 +339,11 @@ fn write_process<R: Files<File = File>>(
     Ok(())
 }
 
-/// `program BROKEN WORDS`: what a process of the program writes to its standard output, what to its standard error, and its exit
-/// status. BROKEN is the standard stream that fails, `input`, `output` or `errors`, `nothing`, or `held` where another program has
-/// the folder `new`. WORDS are the command line's, spelled
-/// with escapes, with `\n` between. The process has the files of this machine, where each folder but `full` is listed as empty, and
-/// no port.
+/// `program BROKEN WORDS`: what a process of the program writes to its standard output, what to its
+/// standard error, and its exit status. BROKEN is the standard stream that fails, `input`, `output`
+/// or `errors`, `nothing`, or `held` where another program has the folder `new`. WORDS are the
+/// command line's, spelled with escapes, with `\n` between. The process has the files of this
+/// machine, where each folder but `full` is listed as empty, and no port.
 pub(crate) fn program_of<R: Files<File = File>>(
     files: &R,
     mut asked: CaseInput<'_>,

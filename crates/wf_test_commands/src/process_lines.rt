@@ -77,8 +77,8 @@ fn write_words(asked: &CaseInput<'_>, words: &[&str], answer: &mut Transcript) {
     }
 }
 
-/// `process_line`: what a command line asks for of a node or a replica, that it is rejected, or that it is one of another command. Its words
-/// have spaces between.
+/// `process_line`: what a command line asks for of a node or a replica, that it is rejected, or
+/// that it is one of another command. Its words have spaces between.
 pub(crate) fn process_line(asked: CaseInput<'_>, answer: &mut Transcript) -> Answered {
     let words = words_of(asked.alloc, asked.text()?, ' ')?;
     write_words(&asked, &words, answer);

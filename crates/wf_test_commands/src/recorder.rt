@@ -25,8 +25,9 @@ const FIRST_PATH: &str = "farm/node-0.tape";
 
 const SECOND_PATH: &str = "farm/node-1.tape";
 
-/// Writes a line with the service in place of serving nodes. Port 1 is taken. The only files are `node-0.tape` and two like it in
-/// the folder `farm`; if they are empty, that is a folder of three nodes.
+/// Writes a line with the service in place of serving nodes. Port 1 is taken. The only files are
+/// `node-0.tape` and two like it in the folder `farm`; if they are empty, that is a folder of three
+/// nodes.
 #[derive(Drop)]
 pub(crate) struct Recorder<'a> {
     pub(crate) alloc: Global,

@@ -1,4 +1,5 @@
-//! Deliveries by a carrier that fails, or brings another message than it was given. What fails for an allocation is repeated once.
+//! Deliveries by a carrier that fails, or brings another message than it was given. What fails for
+//! an allocation is repeated once.
 
 use crate::value::{MAP_A, ballot, map, slot};
 use std::alloc::Global;
@@ -43,7 +44,8 @@ impl Carrier for TwoRight {
     }
 }
 
-/// The outcome of deliveries, the last published sequence of node 0, and the number of messages sent.
+/// The outcome of deliveries, the last published sequence of node 0, and the number of messages
+/// sent.
 type DeliveryOutcome<T> = (Result<T, FarmFault>, u16, usize);
 
 /// A farm of one node, which has proposed a map.

@@ -41,7 +41,8 @@ fn is_missed(rt: &impl Abort, alloc: Global, farm: &mut Farm, count: u16) -> boo
     done && farm.run(alloc, &[Event::Restart(2)]).is_ok()
 }
 
-/// What the nodes have published once node 2 has missed so many maps, and what after they caught up. None if an allocation fails.
+/// What the nodes have published once node 2 has missed so many maps, and what after they caught
+/// up. None if an allocation fails.
 fn catch_up_counts(
     rt: &impl Abort,
     alloc: Global,
@@ -62,7 +63,8 @@ fn catch_up_counts(
     }
 }
 
-/// Whether a node that missed so many maps has all of them afterwards. If an allocation failed, everything is repeated once.
+/// Whether a node that missed so many maps has all of them afterwards. If an allocation failed,
+/// everything is repeated once.
 fn is_level(rt: &impl Abort, alloc: Global, count: u16) -> bool {
     let all = Some(count);
     let expected = Some(([all, all, Some(0)], [all, all, all]));

@@ -1,5 +1,6 @@
-//! Messages that cross a connection of this machine to itself, whose ends note what passes, and connections that can't be opened or
-//! take nothing. What met an allocation failure is repeated once.
+//! Messages that cross a connection of this machine to itself, whose ends note what passes, and
+//! connections that can't be opened or take nothing. What met an allocation failure is repeated
+//! once.
 use crate::value::{MAP_A, map, slot};
 use std::alloc::Global;
 use std::cell::Cell;
@@ -12,7 +13,8 @@ use wf_farm::{Carrier, CarrierFault};
 use wf_link::{Connection, cross, cut_off};
 use wf_stream::Stream;
 
-/// The encoding of the Chosen of map `a` for slot 1 up to the text: version 2, kind 6, the length of the rest, the slot.
+/// The encoding of the Chosen of map `a` for slot 1 up to the text: version 2, kind 6, the length
+/// of the rest, the slot.
 const BEFORE_A: &[u8] = &[2, 6, 0, 0, 0, 166, 0, 1];
 
 /// The length of that encoding.

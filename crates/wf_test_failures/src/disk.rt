@@ -22,7 +22,8 @@ const THREE_TRIED: &[u8] = &[
 /// The bytes of one such record.
 const RECORD_BYTES: usize = 10;
 
-/// Opens a journal on the disk and adds the records until one fails. Returns the disk and how many were added.
+/// Opens a journal on the disk and adds the records until one fails. Returns the disk and how many
+/// were added.
 fn add_until_failure(rt: &impl Abort, alloc: Global, disk: MemoryDisk) -> (MemoryDisk, usize) {
     match DiskTape::over(disk) {
         Ok(tape) => add_on(rt, alloc, tape),
@@ -30,7 +31,8 @@ fn add_until_failure(rt: &impl Abort, alloc: Global, disk: MemoryDisk) -> (Memor
     }
 }
 
-/// Opens a journal on a tape that is open and adds the records until one fails. Returns the disk and how many were added.
+/// Opens a journal on a tape that is open and adds the records until one fails. Returns the disk
+/// and how many were added.
 fn add_on(rt: &impl Abort, alloc: Global, tape: DiskTape<MemoryDisk>) -> (MemoryDisk, usize) {
     match Journal::open(alloc, tape) {
         Ok((journal, records)) => {
@@ -71,8 +73,8 @@ fn content(rt: &impl Abort, alloc: Global, disk: MemoryDisk) -> Vec<u8> {
     bytes
 }
 
-/// Wherever a call fails and whatever the power cut leaves then, the tape has the records that were added, at most one more, and a
-/// part of the one after it.
+/// Wherever a call fails and whatever the power cut leaves then, the tape has the records that were
+/// added, at most one more, and a part of the one after it.
 #[test]
 fn a_cut_leaves_what_was_added(rt: HostRuntime) {
     for call in 1..=CALLS {
@@ -93,7 +95,8 @@ fn a_cut_leaves_what_was_added(rt: HostRuntime) {
     }
 }
 
-/// After a failed sync a journal is halted; one that is opened again writes a new file, and what it adds is kept.
+/// After a failed sync a journal is halted; one that is opened again writes a new file, and what it
+/// adds is kept.
 #[test]
 fn a_file_is_replaced_after_a_failed_sync(rt: HostRuntime) {
     let mut disk = MemoryDisk::new(rt.alloc());

@@ -1,5 +1,6 @@
-//! Requests that a node serves: over a real connection, on one thread (the client writes before the server accepts), and after
-//! allocation failures. A request for which an allocation failed is repeated once: the node is unchanged.
+//! Requests that a node serves: over a real connection, on one thread (the client writes before the
+//! server accepts), and after allocation failures. A request for which an allocation failed is
+//! repeated once: the node is unchanged.
 use crate::value::{PUBLISH, first_node};
 use std::alloc::Global;
 use std::io;
@@ -64,7 +65,8 @@ fn a_request_over_a_connection_is_answered(rt: HostRuntime) {
     drop(answer);
 }
 
-/// The outcome of a request, and the number of messages sent. The response is written without allocating.
+/// The outcome of a request, and the number of messages sent. The response is written without
+/// allocating.
 fn ask(alloc: Global, node: &mut Node<MemoryTape>, request: &[u8]) -> (Outcome, usize) {
     let mut reader = Bytes::new(request, 4_096, None);
     let served = serve_one(alloc, &mut reader, &mut Stream::new(io::sink()), node);
@@ -73,7 +75,8 @@ fn ask(alloc: Global, node: &mut Node<MemoryTape>, request: &[u8]) -> (Outcome, 
     reported
 }
 
-/// The outcome of a request, which is repeated once if an allocation fails, since that sends nothing; and the number of messages.
+/// The outcome of a request, which is repeated once if an allocation fails, since that sends
+/// nothing; and the number of messages.
 fn ask_with_retry(
     rt: &impl Abort,
     alloc: Global,

@@ -11,7 +11,8 @@ use wf_delivery::{Pumped, deliver_all};
 use wf_node::{Input, Node};
 use wf_tape::MemoryTape;
 
-/// Each message is delivered to each node: the Prepare, three Promises, the Accept, three Accepted and the Chosen.
+/// Each message is delivered to each node: the Prepare, three Promises, the Accept, three Accepted
+/// and the Chosen.
 const FIRST_PUBLISH: Pumped = Pumped {
     deliveries: 27,
     lost: 0,
@@ -95,7 +96,8 @@ fn three_nodes_publish_a_first_map_by_27_deliveries(rt: HostRuntime) {
 /// One message more than `deliver_all` makes deliveries.
 const MESSAGES: usize = 100_001;
 
-/// As many requests for the first definition, which no new node answers; fewer if an allocation fails.
+/// As many requests for the first definition, which no new node answers; fewer if an allocation
+/// fails.
 fn requests(alloc: Global) -> Vec<Message> {
     let mut messages = Vec::new(alloc);
     if let Some(first) = Slot::new(1) {

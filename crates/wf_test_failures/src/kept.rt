@@ -1,4 +1,5 @@
-//! A node that answers by a cache of two pictures, which counts what is drawn and what is taken from it.
+//! A node that answers by a cache of two pictures, which counts what is drawn and what is taken
+//! from it.
 ghost use Rattle.wf_wms.specs.CachedPictures.{AllCached};
 
 use crate::value::{first_node, map, slot};
@@ -53,8 +54,8 @@ fn sends_tile(alloc: Global, node: &mut Node<MemoryTape>, cache: &mut Cache, req
     is_sent
 }
 
-/// Whether a cache of two pictures drops the second one for the third, since the first was used after it: of six tiles four are drawn, the
-/// second picture's twice.
+/// Whether a cache of two pictures drops the second one for the third, since the first was used
+/// after it: of six tiles four are drawn, the second picture's twice.
 fn is_second_dropped(alloc: Global, node: &mut Node<MemoryTape>, cache: &mut Cache) -> bool
     requires { AllCached node.old.parts.history cache.old }
 {

@@ -1,8 +1,9 @@
-//! Tests that no table of cases can express: readers and writers that fail, copies, comparisons that hold for no element of a
-//! list, and calls that are repeated after an allocation failure.
+//! Tests that no table of cases can express: readers and writers that fail, copies, comparisons
+//! that hold for no element of a list, and calls that are repeated after an allocation failure.
 //!
-//! It has only tests, so that no other crate is proved together with its tests. Tests whose input and output are text, including
-//! scripts of calls on one value, are data of the programs that read tables of cases.
+//! It has only tests, so that no other crate is proved together with its tests. Tests whose input
+//! and output are text, including scripts of calls on one value, are data of the programs that read
+//! tables of cases.
 #![tactic(auto)]
 
 #[cfg(test)]

@@ -1,6 +1,7 @@
-//! The reads and writes of a connection: how many, within which time, and what comes of those that are interrupted, fail or come too
-//! late. The clock is read once before each, so that a clock of the tests' own counts them and has them fail. The clients send
-//! their requests before the server accepts. If an allocation failed, everything is repeated once.
+//! The reads and writes of a connection: how many, within which time, and what comes of those that
+//! are interrupted, fail or come too late. The clock is read once before each, so that a clock of
+//! the tests' own counts them and has them fail. The clients send their requests before the server
+//! accepts. If an allocation failed, everything is repeated once.
 use crate::machine::{Reading, TestMachine};
 use crate::serve::{is_read, three_nodes};
 use crate::value::PUBLISH;
@@ -28,13 +29,15 @@ const ACCEPTED: &[u8] =
 const BAD_REQUEST: &[u8] =
     b"HTTP/1.1 400 Bad Request\r\nContent-Type: text/plain\r\nContent-Length: 4\r\nConnection: close\r\n\r\n400\n";
 
-/// A request to publish the map `a` with 8,937 spaces behind it, of 9,048 bytes with these, which one read doesn't take.
+/// A request to publish the map `a` with 8,937 spaces behind it, of 9,048 bytes with these, which
+/// one read doesn't take.
 const LONG_PUBLISH: &[u8] =
     b"POST /publish HTTP/1.1\r\nContent-Length: 9000\r\n\r\nMAP NAME \"a\" EXTENT 0 0 4 4 PROJECTION \"init=epsg:4326\" END END";
 
 const SPACES: &[u8] = &[b' '; 8_937];
 
-/// What is to come of a connection to node 0 of three new nodes, and of one to node 1 that asks for its status.
+/// What is to come of a connection to node 0 of three new nodes, and of one to node 1 that asks for
+/// its status.
 #[derive(Clone, Copy)]
 struct Case<'a> {
     request: &'a [u8],
@@ -55,7 +58,8 @@ fn sent(rt: &HostRuntime, port: u16, request: &[u8], rest: &[u8]) -> io::Result<
     Ok(stream)
 }
 
-/// Appends the responses to both clients, and returns how often the clock was read; None if the connections aren't served.
+/// Appends the responses to both clients, and returns how often the clock was read; None if the
+/// connections aren't served.
 fn respond_to_both(rt: &HostRuntime, case: Case<'_>, answers: &mut Vec<u8>) -> Option<usize> {
     let listener = listen(rt, 0).ok()?;
     let Ok(address) = listener.local_addr() else {
@@ -128,7 +132,8 @@ fn a_body_may_come_in_two_reads(rt: HostRuntime) {
     assert!(rt; is_met(&rt, case) || is_met(&rt, case));
 }
 
-/// The second read is too late, though the bytes have come; they are read and dropped after the response.
+/// The second read is too late, though the bytes have come; they are read and dropped after the
+/// response.
 #[test]
 fn the_time_limit_is_for_the_whole_request(rt: HostRuntime) {
     let case = Case {

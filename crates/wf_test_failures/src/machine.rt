@@ -1,4 +1,5 @@
-//! A machine on which a listener of a test's own is bound, whose clock a test sets, and which looks after the lock of a folder.
+//! A machine on which a listener of a test's own is bound, whose clock a test sets, and which looks
+//! after the lock of a folder.
 use std::alloc::{Allocator, Global};
 use std::cell::{Cell, RefCell};
 use std::fmt::Display;
@@ -20,8 +21,9 @@ pub(crate) enum Reading {
     Fails(ErrorKind),
 }
 
-/// The machine, but that it gives one listener for the first address that is asked for, and tries to lock a folder whenever its clock is
-/// read, as it is for each read and each write of a connection.
+/// The machine, but that it gives one listener for the first address that is asked for, and tries
+/// to lock a folder whenever its clock is read, as it is for each read and each write of a
+/// connection.
 #[derive(Drop)]
 pub(crate) struct TestMachine<'a> {
     rt: &'a HostRuntime,

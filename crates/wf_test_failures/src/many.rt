@@ -1,6 +1,7 @@
-//! More than three connections, on one thread: the clients send their requests before the server accepts. What a cache of pictures
-//! saves is told by the time alone, so the same requests are answered by a cache, and by one that has no room for their pictures.
-//! What fails for an allocation, or since the machine was busy, is repeated.
+//! More than three connections, on one thread: the clients send their requests before the server
+//! accepts. What a cache of pictures saves is told by the time alone, so the same requests are
+//! answered by a cache, and by one that has no room for their pictures. What fails for an
+//! allocation, or since the machine was busy, is repeated.
 ghost use Rattle.std.specs.Prelude.{◌≤◌};
 ghost use Rattle.wf_service.specs.Service.{IsService};
 
@@ -50,7 +51,8 @@ const ON_WHITE: &[u8] =
 const ON_BLACK: &[u8] =
     b"GET /wms?VERSION=1.3.0&REQUEST=GetMap&LAYERS=a,a,a,a,a,a,a,a,a,a,a,a,a,a,a,a,a,a,a,a,a,a,a,a,a,a,a,a,a,a,a,a,a,a,a,a,a,a,a,a,a,a,a,a,a,a,a,a,a,a,a,a,a,a,a,a,a,a,a,a,a,a,a,a&STYLES=&CRS=EPSG:3857&BBOX=0,0,4,4&WIDTH=256&HEIGHT=256&BGCOLOR=0x000000&FORMAT=image/x-portable-pixmap HTTP/1.1\r\n\r\n";
 
-/// This many nodes in memory or in a folder, for this many connections, with this many pictures cached for each.
+/// This many nodes in memory or in a folder, for this many connections, with this many pictures
+/// cached for each.
 fn service(nodes: u8, requests: u32, cache: u8, state: Option<&str>) -> Service<'_>
     requires some { 1 ≤ nodes }
     requires most { nodes ≤ 64 }
@@ -132,7 +134,8 @@ fn status_of(number: usize, nodes: u8) -> &'static [u8]
     }
 }
 
-/// Whether so many nodes on tapes in a folder answer the first forty clients in turn, and not one more.
+/// Whether so many nodes on tapes in a folder answer the first forty clients in turn, and not one
+/// more.
 fn are_forty_answered(rt: &HostRuntime, nodes: u8, folder: &str, crowd: Crowd) -> bool
     requires some { 1 ≤ nodes }
     requires most { nodes ≤ 64 }
@@ -183,7 +186,8 @@ fn is_tile(alloc: Global, client: TcpStream) -> bool {
     is_whole && is_tile
 }
 
-/// The time in which one node answers the first client, and sixteen others with tiles. None if one gets no tile.
+/// The time in which one node answers the first client, and sixteen others with tiles. None if one
+/// gets no tile.
 fn time_of(rt: &HostRuntime, cache: u8, crowd: Crowd) -> Option<Duration>
     requires some { 1 ≤ cache }
     requires most { cache ≤ 64 }
@@ -198,7 +202,8 @@ fn time_of(rt: &HostRuntime, cache: u8, crowd: Crowd) -> Option<Duration>
     are_answered.then_some(time)
 }
 
-/// Whether a cache of two pictures takes less than a third of the time of a cache of one, for the same requests.
+/// Whether a cache of two pictures takes less than a third of the time of a cache of one, for the
+/// same requests.
 fn is_saved(rt: &HostRuntime, crowd: Crowd, twin: Crowd) -> bool {
     match (time_of(rt, 2, crowd), time_of(rt, 1, twin)) {
         (Some(time), Some(time_of_one)) => time.saturating_mul(3) < time_of_one,

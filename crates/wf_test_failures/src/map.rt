@@ -1,4 +1,5 @@
-//! Map definitions that are copied, compared and given layers. Whatever met an allocation failure is repeated once.
+//! Map definitions that are copied, compared and given layers. Whatever met an allocation failure
+//! is repeated once.
 ghost use Rattle.std.specs.Prelude.{◌≡◌, []};
 
 use std::alloc::Global;

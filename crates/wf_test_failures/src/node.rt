@@ -1,5 +1,5 @@
-//! A node that is alone in its farm, with allocation failures or a failing tape. Whatever met an allocation failure is repeated
-//! once: node and tape are unchanged.
+//! A node that is alone in its farm, with allocation failures or a failing tape. Whatever met an
+//! allocation failure is repeated once: node and tape are unchanged.
 use crate::tape::Unsynced;
 use crate::value::{MAP_A, ballot, first_node, map, slot};
 use std::alloc::Global;
@@ -9,7 +9,8 @@ use wf_node::{Input, Node, NodeFault};
 use wf_proposer::ProposalState;
 use wf_tape::{MemoryTape, Tape};
 
-/// The records of a proposal of the map `a` up to the text of the map that is voted for: the round tried, the promise, the vote.
+/// The records of a proposal of the map `a` up to the text of the map that is voted for: the round
+/// tried, the promise, the vote.
 const BEFORE_VOTE: &[u8] = &[
     2, 1, 0, 0, 0, 4, 0, 0, 0, 1, 2, 2, 0, 0, 0, 7, 0, 1, 0, 0, 0, 1, 0, 2, 3, 0, 0, 0, 171, 0, 1,
     0, 0, 0, 1, 0,
@@ -80,7 +81,8 @@ fn answers_to_first(
     answered
 }
 
-/// The tape of a node that proposed the map `a` and received its own messages until the map was published.
+/// The tape of a node that proposed the map `a` and received its own messages until the map was
+/// published.
 fn tape_with_map(rt: &impl Abort, alloc: Global) -> MemoryTape {
     let mut node = first_node(rt, alloc, MemoryTape::new(Vec::new(alloc)), 1);
     let prepare = propose(rt, alloc, &mut node);

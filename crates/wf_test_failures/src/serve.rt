@@ -1,5 +1,6 @@
-//! Nodes that are served, on one thread: the clients send their requests to a listener of the test's own before the server accepts
-//! there. If an allocation failed, everything is repeated once, in another folder.
+//! Nodes that are served, on one thread: the clients send their requests to a listener of the
+//! test's own before the server accepts there. If an allocation failed, everything is repeated
+//! once, in another folder.
 ghost use Rattle.std.specs.Prelude.{◌≤◌};
 ghost use Rattle.wf_service.specs.Service.{IsService};
 
@@ -24,7 +25,8 @@ const FILE_OF_TWO: &[u8] =
 
 const STATUS: &[u8] = b"GET /status HTTP/1.1\r\n\r\n";
 
-/// The responses to clients that publish the first map at node 0, and ask nodes 1 and 2 for their status.
+/// The responses to clients that publish the first map at node 0, and ask nodes 1 and 2 for their
+/// status.
 const AFTER_PUBLISH: &[u8] =
     b"HTTP/1.1 202 Accepted\r\nContent-Type: text/plain\r\nContent-Length: 15\r\nConnection: close\r\n\r\naccepted for 1\nHTTP/1.1 200 OK\r\nContent-Type: text/plain\r\nContent-Length: 33\r\nConnection: close\r\n\r\nnode 1 published 1 proposal none\nHTTP/1.1 200 OK\r\nContent-Type: text/plain\r\nContent-Length: 33\r\nConnection: close\r\n\r\nnode 2 published 1 proposal none\n";
 
@@ -32,7 +34,8 @@ const AFTER_PUBLISH: &[u8] =
 const AFTER_START: &[u8] =
     b"HTTP/1.1 200 OK\r\nContent-Type: text/plain\r\nContent-Length: 33\r\nConnection: close\r\n\r\nnode 0 published 1 proposal none\nHTTP/1.1 200 OK\r\nContent-Type: text/plain\r\nContent-Length: 33\r\nConnection: close\r\n\r\nnode 1 published 1 proposal none\nHTTP/1.1 200 OK\r\nContent-Type: text/plain\r\nContent-Length: 33\r\nConnection: close\r\n\r\nnode 2 published 1 proposal none\n";
 
-/// The responses to a client that publishes the second map at node 0, and to those that ask nodes 1 and 2 for their status.
+/// The responses to a client that publishes the second map at node 0, and to those that ask nodes 1
+/// and 2 for their status.
 const AFTER_SECOND: &[u8] =
     b"HTTP/1.1 202 Accepted\r\nContent-Type: text/plain\r\nContent-Length: 15\r\nConnection: close\r\n\r\naccepted for 2\nHTTP/1.1 200 OK\r\nContent-Type: text/plain\r\nContent-Length: 33\r\nConnection: close\r\n\r\nnode 1 published 2 proposal none\nHTTP/1.1 200 OK\r\nContent-Type: text/plain\r\nContent-Length: 33\r\nConnection: close\r\n\r\nnode 2 published 2 proposal none\n";
 
@@ -80,8 +83,9 @@ fn waiting<R: Abort + Net<Listener = TcpListener, Stream = TcpStream>>(
     (listener, clients)
 }
 
-/// Whether nodes that open in a folder are served to three connections at a listener for any port of this machine, with the line that
-/// names the listener's port, and the folder locked all the while.
+/// Whether nodes that open in a folder are served to three connections at a listener for any port
+/// of this machine, with the line that names the listener's port, and the folder locked all the
+/// while.
 fn serve_three(rt: &HostRuntime, listener: TcpListener, folder: &str) -> bool {
     let Ok(address) = listener.local_addr() else {
         drop(listener);
@@ -163,7 +167,8 @@ fn a_second_map_reaches_each_node(rt: HostRuntime) {
     );
 }
 
-/// The records of a node that published map `a`, and tried a round 13,090 times: 131,072 bytes, 172 and 10 each.
+/// The records of a node that published map `a`, and tried a round 13,090 times: 131,072 bytes, 172
+/// and 10 each.
 fn long_tape(rt: &impl Abort, alloc: Global) -> Vec<u8> {
     let mut bytes = Vec::new(alloc);
     bytes.extend_from_slice(PUBLISHED).expect(rt, "memory");
@@ -221,7 +226,8 @@ fn nodes_start_on_tapes_of_128_kilobytes_and_shorten_them(rt: HostRuntime) {
     drop(short);
 }
 
-/// Why nodes in a folder aren't served at this port, None if they are, and whether the port is printed.
+/// Why nodes in a folder aren't served at this port, None if they are, and whether the port is
+/// printed.
 fn start_serving(rt: &HostRuntime, port: u16, folder: &str) -> (Option<ServeFault>, bool) {
     let mut sink = Output::new(rt.alloc(), 64);
     let outcome = serve(rt, three_nodes(port, 0, Some(folder)), &mut sink);

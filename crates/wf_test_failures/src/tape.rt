@@ -24,8 +24,8 @@ pub fn new_folder(rt: &(impl Abort + Files + AllocGlobal), folder: &str) {
     fs::create_dir(rt, folder).expect(rt, "a folder");
 }
 
-/// Opens a journal over the file, adds a Tried record of this round, and returns the number of records that the journal had; None
-/// if the tape fails.
+/// Opens a journal over the file, adds a Tried record of this round, and returns the number of
+/// records that the journal had; None if the tape fails.
 fn records_before<R: Abort + Files + AllocGlobal>(
     rt: &R,
     path: &str,
@@ -37,7 +37,8 @@ fn records_before<R: Abort + Files + AllocGlobal>(
     }
 }
 
-/// Opens a journal over a tape that is open, adds a Tried record of this round, and returns how many records the journal had.
+/// Opens a journal over a tape that is open, adds a Tried record of this round, and returns how
+/// many records the journal had.
 fn records_on<R: Abort + Files + AllocGlobal>(
     rt: &R,
     tape: FileTape<&R>,
@@ -162,7 +163,8 @@ fn a_replacement_that_fails_is_counted(rt: HostRuntime) {
     assert!(rt; holds(&rt, "stuck/tape", TORN));
 }
 
-/// A tape in memory whose syncs fail after this many that succeed. To replace its content is one of them.
+/// A tape in memory whose syncs fail after this many that succeed. To replace its content is one of
+/// them.
 #[derive(Drop)]
 pub struct Unsynced {
     pub bytes: Vec<u8>,
@@ -252,8 +254,8 @@ fn a_journal_is_halted_where_a_sync_fails(rt: HostRuntime) {
     }
 }
 
-/// Adds a record to a journal that isn't halted: why it can't be added, whether the journal is halted then, and the number of its
-/// tape's failures.
+/// Adds a record to a journal that isn't halted: why it can't be added, whether the journal is
+/// halted then, and the number of its tape's failures.
 fn after_add(
     rt: &impl Abort,
     alloc: Global,

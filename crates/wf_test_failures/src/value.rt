@@ -1,4 +1,5 @@
-//! The nodes, slots, rounds, ballots and definitions of the tests. What met an allocation failure is repeated once.
+//! The nodes, slots, rounds, ballots and definitions of the tests. What met an allocation failure
+//! is repeated once.
 ghost use Rattle.std.specs.Prelude.{◌<◌, ◌≤◌};
 
 use std::alloc::Global;

@@ -23,8 +23,8 @@ fn write_read(message: Message, count: usize, answer: &mut Transcript) {
     drop(message);
 }
 
-/// Appends what is read of the bytes with one more byte after them, which is each byte in turn: equal answers together, as
-/// `256 times: ..`.
+/// Appends what is read of the bytes with one more byte after them, which is each byte in turn:
+/// equal answers together, as `256 times: ..`.
 pub(crate) fn write_followed(asked: CaseInput<'_>, answer: &mut Transcript) -> Answered {
     let mut runs = Runs::new(asked.alloc);
     let taken = take_followed(asked, &mut runs, answer);

@@ -3,8 +3,8 @@ use wf_codec::{Message, encode};
 use wf_test_calls::{Definitions, Spoken};
 use wf_test_table::{Answered, CaseInput, Transcript};
 
-/// Appends `message ` and then the bytes of the message that the words spell; its definition, if it has one, is given by its
-/// canonical text.
+/// Appends `message ` and then the bytes of the message that the words spell; its definition, if it
+/// has one, is given by its canonical text.
 pub(crate) fn write_encoded(asked: CaseInput<'_>, answer: &mut Transcript) -> Answered {
     answer.text("message ");
     let spoken = Spoken {

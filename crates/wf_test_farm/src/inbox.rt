@@ -7,7 +7,8 @@ use wf_mail::Inbox;
 use wf_test_calls::{CallMaps, write_message, write_printed};
 use wf_test_table::{Answered, CaseInput, Transcript, Unanswered};
 
-/// Appends what an inbox returns for each piece of that many bytes, the messages or the error; and how many bytes it keeps.
+/// Appends what an inbox returns for each piece of that many bytes, the messages or the error; and
+/// how many bytes it keeps.
 pub(crate) fn write_fed(mut asked: CaseInput<'_>, answer: &mut Transcript) -> Answered {
     let size = asked.words.count()?;
     if size == 0 {
@@ -39,7 +40,8 @@ fn write_messages(messages: Vec<Message>, answer: &mut Transcript) {
     drop(messages);
 }
 
-/// Appends at how many places the bytes may be cut in two so that the messages that come out, and the bytes kept, are the bytes.
+/// Appends at how many places the bytes may be cut in two so that the messages that come out, and
+/// the bytes kept, are the bytes.
 pub(crate) fn write_cuts(asked: CaseInput<'_>, answer: &mut Transcript) -> Answered {
     let mut same = 0u64;
     for cut in 0..asked.input.len() {

@@ -23,8 +23,8 @@
 //!                          each length from FROM on; then as restart
 //! ```
 //!
-//! `wf_test_calls` defines the words of a message. The answer to a rejected step is `refused: ` and the error as it is
-//! printed.
+//! `wf_test_calls` defines the words of a message. The answer to a rejected step is `refused: ` and
+//! the error as it is printed.
 use crate::open_cases::begin;
 use std::alloc::Global;
 use wf_ballot::Slot;

@@ -26,8 +26,8 @@ pub(crate) fn begin(alloc: Global, member: Member) -> Result<Node<MemoryTape>, U
     }
 }
 
-/// Appends what the node has published that opens on a tape of these bytes, or the error; and how many bytes
-/// are on the tape then.
+/// Appends what the node has published that opens on a tape of these bytes, or the error; and how
+/// many bytes are on the tape then.
 pub(crate) fn ask(mut asked: CaseInput<'_>, answer: &mut Transcript) -> Answered {
     let member = Member::parse(&mut asked.words)?;
     let tape = tape_of(asked.alloc, asked.input)?;

@@ -1,4 +1,5 @@
-//! A proposer that a script calls. Each answer is committed, and the last line is the state of the proposal.
+//! A proposer that a script calls. Each answer is committed, and the last line is the state of the
+//! proposal.
 //!
 //! ```text
 //! start TRIED PUBLISHED MAP             what to store and to send, where the round TRIED is stored and
@@ -28,7 +29,8 @@ struct ProposerSession<'a> {
     proposer: Proposer,
 }
 
-/// Appends what the proposer of a node, of a farm of that many nodes, answers to each call, and the state of its proposal.
+/// Appends what the proposer of a node, of a farm of that many nodes, answers to each call, and the
+/// state of its proposal.
 pub(crate) fn ask(mut asked: CaseInput<'_>, answer: &mut Transcript) -> Answered {
     let node = read_node(&mut asked.words)?;
     if asked.words.word() != "of" {

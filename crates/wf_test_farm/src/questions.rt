@@ -8,7 +8,8 @@
 //! node split                bytes                   the node and how many bytes follow it, none
 //! ```
 //!
-//! and so of `sequence` (not `split`), `slot`, `round` (`split` alone) and `ballot`, whose number is a round and a node. Further:
+//! and so of `sequence` (not `split`), `slot`, `round` (`split` alone) and `ballot`, whose number
+//! is a round and a node. Further:
 //!
 //! ```text
 //! slot of                   a sequence's number     the sequence of its slot, none
@@ -33,12 +34,13 @@
 //!                                                   error; and how many bytes are on the tape then
 //! ```
 //!
-//! `wf_test_calls` has what a script is, [`crate::acceptor`], [`crate::proposer`], [`crate::history`] and [`crate::node`] the
-//! calls.
+//! `wf_test_calls` has what a script is, [`crate::acceptor`], [`crate::proposer`],
+//! [`crate::history`] and [`crate::node`] the calls.
 use crate::{acceptor, history, message, node, number, open_cases, proposer, tape, tries};
 use wf_test_table::{Answered, CaseInput, Questions, Transcript, Unanswered};
 
-/// The questions about a farm's numbers, messages, acceptors, proposers, histories, tapes and nodes.
+/// The questions about a farm's numbers, messages, acceptors, proposers, histories, tapes and
+/// nodes.
 pub(crate) struct FarmQuestions;
 
 impl Questions for FarmQuestions {

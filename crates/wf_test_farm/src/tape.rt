@@ -1,4 +1,5 @@
-//! The questions about tapes: the records that their bytes open with, and the bytes that are left then.
+//! The questions about tapes: the records that their bytes open with, and the bytes that are left
+//! then.
 use std::alloc::Global;
 use wf_ballot::Slot;
 use wf_canon::Canon;
@@ -53,8 +54,8 @@ fn write_record(record: &Record, answer: &mut Transcript) {
     }
 }
 
-/// Appends how many proper beginnings of the bytes open with exactly the first N bytes left, of those that hold these N bytes.
-/// The word is N.
+/// Appends how many proper beginnings of the bytes open with exactly the first N bytes left, of
+/// those that hold these N bytes. The word is N.
 fn write_torn(mut asked: CaseInput<'_>, answer: &mut Transcript) -> Answered {
     let whole = asked.words.count()?;
     let torn = count_torn(asked.alloc, whole, asked.input)?;
@@ -96,8 +97,8 @@ fn none_left(fault: OpenFault) -> Result<Option<usize>, Unanswered> {
     }
 }
 
-/// Appends how many records and bytes a tape opens with to which the definition was added at the slots
-/// from 1 to the last one.
+/// Appends how many records and bytes a tape opens with to which the definition was added at the
+/// slots from 1 to the last one.
 fn write_published(mut asked: CaseInput<'_>, answer: &mut Transcript) -> Answered {
     let last = asked.words.short()?;
     let tape = published_tape(asked.alloc, last, asked.input)?;

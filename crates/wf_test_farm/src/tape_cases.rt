@@ -115,7 +115,8 @@ impl NodeSession<'_> {
         drop(replace(&mut self.node, node));
     }
 
-    /// Appends what each node answers that opens on the first bytes, of each length from the least on.
+    /// Appends what each node answers that opens on the first bytes, of each length from the least
+    /// on.
     fn write_cuts(
         &mut self,
         from: usize,

@@ -9,12 +9,12 @@ use wf_node::{Input, Node, NodeFault};
 use wf_tape::Tape;
 use wf_test_table::{Answered, CaseInput, Transcript, Unanswered};
 
-/// How many messages follow one another from a map on until it is published, each the answer to the one before: Prepare, Promise,
-/// Accept, Accepted and Chosen.
+/// How many messages follow one another from a map on until it is published, each the answer to the
+/// one before: Prepare, Promise, Accept, Accepted and Chosen.
 const MESSAGES: usize = 5;
 
-/// Appends, for each request, what becomes of it, what is written and what is sent, which the node then hears. The node of the words
-/// is on an empty tape.
+/// Appends, for each request, what becomes of it, what is written and what is sent, which the node
+/// then hears. The node of the words is on an empty tape.
 pub(crate) fn serve_alone(mut asked: CaseInput<'_>, answer: &mut Transcript) -> Answered {
     match open(&mut asked) {
         Ok(mut node) => {

@@ -113,9 +113,9 @@ fn ask_published(asked: CaseInput<'_>, history: &mut History, answer: &mut Trans
     ask_all(asked.alloc, history, asked.words.rest(), answer)
 }
 
-/// `cached QUERY ..`: what is answered to the queries in turn by one cache of one picture, at the last sequence of the maps of the
-/// input, which are published one after the other: of each the first pixel as a letter, and whether it is what is answered
-/// without a cache.
+/// `cached QUERY ..`: what is answered to the queries in turn by one cache of one picture, at the
+/// last sequence of the maps of the input, which are published one after the other: of each the
+/// first pixel as a letter, and whether it is what is answered without a cache.
 pub(crate) fn cached(asked: CaseInput<'_>, answer: &mut Transcript) -> Answered {
     match History::new(asked.alloc) {
         Ok(mut history) => {

@@ -38,7 +38,8 @@ impl Exchange {
         writing: None,
     };
 
-    /// The way that words name; without words the request comes in one piece, and the response is taken whole.
+    /// The way that words name; without words the request comes in one piece, and the response is
+    /// taken whole.
     pub(crate) fn read(mut words: CaseWords<'_>) -> Result<Exchange, Unanswered> {
         match words.word() {
             "" => Ok(Exchange::WHOLE),
@@ -122,7 +123,8 @@ fn read_failure(mut words: CaseWords<'_>) -> Result<Option<Failure>, Unanswered>
     Ok(Some(Failure { calls, kind }))
 }
 
-// Reads `at K`, where the K-th call fails, counted from 1; `each K`, where K calls fail before each one that doesn't; or `always`.
+// Reads `at K`, where the K-th call fails, counted from 1; `each K`, where K calls fail before each
+// one that doesn't; or `always`.
 fn read_calls(mut words: CaseWords<'_>) -> Result<FailingCalls, Unanswered> {
     match words.word() {
         "at" => Ok(FailingCalls::One(words.count()?.saturating_sub(1) as u64)),

@@ -37,7 +37,8 @@ impl Failure {
     }
 }
 
-/// A reader of bytes in pieces that counts its calls. Calls after one that failed continue: so a retry can be observed.
+/// A reader of bytes in pieces that counts its calls. Calls after one that failed continue: so a
+/// retry can be observed.
 #[derive(Drop)]
 pub(crate) struct Faltering<'b> {
     rest: &'b [u8],
@@ -78,7 +79,8 @@ impl<'b> Read for Faltering<'b> {
     }
 }
 
-/// A writer into memory that counts its calls. Calls after one that failed continue: so a retry can be observed.
+/// A writer into memory that counts its calls. Calls after one that failed continue: so a retry can
+/// be observed.
 #[derive(Drop)]
 pub(crate) struct Taking {
     bytes: Vec<u8>,

@@ -1,11 +1,14 @@
-//! Test cases about numbers, texts, definitions, tokens, mapfiles, canonical texts, requests about a map, and the HTTP edge of a
-//! node: requests as bytes, what is read of them or answered at once, and what a node answers.
+//! Test cases about numbers, texts, definitions, tokens, mapfiles, canonical texts, requests about
+//! a map, and the HTTP edge of a node: requests as bytes, what is read of them or answered at once,
+//! and what a node answers.
 //!
-//! Standard input is a table of cases (`wf_test_table` defines its format); standard output is the report, whose last line has the
-//! counts. The questions that need no node and no request are those of `wf_test_questions`; each of the others is one function, by
-//! subject: `requests`, `maps`, `cached`, `reports`, `edge`.
+//! Standard input is a table of cases (`wf_test_table` defines its format); standard output is the
+//! report, whose last line has the counts. The questions that need no node and no request are those
+//! of `wf_test_questions`; each of the others is one function, by subject: `requests`, `maps`,
+//! `cached`, `reports`, `edge`.
 //!
-//! The program is proved to be safe and to return, and nothing more: what the cases show is in the table.
+//! The program is proved to be safe and to return, and nothing more: what the cases show is in the
+//! table.
 #![tactic(auto)]
 
 mod alone;

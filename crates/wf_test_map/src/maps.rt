@@ -148,7 +148,8 @@ fn ask_map(alloc: Global, mapfile: &[u8], query: &[u8]) -> Result<Given, Unanswe
     }
 }
 
-/// `get`: the kind, the media type and the length of the answer to a query at update sequence 1, where map `sq` is published.
+/// `get`: the kind, the media type and the length of the answer to a query at update sequence 1,
+/// where map `sq` is published.
 pub(crate) fn get(asked: CaseInput<'_>, answer: &mut Transcript) -> Answered {
     match ask_map(asked.alloc, MAP_SQ.as_bytes(), asked.input) {
         Ok(given) => write_summary(given, answer),
@@ -197,8 +198,8 @@ fn write_drawn(asked: CaseInput<'_>, query: &Transcript, answer: &mut Transcript
     }
 }
 
-/// `drawn QUERY`: the pixels, as letters, of the picture of 4 by 4 pixels that the query gets at update sequence 1, where the map
-/// of the input is published. QUERY is spelled with escapes.
+/// `drawn QUERY`: the pixels, as letters, of the picture of 4 by 4 pixels that the query gets at
+/// update sequence 1, where the map of the input is published. QUERY is spelled with escapes.
 pub(crate) fn drawn(asked: CaseInput<'_>, answer: &mut Transcript) -> Answered {
     let mut query = Transcript::new(asked.alloc);
     let reported = match unescape(asked.words.rest(), &mut query) {

@@ -16,8 +16,8 @@ use wf_test_table::{Answered, CaseInput, Transcript, Unanswered};
 use wf_wms::Cache;
 
 /// Appends, for each request, what becomes of it, what is written and what is sent; if wanted, of
-/// one request that comes twice, by a cache of one picture. The
-/// node of the words is on an empty tape, and publishes the map whose mapfile comes first in the input.
+/// one request that comes twice, by a cache of one picture. The node of the words is on an empty
+/// tape, and publishes the map whose mapfile comes first in the input.
 pub(crate) fn serve_published(
     mut asked: CaseInput<'_>,
     is_cached: bool,

@@ -57,7 +57,8 @@ fn write_described(asked: CaseInput<'_>, sequence: Seq, map: &MapDef, answer: &m
     }
 }
 
-/// `request SEQ`: the kind, the media type and the length of the answer to a query about map `a` at an update sequence.
+/// `request SEQ`: the kind, the media type and the length of the answer to a query about map `a` at
+/// an update sequence.
 pub(crate) fn request(mut asked: CaseInput<'_>, answer: &mut Transcript) -> Answered {
     let sequence = read_sequence(&mut asked.words)?;
     match wf_mapfile::read(asked.alloc, MAP_A.as_bytes()) {

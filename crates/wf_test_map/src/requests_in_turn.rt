@@ -9,7 +9,8 @@ use wf_tape::Tape;
 use wf_test_calls::{CallMaps, Member, record_sent};
 use wf_test_table::{Answered, CaseInput, Transcript, Unanswered};
 
-/// Appends, for each request, what becomes of it, what is written and what is sent. The node of the words is new, on that tape.
+/// Appends, for each request, what becomes of it, what is written and what is sent. The node of the
+/// words is new, on that tape.
 pub(crate) fn serve<T: Tape + Drop>(
     mut asked: CaseInput<'_>,
     tape: T,
@@ -44,7 +45,8 @@ fn serve_by<T: Tape + Drop>(
     }
 }
 
-/// Appends the same for a node that is open already. Bytes of 0, which no head can hold, separate the requests.
+/// Appends the same for a node that is open already. Bytes of 0, which no head can hold, separate
+/// the requests.
 pub(crate) fn serve_each<T: Tape>(
     asked: CaseInput<'_>,
     node: &mut Node<T>,

@@ -3,7 +3,8 @@ use crate::section::{Section, read_box};
 use wf_geometry::GridCell;
 use wf_test_table::{Answered, CaseInput, CaseWords, Transcript};
 
-/// Appends level, column and row of the cell of the extent's grid whose tile `BOX, W by H` is; none where no cell fits.
+/// Appends level, column and row of the cell of the extent's grid whose tile `BOX, W by H` is; none
+/// where no cell fits.
 pub(crate) fn ask(asked: CaseInput<'_>, answer: &mut Transcript) -> Answered {
     let extent = read_box(asked.words)?;
     let section = Section::read(&mut CaseWords::new(asked.text()?))?;

@@ -1,4 +1,5 @@
-//! Colours as letters: `K` black, `W` white, `R` red, `G` green, `B` blue, `Y` yellow; `?` any other.
+//! Colours as letters: `K` black, `W` white, `R` red, `G` green, `B` blue, `Y` yellow; `?` any
+//! other.
 use wf_def::Color;
 use wf_test_table::Unanswered;
 

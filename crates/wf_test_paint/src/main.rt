@@ -1,10 +1,12 @@
-//! Test cases about the painter, labels and pictures: pictures as letters and as files, where a view shows a point, and cells of
-//! the grid of tiles.
+//! Test cases about the painter, labels and pictures: pictures as letters and as files, where a
+//! view shows a point, and cells of the grid of tiles.
 //!
-//! Standard input is a table of cases (`wf_test_table` defines its format). The program compares each answer with the expected one
-//! and writes each difference, with the counts on the last line. [`questions`] lists the questions.
+//! Standard input is a table of cases (`wf_test_table` defines its format). The program compares
+//! each answer with the expected one and writes each difference, with the counts on the last line.
+//! [`questions`] lists the questions.
 //!
-//! It has no contract of its own: its answers are those of `wf_geometry`, `wf_paint`, `wf_label` and `wf_picture`, put into words.
+//! It has no contract of its own: its answers are those of `wf_geometry`, `wf_paint`, `wf_label`
+//! and `wf_picture`, put into words.
 #![tactic(auto)]
 
 mod cell;

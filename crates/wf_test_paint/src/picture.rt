@@ -11,7 +11,8 @@ use wf_label::{draw_labels, place};
 use wf_paint::{Pixmap, paint};
 use wf_test_table::{Answered, CaseInput, Transcript, Unanswered};
 
-/// Appends the picture of `BOX, W by H, BACKGROUND[, LAYER ..]`: a letter a pixel, the top row first.
+/// Appends the picture of `BOX, W by H, BACKGROUND[, LAYER ..]`: a letter a pixel, the top row
+/// first.
 pub(crate) fn ask(asked: CaseInput<'_>, answer: &mut Transcript) -> Answered {
     ask_shown(asked, None, answer)
 }

@@ -3,7 +3,8 @@ use crate::section::{Section, read_map, read_point};
 use wf_geometry::{Corner, Position, View};
 use wf_test_table::{Answered, CaseInput, Transcript, Unanswered};
 
-/// Appends where the view of `BOX, W by H, X Y` shows the point; for a tile also where it is cut out.
+/// Appends where the view of `BOX, W by H, X Y` shows the point; for a tile also where it is cut
+/// out.
 pub(crate) fn ask(mut asked: CaseInput<'_>, answer: &mut Transcript) -> Answered {
     let section = Section::read(&mut asked.words)?;
     let point = read_point(asked.words)?;

@@ -5,7 +5,8 @@ use wf_def::Color;
 use wf_paint::Pixmap;
 use wf_test_table::{Answered, CaseWords, Transcript, Unanswered};
 
-/// Some columns and rows of a picture from a first one on, counted from the left and from the bottom.
+/// Some columns and rows of a picture from a first one on, counted from the left and from the
+/// bottom.
 #[derive(Clone, Copy)]
 pub(crate) struct Window {
     column: u32,

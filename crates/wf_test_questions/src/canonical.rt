@@ -50,7 +50,8 @@ fn print_slow(asked: CaseInput<'_>, answer: &mut Transcript) {
     }
 }
 
-/// `canonical`: a copy of the canonical text that the bytes are, or why they are none. The quick reader has to accept each such text too.
+/// `canonical`: a copy of the canonical text that the bytes are, or why they are none. The quick
+/// reader has to accept each such text too.
 pub(crate) fn from_bytes(asked: CaseInput<'_>, answer: &mut Transcript) -> Answered {
     match Canon::from_bytes(asked.alloc, asked.input) {
         Ok(canon) => {
@@ -169,7 +170,8 @@ fn print_titled(alloc: Global, map: MapDef, answer: &mut Transcript) {
     }
 }
 
-/// `title`: how the canonical text of map `a` with this title spells it, and the title that this text means.
+/// `title`: how the canonical text of map `a` with this title spells it, and the title that this
+/// text means.
 pub(crate) fn title(asked: CaseInput<'_>, answer: &mut Transcript) -> Answered {
     match map_with_title(asked.alloc, asked.input) {
         Ok(map) => print_titled(asked.alloc, map, answer),

@@ -13,7 +13,8 @@ use wf_def::{
 use wf_test_table::{Answered, CaseInput, CaseWords, Transcript, Unanswered};
 use wf_text::{Micro, Text, Whole};
 
-/// `attribute`: the value of names between commas, values between semicolons and a name, with `|` between the three.
+/// `attribute`: the value of names between commas, values between semicolons and a name, with `|`
+/// between the three.
 pub(crate) fn attribute_of_lists(asked: CaseInput<'_>, answer: &mut Transcript) -> Answered {
     let Some((names, rest)) = asked.text()?.split_once('|') else {
         return Err(Unanswered::BadWords);
@@ -284,7 +285,8 @@ fn print_layer_of_parts(
     }
 }
 
-/// `shape KIND`: whether a layer of the kind can have one feature whose parts have these numbers of points.
+/// `shape KIND`: whether a layer of the kind can have one feature whose parts have these numbers of
+/// points.
 pub(crate) fn shape(asked: CaseInput<'_>, answer: &mut Transcript) -> Answered {
     let kind = kind_of(asked.words.rest())?;
     match parts_of_points(asked.alloc, asked.text()?) {

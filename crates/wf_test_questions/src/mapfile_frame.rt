@@ -11,8 +11,8 @@ pub(crate) struct Wrapping {
     pub back: &'static str,
 }
 
-/// The mapfile around a piece: `map` is a whole mapfile; `layers` are in a map, `layer` in its layer, `kinds` in one
-/// whose features have a kind and a size, `class` in a class of the layer.
+/// The mapfile around a piece: `map` is a whole mapfile; `layers` are in a map, `layer` in its
+/// layer, `kinds` in one whose features have a kind and a size, `class` in a class of the layer.
 pub(crate) fn wrapping_of(words: &str) -> Result<Wrapping, Unanswered> {
     match words {
         "map" => Ok(Wrapping {
@@ -36,7 +36,8 @@ pub(crate) fn wrapping_of(words: &str) -> Result<Wrapping, Unanswered> {
     }
 }
 
-/// The mapfile around what follows the word CLASS. Its back ends the layer and the map: the piece ends its class itself.
+/// The mapfile around what follows the word CLASS. Its back ends the layer and the map: the piece
+/// ends its class itself.
 pub(crate) const CLASS: Wrapping = Wrapping {
     front: "MAP EXTENT 0 0 4 4 PROJECTION \"init=epsg:3857\" END LAYER NAME a TYPE POINT CLASS ",
     back: " END END",

@@ -93,8 +93,8 @@ fn write_classes(map: &MapDef, answer: &mut Transcript) {
 
 /// `class`: a copy of the class whose text after the word CLASS is the input, or the error.
 ///
-/// The input alone leaves the layer and the map open, which is M6 at its end. It has ended its class where the ends of the layer
-/// and of the map make a mapfile of it.
+/// The input alone leaves the layer and the map open, which is M6 at its end. It has ended its
+/// class where the ends of the layer and of the map make a mapfile of it.
 pub(crate) fn class(asked: CaseInput<'_>, answer: &mut Transcript) -> Answered {
     let open = Wrapping {
         front: CLASS.front,
@@ -180,7 +180,8 @@ fn write_classes_of_features(map: &MapDef, answer: &mut Transcript) {
     }
 }
 
-/// `class_of`: the index of each feature's class, where the input is in a layer whose features have a kind and a size.
+/// `class_of`: the index of each feature's class, where the input is in a layer whose features have
+/// a kind and a size.
 pub(crate) fn class_of(asked: CaseInput<'_>, answer: &mut Transcript) -> Answered {
     let wrapping = wrapping_of("kinds")?;
     Reported::ClassesOfFeatures.print_read(asked, wrapping, answer);
@@ -208,8 +209,8 @@ fn write_attributes(map: &MapDef, name: &Text, answer: &mut Transcript) {
     }
 }
 
-/// `attribute_of NAME`: each feature's attribute of the name, where the input is in a layer whose features have a kind and a
-/// size.
+/// `attribute_of NAME`: each feature's attribute of the name, where the input is in a layer whose
+/// features have a kind and a size.
 pub(crate) fn attribute_of(asked: CaseInput<'_>, answer: &mut Transcript) -> Answered {
     let wrapping = wrapping_of("kinds")?;
     match text_of(asked.alloc, asked.words.rest().as_bytes()) {

@@ -2,7 +2,8 @@
 use crate::{canonical, definitions, mapfiles, numbers, spellings, tables, texts, tokens};
 use wf_test_table::{Answered, CaseInput, Transcript, Unanswered};
 
-/// Appends the answer to the question of this name, or returns why it can't be asked so: `UnknownQuestion` for any other name.
+/// Appends the answer to the question of this name, or returns why it can't be asked so:
+/// `UnknownQuestion` for any other name.
 pub fn ask(question: &str, asked: CaseInput<'_>, answer: &mut Transcript) -> Answered {
     match question {
         "number" => numbers::number(asked, answer),

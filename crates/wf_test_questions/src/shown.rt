@@ -27,7 +27,8 @@ fn projection_name(projection: Projection) -> &'static str {
     }
 }
 
-/// Appends a map's name, title, abstract, address, extent in millionths and coordinate system, on a line.
+/// Appends a map's name, title, abstract, address, extent in millionths and coordinate system, on a
+/// line.
 pub(crate) fn write_map(map: &MapDef, answer: &mut Transcript) {
     write_barred(map.name(), answer);
     write_barred(map.title(), answer);

@@ -38,7 +38,8 @@ fn compare_each(
     drop(first);
 }
 
-/// `same PIECE`: of pieces with `|` between them, whether each but the first means the same map as the first.
+/// `same PIECE`: of pieces with `|` between them, whether each but the first means the same map as
+/// the first.
 pub(crate) fn same(asked: CaseInput<'_>, answer: &mut Transcript) -> Answered {
     let Some((first, pieces)) = asked.text()?.split_once('|') else {
         return Err(Unanswered::BadWords);
@@ -81,8 +82,8 @@ impl SpellingTally {
     }
 }
 
-/// `beginnings`: of the input's beginnings, from the empty one to all but its last byte, how many are read, rejected, and
-/// rejected for allocation failure.
+/// `beginnings`: of the input's beginnings, from the empty one to all but its last byte, how many
+/// are read, rejected, and rejected for allocation failure.
 pub(crate) fn beginnings(asked: CaseInput<'_>, answer: &mut Transcript) -> Answered {
     let mut tally = SpellingTally {
         read: 0,
@@ -182,8 +183,8 @@ fn unescape_both(words: &str, gap: &mut Transcript, other: &mut Transcript) -> A
     unescape(second, other)
 }
 
-/// `gaps GAP|OTHER`: what the mapfile means whose tokens are the input's lines, with GAP after each, and OTHER after each in
-/// turn.
+/// `gaps GAP|OTHER`: what the mapfile means whose tokens are the input's lines, with GAP after
+/// each, and OTHER after each in turn.
 pub(crate) fn gaps(asked: CaseInput<'_>, answer: &mut Transcript) -> Answered {
     let mut gap = Transcript::new(asked.alloc);
     let mut other = Transcript::new(asked.alloc);

@@ -2,8 +2,8 @@
 use wf_test_table::{Answered, CaseInput, Runs, Transcript, Unanswered, unescape};
 use wf_token::{LexFault, LexFaultKind, Token, TokenKind, Tokens, tokenize};
 
-// Appends a word as `offset:word`, a string as `offset"string"`, a list as `offset{list}`; without its text as `offset:`, `offset"` or
-// `offset{`.
+// Appends a word as `offset:word`, a string as `offset"string"`, a list as `offset{list}`; without
+// its text as `offset:`, `offset"` or `offset{`.
 fn write_token(token: Token<'_>, whole: bool, answer: &mut Transcript) {
     answer.count(token.byte_offset);
     answer.text(match token.kind {
@@ -103,8 +103,8 @@ fn take_bytes(
     Ok(())
 }
 
-/// `each_byte FRONT|BACK`: the byte offsets and kinds of the tokens, where each byte of the input in turn is between FRONT and
-/// BACK.
+/// `each_byte FRONT|BACK`: the byte offsets and kinds of the tokens, where each byte of the input
+/// in turn is between FRONT and BACK.
 pub(crate) fn each_byte(asked: CaseInput<'_>, answer: &mut Transcript) -> Answered {
     let Some(around) = asked.words.rest().split_once('|') else {
         return Err(Unanswered::BadWords);

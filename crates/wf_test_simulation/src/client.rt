@@ -73,7 +73,8 @@ impl<'a> Client<'a> {
         self.node
     }
 
-    /// Whether it has had an answer since all faults are over: that its map is published, or the capabilities.
+    /// Whether it has had an answer since all faults are over: that its map is published, or the
+    /// capabilities.
     pub(crate) fn is_served(&self) -> bool {
         self.is_served
     }

@@ -47,7 +47,8 @@ pub(crate) fn digest_of(digest: u64, bytes: &[u8]) -> u64 {
 /// The digest of no bytes.
 pub(crate) const NO_BYTES: u64 = 0xcbf2_9ce4_8422_2325;
 
-/// What was seen of a farm: its maps and documents by sequence, and which maps were reported as published.
+/// What was seen of a farm: its maps and documents by sequence, and which maps were reported as
+/// published.
 #[derive(Drop)]
 pub(crate) struct Ledger {
     alloc: Global,
@@ -85,7 +86,8 @@ impl Ledger {
         self.reports.len()
     }
 
-    /// Notes what a node has published, of which so many sequences were noted. Returns how many it has.
+    /// Notes what a node has published, of which so many sequences were noted. Returns how many it
+    /// has.
     pub(crate) fn note_list(
         &mut self,
         node: u8,

@@ -13,8 +13,8 @@ use std::time::Duration;
 /// The seconds from 1970 to when a play begins.
 const EPOCH_SECONDS: u64 = 1_800_000_000;
 
-/// A runtime whose time is set by the driver of a play. It has no files and no sockets of the system. Lines of errors are counted, and
-/// printed where that was asked.
+/// A runtime whose time is set by the driver of a play. It has no files and no sockets of the
+/// system. Lines of errors are counted, and printed where that was asked.
 #[derive(Drop)]
 pub(crate) struct Machine<'a, R> {
     rt: &'a R,

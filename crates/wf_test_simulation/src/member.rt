@@ -105,8 +105,8 @@ impl<'a> Member<'a> {
         self.folder.cut(dice.index(2), dice.index(200));
     }
 
-    /// Takes a turn if it is due or a socket may be ready; starts the process if that is due. Returns how many sockets were
-    /// ready, if it took a turn.
+    /// Takes a turn if it is due or a socket may be ready; starts the process if that is due.
+    /// Returns how many sockets were ready, if it took a turn.
     pub(crate) fn turn<R: Eprint>(
         &mut self,
         machine: &Machine<'_, R>,
@@ -177,7 +177,8 @@ impl<'a> Member<'a> {
     }
 }
 
-/// Puts the tokens of the sockets of a host that may be ready to the front of a buffer, and returns how many they are.
+/// Puts the tokens of the sockets of a host that may be ready to the front of a buffer, and returns
+/// how many they are.
 fn take_ready(world: &RefCell<World>, host: usize, tokens: &mut [usize]) -> usize {
     let Ok(mut world) = world.try_borrow_mut() else {
         return 0;

@@ -129,7 +129,8 @@ impl<'a, R: Eprint> Play<'a, R> {
         self.judge()
     }
 
-    /// Goes on to the next moment at which something is due, that time at the latest; each node and each client does what it has to do.
+    /// Goes on to the next moment at which something is due, that time at the latest; each node and
+    /// each client does what it has to do.
     fn step(&mut self, latest: u64) -> Result<(), AllocError> {
         let time = self.next_moment().min(latest);
         self.machine.set_millis(time);
@@ -264,7 +265,8 @@ impl<'a, R: Eprint> Play<'a, R> {
         }
     }
 
-    /// All faults are over: each node that was ended is started, all reach each other, and the clients begin anew.
+    /// All faults are over: each node that was ended is started, all reach each other, and the
+    /// clients begin anew.
     fn heal(&mut self, time: u64) {
         self.next_fault = u64::MAX;
         if let Ok(mut world) = self.world.try_borrow_mut() {

@@ -4,7 +4,8 @@ use crate::plan::Plan;
 use crate::play::run_play;
 use wf_test_table::{Answered, CaseInput, CaseWords, Questions, Transcript, Unanswered};
 
-/// The questions: plays, of which the input is the seed, and whose logs are printed on the standard error of a runtime.
+/// The questions: plays, of which the input is the seed, and whose logs are printed on the standard
+/// error of a runtime.
 #[derive(Drop)]
 pub(crate) struct Plays<'a, R> {
     rt: &'a R,

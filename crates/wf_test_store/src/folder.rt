@@ -5,8 +5,9 @@ use wf_folder::Presence;
 use wf_store::{FileName, FolderFault, MemoryFolder, MemoryStore, Store, path_in};
 use wf_tape::Tape;
 
-/// A power cut after a replacement: the call that fails, or 0, and how much it keeps; which file the cut puts back; and whether the
-/// replacement succeeds, and the new bytes are there after the cut.
+/// A power cut after a replacement: the call that fails, or 0, and how much it keeps; which file
+/// the cut puts back; and whether the replacement succeeds, and the new bytes are there after the
+/// cut.
 struct Cut {
     call: usize,
     kept: usize,

@@ -1,4 +1,5 @@
-//! `init` and starts of a node on a folder in memory, each call of which fails in turn, before its power is cut.
+//! `init` and starts of a node on a folder in memory, each call of which fails in turn, before its
+//! power is cut.
 ghost use Rattle.wf_line.specs.NodeLine.{IsNodeCommandInRange};
 
 use std::alloc::Global;
@@ -12,7 +13,8 @@ use wf_line::{InitLine, NodeCommand, NodeLine};
 use wf_node_command::run;
 use wf_store::{FileName, MemoryFolder, MemoryStore, Store};
 
-/// The tape of the only node of a farm that has published one map, as a node wrote it: four records, in hexadecimal digits.
+/// The tape of the only node of a farm that has published one map, as a node wrote it: four
+/// records, in hexadecimal digits.
 const TAPE: &[&str] = &[
     "02010000000400000001020200000007000100000001000203000000ab000100000001004d41500a",
     "4e414d45202261220a455854454e5420302030203420340a50524f4a454354494f4e0a22696e6974",
@@ -26,7 +28,8 @@ const TAPE: &[&str] = &[
     "454e440a454e440a454e440a",
 ];
 
-/// The length of the beginning of that tape that a torn one has: its first three records, and a part of the last.
+/// The length of the beginning of that tape that a torn one has: its first three records, and a
+/// part of the last.
 const TORN_BYTES: usize = 250;
 
 /// Where its last record begins: the map that is published.
@@ -101,8 +104,8 @@ fn runs<R: Files<File = File> + Clock + Eprint + Net + AllocGlobal + Abort>(
     result.is_ok()
 }
 
-/// Runs a command on a folder, a call of which fails and keeps so much; then the power is cut, and puts this file back. Whether the command
-/// succeeds, and whether it made that call.
+/// Runs a command on a folder, a call of which fails and keeps so much; then the power is cut, and
+/// puts this file back. Whether the command succeeds, and whether it made that call.
 fn cut_within<R: Files<File = File> + Clock + Eprint + Net + AllocGlobal + Abort>(
     rt: &R,
     folder: &MemoryFolder,
@@ -151,8 +154,8 @@ fn made_folder<R: Files<File = File> + Clock + Eprint + Net + AllocGlobal + Abor
     folder
 }
 
-/// `init` is cut at each of its calls: a node starts on what is left exactly where the file `farm` is there, with its tape. Returns how many
-/// calls it made.
+/// `init` is cut at each of its calls: a node starts on what is left exactly where the file `farm`
+/// is there, with its tape. Returns how many calls it made.
 fn cut_init<R: Files<File = File> + Clock + Eprint + Net + AllocGlobal + Abort>(
     rt: &R,
     kept: usize,
@@ -185,8 +188,8 @@ fn started_tape<R: Files<File = File> + Clock + Eprint + Net + AllocGlobal + Abo
     left
 }
 
-/// A start is cut at each of its calls: the next one succeeds, and leaves of the tape what one that isn't cut leaves. Returns how many calls it
-/// made.
+/// A start is cut at each of its calls: the next one succeeds, and leaves of the tape what one that
+/// isn't cut leaves. Returns how many calls it made.
 fn cut_start<R: Files<File = File> + Clock + Eprint + Net + AllocGlobal + Abort>(
     rt: &R,
     tape: &[u8],

@@ -2,8 +2,8 @@
 use std::alloc::{AllocError, Global};
 use std::fmt::Display;
 
-/// What is appended so far. Where an allocation fails in an append, the answer remembers that and [`Transcript::finished_text`] returns it;
-/// the calls that append return no error.
+/// What is appended so far. Where an allocation fails in an append, the answer remembers that and
+/// [`Transcript::finished_text`] returns it; the calls that append return no error.
 pub struct Transcript {
     pub(crate) text: Vec<u8>,
     pub(crate) is_cut: bool,

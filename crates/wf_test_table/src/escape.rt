@@ -1,4 +1,5 @@
-//! Bytes as a table spells them: `\n`, `\r`, `\t`, `\\`, `\s` for a space, `\xHH` for any byte; everything else is itself.
+//! Bytes as a table spells them: `\n`, `\r`, `\t`, `\\`, `\s` for a space, `\xHH` for any byte;
+//! everything else is itself.
 ghost use Rattle.std.specs.Prelude.{◌<◌, IfSome};
 
 use crate::answer::Transcript;
@@ -81,7 +82,8 @@ fn take(state: State, byte: u8, out: &mut Transcript) -> Result<State, Unanswere
     }
 }
 
-/// Appends the bytes that a text spells. Returns an error where a backslash begins no escape; then a part is appended.
+/// Appends the bytes that a text spells. Returns an error where a backslash begins no escape; then
+/// a part is appended.
 pub fn unescape(text: &str, out: &mut Transcript) -> Result<(), Unanswered> {
     let mut state = State::Outside;
     for byte in text.as_bytes() {

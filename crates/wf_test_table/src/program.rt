@@ -6,7 +6,8 @@ use std::alloc::{AllocError, Global};
 use std::io;
 use std::process::ExitCode;
 
-// Asks the cases of a table, appends the report, and returns whether each case's answer is the expected one.
+// Asks the cases of a table, appends the report, and returns whether each case's answer is the
+// expected one.
 fn is_right<Q: Questions>(
     alloc: Global,
     questions: &Q,
@@ -33,8 +34,8 @@ fn run<R: Input + Print + AllocGlobal, Q: Questions>(rt: &R, questions: &Q) -> i
     Ok(is_right)
 }
 
-/// Asks the cases of the table on standard input, writes the report to standard output, and succeeds iff no answer differs and
-/// the table has no error.
+/// Asks the cases of the table on standard input, writes the report to standard output, and
+/// succeeds iff no answer differs and the table has no error.
 pub fn run_program<R: Input + Print + AllocGlobal, Q: Questions>(
     rt: &R,
     questions: &Q,

@@ -425,8 +425,9 @@ impl<'a> Runner<'a> {
     }
 }
 
-/// Asks each case of a table, and appends the report: the answers that differ, the errors of the table, and the counts on the
-/// last line. The run ends at the first question in which an allocation fails.
+/// Asks each case of a table, and appends the report: the answers that differ, the errors of the
+/// table, and the counts on the last line. The run ends at the first question in which an
+/// allocation fails.
 pub fn run_table<Q: Questions>(
     alloc: Global,
     questions: &Q,

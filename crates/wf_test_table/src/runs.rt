@@ -28,7 +28,8 @@ impl Runs {
         answer.append(&self.line);
     }
 
-    /// Counts the next line; where it is another one, appends the line before and how often that came.
+    /// Counts the next line; where it is another one, appends the line before and how often that
+    /// came.
     pub fn take(&mut self, line: &Transcript, answer: &mut Transcript) {
         if self.line.text.as_slice() != line.text.as_slice() {
             self.write(answer);

@@ -1,4 +1,5 @@
--- The limits of texts and numbers, each once, with its unit. The constants of the code are proved equal to them.
+-- The limits of texts and numbers, each once, with its unit. The constants of the code are proved
+-- equal to them.
 use Rattle.std.specs.Prelude.{ℕ}
 
 -- the longest text, in bytes
@@ -19,6 +20,7 @@ most_fraction_digits = 25
 abbrev pub most_power_digits : ℕ
 most_power_digits = 3
 
--- the longest text that a coordinate is written as, in bytes: a `-`, nine digits, a point and six digits
+-- the longest text that a coordinate is written as, in bytes: a `-`, nine digits, a point and six
+-- digits
 abbrev pub most_number_bytes : ℕ
 most_number_bytes = 17

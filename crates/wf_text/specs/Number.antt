@@ -1,7 +1,8 @@
 -- What a number's text means, in millionths of a unit.
 --
--- The form: an optional sign, digits, and optionally a point and digits, with at least one digit in all; then optionally `e` or
--- `E`, an optional sign and one to three digits, a power of ten. `5.` and `.5` are numbers.
+-- The form: an optional sign, digits, and optionally a point and digits, with at least one digit in
+-- all; then optionally `e` or `E`, an optional sign and one to three digits, a power of ten. `5.`
+-- and `.5` are numbers.
 use Rattle.std.specs.Prelude.{ℕ, ◌+◌, ◌-◌, ◌*◌, ◌/◌, ◌^◌, ◌==◌, ◌&&◌, ◌||◌, Bool, false, nat_lt, nat_le, List, [], ◌∷◌, ◌++◌, length, drop, take_while, fold, Option, Some, None, option_map, Result, Ok, Err, ℤ, pos, negsuc, ◌+ℤ◌, ◌-ℤ◌, neg_ℤ, if◌then◌else◌, nat_abs, ◌≤◌, ◌%◌}
 use Rattle.std.specs.Char.{is_ascii_digit}
 use Rattle.std.specs.List.{list_all, prefix_len}

@@ -1,7 +1,9 @@
--- The form of a number's text: an optional `-` or `+`, digits, and optionally a point and digits, with at least one digit in all;
--- then optionally `e` or `E`, an optional sign and one to three digits, a power of ten. `5.` and `.5` are numbers.
+-- The form of a number's text: an optional `-` or `+`, digits, and optionally a point and digits,
+-- with at least one digit in all; then optionally `e` or `E`, an optional sign and one to three
+-- digits, a power of ten. `5.` and `.5` are numbers.
 --
--- A written number is its parts from left to right; its text is their spellings, one after the other. Nothing here cuts a text.
+-- A written number is its parts from left to right; its text is their spellings, one after the
+-- other. Nothing here cuts a text.
 use Rattle.std.specs.Prelude.{◌≡◌, ◌↔◌, ⊤, ℕ, ◌+◌, ◌≤◌, Bool, true, false, List, [], ◌∷◌, ◌++◌, length, Some, Err, ℤ, pos}
 use Rattle.std.specs.Char.{is_ascii_digit}
 use Rattle.std.specs.List.{list_all}
@@ -67,7 +69,8 @@ pub record Written : Type 0 where
 abbrev pub text_of : Written → List ℕ
 text_of w = sign_text w.sign ++ (w.whole ++ (fraction_text w.fraction ++ ending_text w.ending))
 
--- the written number as the parts that have a value: the digits unchanged, with leading and trailing zeros
+-- the written number as the parts that have a value: the digits unchanged, with leading and
+-- trailing zeros
 abbrev pub parts_of : Written → Numeral
 parts_of w = record { negative = is_minus w.sign; whole = w.whole; fraction = behind_point w.fraction; power = power_of_ten w.ending }
 

@@ -1,5 +1,5 @@
--- The text of a number of millionths: `-` if it is negative, the integer part without leading zeros but with at least one digit,
--- and a fraction, without trailing zeros, only if it isn't zero.
+-- The text of a number of millionths: `-` if it is negative, the integer part without leading zeros
+-- but with at least one digit, and a fraction, without trailing zeros, only if it isn't zero.
 use Rattle.std.specs.Prelude.{ℕ, zero, suc, ℤ, pos, negsuc, ◌+◌, ◌/◌, ◌%◌, ◌^◌, List, [], ◌∷◌, ◌++◌, ◌==◌, if◌then◌else◌, ◌≡◌, ◌≤◌, length}
 use Rattle.std.specs.Fmt.{decimal}
 use Rattle.wf_text.specs.Limit.{most_number_bytes}

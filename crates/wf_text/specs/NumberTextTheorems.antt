@@ -1,4 +1,5 @@
--- Reading the text of a number returns that number: the theorem, and the facts about its digits that other crates use.
+-- Reading the text of a number returns that number: the theorem, and the facts about its digits
+-- that other crates use.
 use Rattle.std.proofs.Common.{◌≡◌, ◌≢◌, ℕ, zero, suc, ◌+◌, ◌-◌, ◌*◌, ◌/◌, ◌%◌, ◌^◌, ◌<◌, ◌≤◌, Bool, true, false, not, ◌⊎◌, eqb, ltb, List, [], ◌∷◌, ◌++◌, length, Option, Some, Ok, refl, sym, ap, ◌∙◌, arith, rules, lit<, inl, inr}
 use Rattle.std.specs.Prelude.{ℤ, pos, negsuc, ◌+ℤ◌, ◌-ℤ◌, nat_abs}
 use Rattle.std.specs.Char.{is_ascii_digit}
@@ -58,7 +59,8 @@ are_digits_fraction (suc places) parts lt = elim (cases_eq parts 0) [
   | inr ne ↦ rw (ne_eqb parts 0 ne, digit_byte (parts / 10 ^ places) (top_digit places parts lt)) (are_digits_fraction places (parts % 10 ^ places) (mod_below parts (10 ^ places) (one-le-pow places 10 (lit< tt))))
 ]
 
--- the digits of n followed by these digits, filled up with zeros to that many digits, spell n and these parts
+-- the digits of n followed by these digits, filled up with zeros to that many digits, spell n and
+-- these parts
 record Fill (places parts n : ℕ) (ds : List ℕ) : Type 0 where
   short : length ds ≤ places
   value : spelled_onto n ds * 10 ^ (places - length ds) ≡ n * 10 ^ places + parts

@@ -10,7 +10,8 @@ use Rattle.wf_text.specs.Limit.{most_text_bytes}
 abbrev pub is_layout : ℕ → Bool
 is_layout c = c == 9 || c == 10 || c == 13
 
--- a text may contain the character: no control character but TAB, LF and CR, no backslash, not U+FFFE or U+FFFF
+-- a text may contain the character: no control character but TAB, LF and CR, no backslash, not
+-- U+FFFE or U+FFFF
 abbrev pub is_text_character : ℕ → Bool
 is_text_character c = not (nat_lt c 32 && not (is_layout c)) && not (c == 92) && not (c == 0xFFFE) && not (c == 0xFFFF)
 
@@ -33,8 +34,8 @@ is_memory NotUtf8 = false
 is_memory ForbiddenCharacter = false
 is_memory BothQuotes = false
 
--- The error is the first that applies to the bytes: length, then UTF-8, then characters, then quotes. Allocation fails only for a
--- valid text, when it is copied.
+-- The error is the first that applies to the bytes: length, then UTF-8, then characters, then
+-- quotes. Allocation fails only for a valid text, when it is copied.
 abbrev pub IsFirstFault : TextFault → List ℕ → Type 0
 IsFirstFault TooLong bytes = most_text_bytes < length bytes
 IsFirstFault NotUtf8 bytes = (length bytes ≤ most_text_bytes) × (is_utf8 bytes ≡ false)

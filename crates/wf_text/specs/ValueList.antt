@@ -9,8 +9,8 @@ use Rattle.wf_text.specs.Text.{is_text_character}
 abbrev pub is_list_byte : ℕ → Bool
 is_list_byte b = not (b == 123 || b == 125 || b == 10 || b == 13)
 
--- the bytes are the inside of a list: no more of them than a text may have, UTF-8 of characters that a text may contain, without
--- braces and line ends. Quotes of both kinds may stand in it.
+-- the bytes are the inside of a list: no more of them than a text may have, UTF-8 of characters
+-- that a text may contain, without braces and line ends. Quotes of both kinds may stand in it.
 unfoldable pub is_value_list : List ℕ → Bool
 is_value_list bytes = nat_le (length bytes) most_text_bytes && is_utf8 bytes && list_all is_text_character (chars bytes) && list_all is_list_byte bytes
 

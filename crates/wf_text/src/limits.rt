@@ -17,7 +17,8 @@ pub const MOST_FRACTION_DIGITS: usize = 25;
 /// The most digits of a number's power of ten.
 pub const MOST_POWER_DIGITS: usize = 3;
 
-/// The longest text that a coordinate is written as, in bytes: a `-`, nine digits, a point and six digits.
+/// The longest text that a coordinate is written as, in bytes: a `-`, nine digits, a point and six
+/// digits.
 pub const MOST_NUMBER_BYTES: usize = 17;
 
 /// Each constant is the number in the definitions. A theorem: the call does nothing.

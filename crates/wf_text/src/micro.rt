@@ -27,9 +27,10 @@ impl Model for Micro {
 }
 
 impl Micro {
-    /// Reads a number as a mapfile writes it: an optional sign, digits with an optional point, and an optional power of ten.
-    /// Digits below a millionth are dropped. Another form is `BadNumber`. More than 9 digits before the point, more than 25 after
-    /// it, or a magnitude over the limit is `OutOfRange`. Doesn't allocate.
+    /// Reads a number as a mapfile writes it: an optional sign, digits with an optional point, and
+    /// an optional power of ten. Digits below a millionth are dropped. Another form is `BadNumber`.
+    /// More than 9 digits before the point, more than 25 after it, or a magnitude over the limit is
+    /// `OutOfRange`. Doesn't allocate.
     #[tactic(auto, unfolding(crate::specs::Number::number))]
     pub fn read(text: &[u8]) -> Result<Self, NumberFault>
         ensures { result ≡ number text.now }

@@ -256,7 +256,8 @@ impl<'a> Numeral<'a> {
     }
 }
 
-/// The value that the digits before and after the point spell together. Few digits are spelled in 64 bits, more in 128.
+/// The value that the digits before and after the point spell together. Few digits are spelled in
+/// 64 bits, more in 128.
 fn all_digits(whole: &[u8], fraction: &[u8]) -> u128
     requires whole { length whole.now ≤ most_whole_digits }
     requires fraction { length fraction.now ≤ most_fraction_digits }

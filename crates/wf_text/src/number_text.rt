@@ -18,8 +18,8 @@ const UNIT: u64 = 1_000_000;
 /// The number of digits of a fraction in millionths.
 const FRACTION_DIGITS: u32 = 6;
 
-/// The canonical text of a coordinate: `-` if it is negative, no leading zeros, a fraction only if it isn't zero, and no trailing
-/// zeros in it. Doesn't allocate.
+/// The canonical text of a coordinate: `-` if it is negative, no leading zeros, a fraction only if
+/// it isn't zero, and no trailing zeros in it. Doesn't allocate.
 #[derive(Drop)]
 pub struct NumberText {
     bytes: ArrayVec<u8, MOST_NUMBER_BYTES>,

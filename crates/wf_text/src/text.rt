@@ -14,13 +14,14 @@ use std::alloc::{AllocError, Global};
 use std::hash::{Hash, Hasher};
 use std::marker::Model;
 
-/// A text of a map definition: UTF-8 of at most 1,000 bytes, without backslash, U+FFFE, U+FFFF or control characters other than
-/// TAB, LF and CR, and not with both kinds of quote.
+/// A text of a map definition: UTF-8 of at most 1,000 bytes, without backslash, U+FFFE, U+FFFF or
+/// control characters other than TAB, LF and CR, and not with both kinds of quote.
 pub struct Text {
     text: String,
 }
 
-// Written by hand: callers then prove one call where they drop a text, not the release of its string.
+// Written by hand: callers then prove one call where they drop a text, not the release of its
+// string.
 impl Drop for Text {
     fn drop(self) {
         let Text { text } = self;
@@ -40,8 +41,9 @@ impl Model for Text {
 }
 
 impl Text {
-    /// The text of these bytes. An error is the first that applies: too long, not UTF-8, a forbidden character, both kinds of
-    /// quote. `OutOfMemory` is returned only if the bytes are a text and copying them fails.
+    /// The text of these bytes. An error is the first that applies: too long, not UTF-8, a
+    /// forbidden character, both kinds of quote. `OutOfMemory` is returned only if the bytes are a
+    /// text and copying them fails.
     pub fn new(alloc: Global, bytes: &[u8]) -> Result<Self, TextFault>
         ensures value { IfOk result (λ text. text ≡ bytes.now) }
         ensures within { IfOk result IsText }
@@ -97,8 +99,8 @@ fn is_layout(c: char) -> bool
     c == '\t' || c == '\n' || c == '\r'
 }
 
-/// The bytes as a `str`, if they are a text. An error is the first that applies, in the order of [`TextFault`]; it is never
-/// `OutOfMemory`, since nothing is copied.
+/// The bytes as a `str`, if they are a text. An error is the first that applies, in the order of
+/// [`TextFault`]; it is never `OutOfMemory`, since nothing is copied.
 #[tactic(auto, unfolding(crate::specs::Text::is_text))]
 pub fn check_text(bytes: &[u8]) -> Result<&str, TextFault>
     ensures value { IfOk result (λ text. text.now ≡ bytes.now) }

@@ -11,13 +11,15 @@ use crate::text::{all_may_stand, utf8};
 use std::alloc::{AllocError, Global};
 use std::marker::Model;
 
-/// The inside of a list `{..}` of a mapfile, whose values are between commas: UTF-8 of at most 1,000 bytes and of characters that
-/// a text may contain, without braces, LF and CR. Both kinds of quote may stand in one list, so it isn't a text.
+/// The inside of a list `{..}` of a mapfile, whose values are between commas: UTF-8 of at most
+/// 1,000 bytes and of characters that a text may contain, without braces, LF and CR. Both kinds of
+/// quote may stand in one list, so it isn't a text.
 pub struct ValueList {
     inside: String,
 }
 
-// Written by hand: callers then prove one call where they drop a list, not the release of its string.
+// Written by hand: callers then prove one call where they drop a list, not the release of its
+// string.
 impl Drop for ValueList {
     fn drop(self) {
         let ValueList { inside } = self;

@@ -49,8 +49,8 @@ IsFirstFrom flags from index = IsFirstFlag flags from index ⊎ (NoneFrom flags 
 
 -- ---- a question
 
--- It is time, and this peer is asked: the first one connected from the one on whose turn it is. The next turn is that of the one after
--- it, a second later.
+-- It is time, and this peer is asked: the first one connected from the one on whose turn it is. The
+-- next turn is that of the one after it, a second later.
 pub record IsAskedOf (old : CatchUp) (now published : ℕ) (connected : List Bool) (asked : ℕ) (new : CatchUp) : Type 0 where
   pub time : IsTime old now published
   pub turn : IsFirstFrom connected (turn_of old published) asked

@@ -16,7 +16,8 @@ unfoldable pub wait_after : (first limit tries : ℕ) → ℕ
 wait_after first limit zero = first
 wait_after first limit (suc tries) = doubled limit (wait_after first limit tries)
 
--- a node's first wait before a retry, in milliseconds: 100, and 40 for each lower node; and its longest
+-- a node's first wait before a retry, in milliseconds: 100, and 40 for each lower node; and its
+-- longest
 abbrev pub first_retry : ℕ → ℕ
 first_retry node = 100 + 40 * node
 

@@ -10,7 +10,8 @@ pub struct Alarm {
 }
 
 impl Alarm {
-    /// The alarm that is due so many milliseconds after `now`, or at the last moment that a clock can show.
+    /// The alarm that is due so many milliseconds after `now`, or at the last moment that a clock
+    /// can show.
     pub fn after(now: u64, wait: u64) -> Alarm
         ensures { result.due ≡ later now wait }
     {

@@ -4,7 +4,8 @@ ghost use Rattle.wf_timing.specs.Waits.{IsBackoff, doubled, first_retry, longest
 
 use wf_ballot::NodeId;
 
-/// A node's first wait before a retry: this many milliseconds, and for each lower node as many as `APART`.
+/// A node's first wait before a retry: this many milliseconds, and for each lower node as many as
+/// `APART`.
 const FIRST: u64 = 100;
 
 const APART: u64 = 40;
@@ -39,7 +40,8 @@ impl Backoff {
         }
     }
 
-    /// The wait before the next try, in milliseconds; the one after that is twice as long, up to the limit.
+    /// The wait before the next try, in milliseconds; the one after that is twice as long, up to
+    /// the limit.
     pub fn wait(&mut self) -> u64
         ensures value { result ≡ self.old.wait }
         ensures next { self.new ≡ record self.old { wait = doubled self.old.limit self.old.wait } }
@@ -59,8 +61,8 @@ impl Backoff {
     }
 }
 
-/// The waits before a node's running proposal is tried again: 100 ms and 40 more for each lower node, doubled up to a second more than that.
-/// A new proposal begins with the first.
+/// The waits before a node's running proposal is tried again: 100 ms and 40 more for each lower
+/// node, doubled up to a second more than that. A new proposal begins with the first.
 pub fn retry_of(node: NodeId) -> Backoff
     ensures first { result.first ≡ first_retry node }
     ensures limit { result.limit ≡ longest_retry node }

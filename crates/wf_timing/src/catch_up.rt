@@ -4,7 +4,8 @@ ghost use Rattle.wf_timing.specs.CatchUp.{IsAskedOf, IsFirstFlag, IsFirstFrom, I
 
 use crate::ticker::SECOND;
 
-/// The number of definitions in a whole answer to a question, after which a node asks again at once.
+/// The number of definitions in a whole answer to a question, after which a node asks again at
+/// once.
 pub const WHOLE_ANSWER: u16 = 8;
 
 /// A question that was asked.
@@ -16,7 +17,8 @@ pub struct PendingQuestion {
     pub published: u16,
 }
 
-/// Whose turn it is to be asked, and when: one peer at a time, and the next one where a second passed without a whole answer.
+/// Whose turn it is to be asked, and when: one peer at a time, and the next one where a second
+/// passed without a whole answer.
 #[derive(Clone, Copy, Debug, PartialEq, Eq)]
 pub struct CatchUp {
     /// The first peer whose turn it may be.
@@ -52,9 +54,10 @@ impl CatchUp {
         self.question = None;
     }
 
-    /// The peer to ask now, by which peers are connected (this node never is) and the last published sequence; None if nobody is to be
-    /// asked yet, or nobody is connected. The one who is asked is asked again at once after a whole answer; otherwise, a second
-    /// later, it is the next one's turn.
+    /// The peer to ask now, by which peers are connected (this node never is) and the last
+    /// published sequence; None if nobody is to be asked yet, or nobody is connected. The one who
+    /// is asked is asked again at once after a whole answer; otherwise, a second later, it is the
+    /// next one's turn.
     pub fn ask(&mut self, now: u64, published: u16, connected: &[bool]) -> Option<usize>
         requires { published ≤ 4096 }
         ensures asked { IfSome result (λ peer. IsAskedOf self.old now published connected.now peer self.new) }

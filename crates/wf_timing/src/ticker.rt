@@ -2,7 +2,8 @@
 ghost use Rattle.std.specs.Prelude.{◌≡◌, ◌≤◌, ◌↔◌, IsTrue, if◌then◌else◌};
 ghost use Rattle.wf_timing.specs.Moment.{later};
 
-/// A second, in milliseconds: between two heartbeats, and until what was heard of the peers is written.
+/// A second, in milliseconds: between two heartbeats, and until what was heard of the peers is
+/// written.
 pub const SECOND: u64 = 1_000;
 
 /// What is due once a period.

@@ -1,4 +1,5 @@
--- What the lexer's steps return: definitions for their contracts. The tokens of a text are defined in `Token`.
+-- What the lexer's steps return: definitions for their contracts. The tokens of a text are defined
+-- in `Token`.
 use Rattle.std.specs.Prelude.{ℕ, ◌<◌, ◌≤◌, Bool, true, false, not, ◌&&◌, ◌||◌, ◌==◌, List, [], ◌∷◌, length, Option, Some, None, ⊤}
 use Rattle.wf_token.specs.declared.lexeme.Lexeme.{Lexeme}
 use Rattle.wf_token.specs.declared.lexeme.Lexeme.TheVariants.{Gap, Found, End, Fault}

@@ -1,5 +1,5 @@
--- The tokens of a mapfile (MapServer mapfile reference: words, strings in either quote, lists in braces, comments), by an automaton
--- that reads the text byte by byte.
+-- The tokens of a mapfile (MapServer mapfile reference: words, strings in either quote, lists in
+-- braces, comments), by an automaton that reads the text byte by byte.
 use Rattle.std.specs.Prelude.{ℕ, Bool, not, ◌&&◌, ◌||◌, ◌==◌, nat_lt, if◌then◌else◌, List, [], ◌∷◌, ◌++◌, drop, nat_eq, Option, Some, None, map}
 use Rattle.std.specs.List.{starts_with}
 use Rattle.wf_text.specs.Text.{is_text}
@@ -67,7 +67,8 @@ pub data State : Type 0 where
   -- in a list, after these bytes of it
   InList : List ℕ → State
 
--- the effect of one byte: a new state, the end of a token and a new state, or the text has no tokens
+-- the effect of one byte: a new state, the end of a token and a new state, or the text has no
+-- tokens
 pub data Step : Type 0 where
   Goes : State → Step
   Ends : Token → State → Step
@@ -116,7 +117,8 @@ step (InWord w) b = step_in_word w b
 step (InString q s) b = step_in_string q s b
 step (InList s) b = step_in_list s b
 
--- at the end of the text: a word and a line comment end there, a string, a list and a block comment don't
+-- at the end of the text: a word and a line comment end there, a string, a list and a block comment
+-- don't
 unfoldable pub at_end : State → Option (List Token)
 at_end Between = Some []
 at_end BehindSlash = Some (Word (47 ∷ []) ∷ [])
@@ -151,8 +153,9 @@ tokens_from p (b ∷ bs) = follow (step p b) (λ q. tokens_from q bs)
 unfoldable pub without_mark : List ℕ → List ℕ
 without_mark bs = if starts_with nat_eq bs (239 ∷ 187 ∷ 191 ∷ []) then drop 3 bs else bs
 
--- the tokens of a whole text: none if it contains a byte that no token may hold, a string that isn't a valid text, a list that
--- isn't a valid one, or a string, list or block comment that doesn't end
+-- the tokens of a whole text: none if it contains a byte that no token may hold, a string that
+-- isn't a valid text, a list that isn't a valid one, or a string, list or block comment that
+-- doesn't end
 unfoldable pub tokens : List ℕ → Option (List Token)
 tokens bs = tokens_from Between (without_mark bs)
 

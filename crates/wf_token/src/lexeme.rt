@@ -17,7 +17,8 @@ pub enum Lexeme<'a> {
     },
     /// The rest is empty.
     End,
-    /// No token may begin here, or the one that begins doesn't end; the error is at the front of `at`.
+    /// No token may begin here, or the one that begins doesn't end; the error is at the front of
+    /// `at`.
     Fault {
         kind: LexFaultKind,
         at: &'a [u8],

@@ -230,8 +230,9 @@ fn first_forbidden(kind: TokenKind, text: &[u8]) -> Option<usize>
     None
 }
 
-/// The error of a string or a list that begins at `opening`, whose bytes are the first `count` of `inside`: a character that it
-/// may not contain, else its length, else a missing closing quote or brace.
+/// The error of a string or a list that begins at `opening`, whose bytes are the first `count` of
+/// `inside`: a character that it may not contain, else its length, else a missing closing quote or
+/// brace.
 fn refused<'a>(
     kind: TokenKind,
     opening: &'a [u8],
@@ -370,8 +371,8 @@ fn without_mark(bytes: &[u8]) -> &[u8]
     bytes.strip_prefix(&BYTE_ORDER_MARK).unwrap_or(bytes)
 }
 
-/// The tokens of a text up to its end or its first error. Byte offsets count from the front of the bytes given, including a byte
-/// order mark.
+/// The tokens of a text up to its end or its first error. Byte offsets count from the front of the
+/// bytes given, including a byte order mark.
 #[tactic(auto, using(crate::proofs::TokenLemmas::token_list), unfolding(crate::specs::Token::tokens))]
 pub fn tokenize<'a>(alloc: Global, bytes: &'a [u8]) -> Result<Tokens<'a>, AllocError>
     ensures lexed { IfOk result

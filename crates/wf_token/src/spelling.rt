@@ -12,7 +12,8 @@ pub fn spelled_lines_are_utf8()
     ensures { LinesAreUtf8 }
 {}
 
-/// The text of a number is a word, and so are the digits of an integer. A theorem: the call does nothing.
+/// The text of a number is a word, and so are the digits of an integer. A theorem: the call does
+/// nothing.
 pub fn numbers_are_words()
     ensures numbers { NumbersAreWords }
     ensures whole_numbers { WholeNumbersAreWords }

@@ -1,4 +1,5 @@
-//! The tokens of a mapfile, words, strings and lists with their byte offsets, and the errors of a text that has none.
+//! The tokens of a mapfile, words, strings and lists with their byte offsets, and the errors of a
+//! text that has none.
 
 use std::alloc::Global;
 
@@ -18,7 +19,8 @@ pub enum TokenKind {
 pub struct Token<'a> {
     /// What it stands between.
     pub kind: TokenKind,
-    /// Its byte offset in the file; that of a string is its opening quote's, that of a list its opening brace's.
+    /// Its byte offset in the file; that of a string is its opening quote's, that of a list its
+    /// opening brace's.
     pub byte_offset: usize,
     /// Its bytes, without quotes or braces.
     pub text: &'a [u8],

@@ -67,7 +67,8 @@ abbrev pub IsChunk : {V : Type 0} → Move V → List (Change V) → Type 0
 IsChunk (Entered entry node) chunk = AreEventsAlone entry.process chunk
 IsChunk (Renewed i stored) chunk = chunk ≡ change.Replaces i stored ∷ []
 
--- The changes are those of the moves, one after the other, and after each the world has the nodes that the move left.
+-- The changes are those of the moves, one after the other, and after each the world has the nodes
+-- that the move left.
 abbrev pub AreShown : {V : Type 0} → (V → V → Bool) → ℕ → World V → (ℕ → Node V) → List (Move V) → List (Change V) → Type 0
 AreShown same n w nodes [] list = list ≡ []
 AreShown {V} same n w nodes (move ∷ moves) list =

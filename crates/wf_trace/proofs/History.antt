@@ -37,7 +37,8 @@ one_begins (x ∷ xs) (y ∷ ys) alike =
 -- ---- one history
 
 module _ {V : Type 0} (n : ℕ) (lists : ℕ → List V) (alike : (i j s : ℕ) (c d : V) → i < n → j < n → definition_at (lists i) s ≡ Some c → definition_at (lists j) s ≡ Some d → c ≡ d) where
-  -- a list of which each of the first k lists is a beginning, and which is one of them or has nothing
+  -- a list of which each of the first k lists is a beginning, and which is one of them or has
+  -- nothing
   record Longest (k : ℕ) : Type 0 where
     list : List V
     each : (i : ℕ) → i < k → IsBeginning (lists i) list

@@ -1,4 +1,5 @@
--- Lists of entries, one for each process, of which the items of one order of time are seen, are one list.
+-- Lists of entries, one for each process, of which the items of one order of time are seen, are one
+-- list.
 use Rattle.std.proofs.Common.{◌≡◌, ◌≢◌, ℕ, zero, suc, ◌<◌, ◌≤◌, ◌==◌, Bool, List, [], ◌∷◌, ◌++◌, refl, sym, ap, subst, ◌∙◌, inl, inr, append-nil, arith, eq-eqb, ne_eqb, if◌then◌else◌}
 use Rattle.std.specs.Prelude.{⊤}
 use Rattle.std.proofs.lemmas.Bool.{cases_eq, cases_lt}
@@ -52,7 +53,8 @@ unseen_received sent Restarts unseen = tt
 
 -- ---- the first entry that is seen
 
--- Entries of process i are some of which nothing is seen, then one that is seen as the item, and then those that are seen as the rest.
+-- Entries of process i are some of which nothing is seen, then one that is seen as the item, and
+-- then those that are seen as the rest.
 record Split {V : Type 0} (i : ℕ) (entries : List (Entry V)) (item : Item V) (items : List (Item V)) : Type 0 where
   front : List (Entry V)
   it : Entry V

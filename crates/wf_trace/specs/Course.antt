@@ -1,5 +1,5 @@
--- Courses: what several processes do in one order of time, where a process that lost its disk goes on from another stored state; and
--- the theorems about them.
+-- Courses: what several processes do in one order of time, where a process that lost its disk goes
+-- on from another stored state; and the theorems about them.
 use Rattle.std.specs.Prelude.{◌≡◌, ◌≢◌, ℕ, ◌*◌, ◌<◌, ◌≤◌, ◌==◌, Bool, true, ⊤, List, [], ◌∷◌, ◌++◌, take, Some, None, if◌then◌else◌}
 use Rattle.wf_ballot.specs.Majority.{count_nodes}
 use Rattle.wf_safety.specs.Theorems.{IsBeginning}
@@ -10,7 +10,8 @@ use Rattle.wf_model.specs.World.{Node}
 use Rattle.wf_trace.specs.Deed.{IsDone, new_node}
 use Rattle.wf_trace.specs.Trace.{Entry, outputs_by, DeliversOneOf, GoOn, Refines}
 
--- A move: a process does what the entry says, and its node is this one then; or a stopped process goes on from this stored state.
+-- A move: a process does what the entry says, and its node is this one then; or a stopped process
+-- goes on from this stored state.
 pub data Move (V : Type 0) : Type 0 where
   Entered : (entry : Entry V) (node : Node V) → Move V
   Renewed : (process : ℕ) (stored : DurableState V) → Move V
@@ -41,12 +42,14 @@ unfoldable pub nodes_after : {V : Type 0} → (ℕ → Node V) → List (Move V)
 nodes_after nodes [] = nodes
 nodes_after nodes (move ∷ moves) = nodes_after (nodes_with nodes move) moves
 
--- A process does what its node may do, and each message that is delivered was sent before. Only a stopped process is replaced.
+-- A process does what its node may do, and each message that is delivered was sent before. Only a
+-- stopped process is replaced.
 abbrev pub IsMove : {V : Type 0} → (V → V → Bool) → ℕ → List (Message V) → (ℕ → Node V) → Move V → Type 0
 IsMove same n sent nodes (Entered entry node) = DeliversOneOf sent entry.deed × IsDone same n entry.process (nodes entry.process) entry.deed entry.outputs node
 IsMove same n sent nodes (Renewed i stored) = (nodes i).volatile ≡ None
 
--- Each is a move of one of the n processes, where these messages were sent and these are the nodes at first.
+-- Each is a move of one of the n processes, where these messages were sent and these are the nodes
+-- at first.
 abbrev pub AreMoves : {V : Type 0} → (V → V → Bool) → ℕ → List (Message V) → (ℕ → Node V) → List (Move V) → Type 0
 AreMoves same n sent nodes [] = ⊤
 AreMoves same n sent nodes (move ∷ moves) = (process_moved move < n) × IsMove same n sent nodes move × AreMoves same n (sent ++ outputs_of move) (nodes_with nodes move) moves
@@ -70,16 +73,17 @@ abbrev pub AreOfOthers : {V : Type 0} → ℕ → List (Move V) → Type 0
 AreOfOthers i [] = ⊤
 AreOfOthers i (move ∷ moves) = (process_moved move ≢ i) × AreOfOthers i moves
 
--- At some moment of these moves, from these nodes on, process j had published nothing after m, and stored no vote after m.
+-- At some moment of these moves, from these nodes on, process j had published nothing after m, and
+-- stored no vote after m.
 pub record WasUpTo {V : Type 0} (nodes : ℕ → Node V) (since : List (Move V)) (m j : ℕ) : Type 0 where
   pub earlier : List (Move V)
   pub later : List (Move V)
   pub moment : earlier ++ later ≡ since
   pub up_to : IsUpTo (nodes_after nodes earlier j).stored m
 
--- Process i may go on from this stored state after these moves: since it did anything, at least half of all n processes were asked,
--- each at a moment of its own, and were up to m; and the state is a copy of what some process had published by then, up to a window
--- after m.
+-- Process i may go on from this stored state after these moves: since it did anything, at least
+-- half of all n processes were asked, each at a moment of its own, and were up to m; and the state
+-- is a copy of what some process had published by then, up to a window after m.
 pub record MayReplace {V : Type 0} (n : ℕ) (moves : List (Move V)) (i : ℕ) (stored : DurableState V) : Type 0 where
   pub before : List (Move V)
   pub since : List (Move V)
@@ -109,7 +113,8 @@ AreAllowed n before (move ∷ moves) = IsAllowed n before move × AreAllowed n (
 
 -- ---- the theorems
 
--- some changes of the model lead from the start of n nodes to the nodes after the moves, with exactly the messages that they sent
+-- some changes of the model lead from the start of n nodes to the nodes after the moves, with
+-- exactly the messages that they sent
 pub record IsRunWithReplacements {V : Type 0} (same : V → V → Bool) (n : ℕ) (moves : List (Move V)) : Type 0 where
   pub changes : List (Change V)
   pub refines : Refines n (course_nodes moves) (outputs_through moves) (after_changes same n changes)
@@ -143,7 +148,8 @@ AreEntries (Entered entry node ∷ moves) [] = ⊥
 AreEntries (Entered entry node ∷ moves) (first ∷ entries) = (entry ≡ first) × AreEntries moves entries
 AreEntries (Renewed i stored ∷ moves) entries = ⊥
 
--- the entries as moves, which lead to the same nodes, send the same messages, and are allowed wherever they are made
+-- the entries as moves, which lead to the same nodes, send the same messages, and are allowed
+-- wherever they are made
 pub record AreMovesToo {V : Type 0} (same : V → V → Bool) (n : ℕ) (sent : List (Message V)) (nodes : ℕ → Node V) (entries : List (Entry V)) (after : ℕ → Node V) : Type 0 where
   pub moves : List (Move V)
   pub are_entries : AreEntries moves entries
@@ -152,7 +158,8 @@ pub record AreMovesToo {V : Type 0} (same : V → V → Bool) (n : ℕ) (sent : 
   pub nodes_left : (i : ℕ) → i < n → nodes_after nodes moves i ≡ after i
   pub allowed : (before : List (Move V)) → AreAllowed n before moves
 
--- Entries that go on from some nodes and messages are moves. So a trace is a course, and a part of one is a part of a course.
+-- Entries that go on from some nodes and messages are moves. So a trace is a course, and a part of
+-- one is a part of a course.
 abbrev pub EntriesAreMoves : Type 0 → Type 0
 EntriesAreMoves V = (same : V → V → Bool) (n : ℕ) (sent : List (Message V)) (nodes after : ℕ → Node V) (entries : List (Entry V)) → GoOn same n sent nodes entries after → AreMovesToo same n sent nodes entries after
 

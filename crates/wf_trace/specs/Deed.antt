@@ -6,8 +6,8 @@ use Rattle.wf_model.specs.VolatileState.{at_start}
 use Rattle.wf_model.specs.Table.{Input}
 use Rattle.wf_model.specs.World.{Node, Turn, Kept, stored_after, kept_part, turn_of}
 
--- A process takes an input, with the message itself where one is delivered; or it crashes within the step of an input; or it stops;
--- or a stopped one starts again.
+-- A process takes an input, with the message itself where one is delivered; or it crashes within
+-- the step of an input; or it stops; or a stopped one starts again.
 pub data Deed (V : Type 0) : Type 0 where
   Takes : (input : Input V) → Deed V
   Crashes : (input : Input V) (kept : Kept) → Deed V
@@ -22,17 +22,19 @@ pub record IsIdleDeed {V : Type 0} (before : Node V) (outputs : List (Message V)
   pub same_node : after ≡ before
   pub silent : outputs ≡ []
 
--- The node of process i of n, before and after a deed, and the messages that the process sent by it.
+-- The node of process i of n, before and after a deed, and the messages that the process sent by
+-- it.
 module _ {V : Type 0} (same : V → V → Bool) (n i : ℕ) (before : Node V) where
-  -- The input has an effect, that of this turn: its record is stored, its messages are sent, and its volatile state is the next
-  -- one.
+  -- The input has an effect, that of this turn: its record is stored, its messages are sent, and
+  -- its volatile state is the next one.
   pub record Steps (input : Input V) (outputs : List (Message V)) (after : Node V) : Type 0 where
     pub turn : Turn V
     pub effect : turn_of same n i (Some before) (Some input) ≡ Some turn
     pub messages : outputs ≡ turn.transition.messages
     pub node : after ≡ record { stored = stored_after turn; volatile = Some turn.transition.volatile }
 
-  -- A crash within that step loses its messages and the volatile state; its record is stored or not.
+  -- A crash within that step loses its messages and the volatile state; its record is stored or
+  -- not.
   pub record Tears (input : Input V) (kept : Kept) (outputs : List (Message V)) (after : Node V) : Type 0 where
     pub turn : Turn V
     pub effect : turn_of same n i (Some before) (Some input) ≡ Some turn

@@ -1,4 +1,5 @@
--- An example: three processes, one of which crashes and another of which is stopped meanwhile, publish a proposal.
+-- An example: three processes, one of which crashes and another of which is stopped meanwhile,
+-- publish a proposal.
 use Rattle.std.specs.Prelude.{◌≡◌, ℕ, ◌<◌, List, [], ◌∷◌}
 use Rattle.wf_model.specs.Examples.{Map, a, ballot, just, no_votes, same_map}
 use Rattle.wf_model.specs.Message.{Message, Prepare, Promise, Accept, Accepted, Chosen}
@@ -18,8 +19,9 @@ quietly i deed = entry i deed []
 abbrev pub receives : Message Map → Deed Map
 receives message = Takes (Deliver message)
 
--- Process 0 proposes a. It and process 1 promise, process 2 crashes within its promise, and then they vote. Process 1 is stopped
--- while the proposal is published, and each of the three is sent what is chosen.
+-- Process 0 proposes a. It and process 1 promise, process 2 crashes within its promise, and then
+-- they vote. Process 1 is stopped while the proposal is published, and each of the three is sent
+-- what is chosen.
 unfoldable pub three_publish : List (Entry Map)
 three_publish =
     entry 0 (Takes (Propose a)) (Prepare 1 (ballot 1 0) ∷ []) ∷
@@ -39,7 +41,8 @@ three_publish =
     quietly 1 Restarts ∷
     quietly 1 (receives (Chosen 1 a)) ∷ []
 
--- The entries are a trace of three processes, and it ends with the definition published at each of them.
+-- The entries are a trace of three processes, and it ends with the definition published at each of
+-- them.
 pub record EndsPublished (entries : List (Entry Map)) (d : Map) : Type 0 where
   pub nodes : ℕ → Node Map
   pub trace : IsTrace same_map 3 entries nodes

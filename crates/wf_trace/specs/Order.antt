@@ -1,5 +1,5 @@
--- What is seen of processes in one order of time: the inputs that each takes, and the messages that it sends by each. Its stops and
--- restarts aren't seen.
+-- What is seen of processes in one order of time: the inputs that each takes, and the messages that
+-- it sends by each. Its stops and restarts aren't seen.
 use Rattle.std.specs.Prelude.{◌≡◌, ℕ, ◌<◌, ◌==◌, Bool, ⊤, List, [], ◌∷◌, ◌++◌, if◌then◌else◌}
 use Rattle.wf_model.specs.Message.{Message}
 use Rattle.wf_model.specs.Table.{Input}
@@ -34,7 +34,8 @@ unfoldable pub outputs_in : {V : Type 0} → List (Item V) → List (Message V)
 outputs_in [] = []
 outputs_in (item ∷ items) = item.outputs ++ outputs_in items
 
--- Each item is of one of the n processes, and a message that it delivers is one of these or of those that earlier items sent.
+-- Each item is of one of the n processes, and a message that it delivers is one of these or of
+-- those that earlier items sent.
 abbrev pub AreCausal : {V : Type 0} → ℕ → List (Message V) → List (Item V) → Type 0
 AreCausal n sent [] = ⊤
 AreCausal n sent (item ∷ items) = (item.process < n) × IsInputOf sent item.input × AreCausal n (sent ++ item.outputs) items
@@ -50,36 +51,39 @@ pub record AreLives {V : Type 0} (same : V → V → Bool) (n : ℕ) (items : Li
   pub life : (i : ℕ) → i < n → IsLife same n i new_node (lives i) (nodes i)
   pub shown : (i : ℕ) → i < n → seen (lives i) ≡ items_of i items
 
--- One list of entries is a trace: it has each process's entries in their order, and the messages of the items in theirs.
+-- One list of entries is a trace: it has each process's entries in their order, and the messages of
+-- the items in theirs.
 pub record AreOneTrace {V : Type 0} (same : V → V → Bool) (n : ℕ) (items : List (Item V)) (lives : ℕ → List (Entry V)) (nodes : ℕ → Node V) : Type 0 where
   pub entries : List (Entry V)
   pub trace : IsTrace same n entries nodes
   pub each : (i : ℕ) → i < n → of_process i entries ≡ lives i
   pub messages : outputs_by entries ≡ outputs_in items
 
--- Lives of n processes are one trace, if one order of time has what is seen of them, and each message is delivered after it was sent.
+-- Lives of n processes are one trace, if one order of time has what is seen of them, and each
+-- message is delivered after it was sent.
 abbrev pub LivesAreOneTrace : Type 0 → Type 0
 LivesAreOneTrace V = (same : V → V → Bool) (n : ℕ) (items : List (Item V)) (lives : ℕ → List (Entry V)) (nodes : ℕ → Node V) →
     AreLives same n items lives nodes → AreCausal n [] items → AreOneTrace same n items lives nodes
 
 -- ---- from any nodes on
 
--- Each process's entries are its life, from one of these nodes on, and what is seen of them are its items.
+-- Each process's entries are its life, from one of these nodes on, and what is seen of them are its
+-- items.
 pub record AreLivesFrom {V : Type 0} (same : V → V → Bool) (n : ℕ) (nodes : ℕ → Node V) (items : List (Item V)) (lives : ℕ → List (Entry V)) (after : ℕ → Node V) : Type 0 where
   pub own : (i : ℕ) → i < n → AreOf i (lives i)
   pub life : (i : ℕ) → i < n → IsLife same n i (nodes i) (lives i) (after i)
   pub shown : (i : ℕ) → i < n → seen (lives i) ≡ items_of i items
 
--- One list of entries goes on from these nodes and messages: it has each process's entries in their order, and the messages of the
--- items in theirs.
+-- One list of entries goes on from these nodes and messages: it has each process's entries in their
+-- order, and the messages of the items in theirs.
 pub record GoOnAsOne {V : Type 0} (same : V → V → Bool) (n : ℕ) (sent : List (Message V)) (nodes : ℕ → Node V) (items : List (Item V)) (lives : ℕ → List (Entry V)) (after : ℕ → Node V) : Type 0 where
   pub entries : List (Entry V)
   pub goes_on : GoOn same n sent nodes entries after
   pub each : (i : ℕ) → i < n → of_process i entries ≡ lives i
   pub messages : outputs_by entries ≡ outputs_in items
 
--- Lives from any nodes on, where any messages were sent, go on as one list of entries, if one order of time has what is seen of them,
--- and each message is delivered after it was sent.
+-- Lives from any nodes on, where any messages were sent, go on as one list of entries, if one order
+-- of time has what is seen of them, and each message is delivered after it was sent.
 abbrev pub LivesGoOn : Type 0 → Type 0
 LivesGoOn V = (same : V → V → Bool) (n : ℕ) (sent : List (Message V)) (nodes after : ℕ → Node V) (items : List (Item V)) (lives : ℕ → List (Entry V)) →
     AreLivesFrom same n nodes items lives after → AreCausal n sent items → GoOnAsOne same n sent nodes items lives after

@@ -12,8 +12,8 @@ pub record IsReachableFrom {V : Type 0} (same : V → V → Bool) (n : ℕ) (w :
   pub events : List (Event V)
   pub refines : Refines n nodes sent (steps same w events)
 
--- From any world that shows the nodes and has these messages sent, some events lead to one that shows the nodes after, and has all
--- that the entries sent appended, in order.
+-- From any world that shows the nodes and has these messages sent, some events lead to one that
+-- shows the nodes after, and has all that the entries sent appended, in order.
 abbrev pub EntriesAreEvents : Type 0 → Type 0
 EntriesAreEvents V = (same : V → V → Bool) (n : ℕ) (sent : List (Message V)) (nodes nodes_after : ℕ → Node V) (entries : List (Entry V)) (w : World V) →
     GoOn same n sent nodes entries nodes_after → Refines n nodes sent w → IsReachableFrom same n w nodes_after (sent ++ outputs_by entries)

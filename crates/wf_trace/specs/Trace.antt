@@ -54,7 +54,8 @@ DeliversOneOf sent (Crashes input kept) = IsInputOf sent input
 DeliversOneOf sent Stops = ⊤
 DeliversOneOf sent Restarts = ⊤
 
--- Each delivered message was sent before: it is one of these, or of those that earlier entries sent, by whichever process.
+-- Each delivered message was sent before: it is one of these, or of those that earlier entries
+-- sent, by whichever process.
 abbrev pub AreReceived : {V : Type 0} → List (Message V) → List (Entry V) → Type 0
 AreReceived sent [] = ⊤
 AreReceived sent (entry ∷ entries) = DeliversOneOf sent entry.deed × AreReceived (sent ++ entry.outputs) entries
@@ -66,8 +67,9 @@ abbrev pub AreMembers : {V : Type 0} → ℕ → List (Entry V) → Type 0
 AreMembers n [] = ⊤
 AreMembers n (entry ∷ entries) = (entry.process < n) × AreMembers n entries
 
--- Where these messages were sent before, the entries lead the n processes' nodes from the one to the other: the entries of each
--- process are its life, and each message that is delivered was sent before.
+-- Where these messages were sent before, the entries lead the n processes' nodes from the one to
+-- the other: the entries of each process are its life, and each message that is delivered was sent
+-- before.
 pub record GoOn {V : Type 0} (same : V → V → Bool) (n : ℕ) (sent : List (Message V)) (nodes : ℕ → Node V) (entries : List (Entry V)) (after : ℕ → Node V) : Type 0 where
   pub members : AreMembers n entries
   pub lives : (i : ℕ) → i < n → IsLife same n i (nodes i) (of_process i entries) (after i)

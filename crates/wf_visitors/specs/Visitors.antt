@@ -7,12 +7,14 @@ use Rattle.wf_visitors.specs.declared.server.ServerReply.{ServerReply}
 use Rattle.wf_visitors.specs.declared.server.Server.{Ghosts as Server}
 use Rattle.wf_visitors.specs.declared.visitors.Visitors.{Visitors}
 
--- the clients that were answered, as they were then, with what had come of their requests and with the whole responses
+-- the clients that were answered, as they were then, with what had come of their requests and with
+-- the whole responses
 abbrev pub responses_of : {N C L : Type 0} {connections : Connection C} → Visitors N C L connections → List (Client × ℕ)
 responses_of visitors = visitors.responses.items
 
 module _ {S : Type 0} (servers : Server S) where
-  -- this client, as it was answered, was sent a response of the server to what had come of its request
+  -- this client, as it was answered, was sent a response of the server to what had come of its
+  -- request
   abbrev pub IsAnswered : S → Client → S → Type 0
   IsAnswered before client after = servers.responds before client.incoming.bytes client.incoming.is_closed client.outgoing.bytes after
 

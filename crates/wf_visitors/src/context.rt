@@ -4,7 +4,8 @@ use crate::log::Log;
 use std::alloc::Global;
 use wf_sockets::SystemNetwork;
 
-/// What each part of a turn is given: the runtime, the log, the network, and the time, in milliseconds.
+/// What each part of a turn is given: the runtime, the log, the network, and the time, in
+/// milliseconds.
 #[derive(Drop)]
 pub struct Context<'a, 'b, R, N = SystemNetwork> {
     pub rt: &'a R,

@@ -27,8 +27,8 @@ impl Counts {
         }
     }
 
-    /// Counts a request to this path that was answered with this status after so many microseconds of work. It isn't counted if an
-    /// allocation fails.
+    /// Counts a request to this path that was answered with this status after so many microseconds
+    /// of work. It isn't counted if an allocation fails.
     pub(crate) fn add(&mut self, path: &str, status: u16, duration: u64) {
         let path = known_path(path);
         for count in &mut self.counts {

@@ -1,16 +1,16 @@
 //! Clients of a server that never blocks, with their sockets, whatever answers them.
 //!
-//! - [`Visitors`] has a listener and slots: it accepts clients, reads their requests, and writes what a [`Server`] responds. When
-//! all
-//!   slots are taken the unfinished request that has waited longest gives way (`wf_client`).
+//! - [`Visitors`] has a listener and slots: it accepts clients, reads their requests, and writes
+//!   what a [`Server`] responds. When all slots are taken the unfinished request that has waited
+//!   longest gives way (`wf_client`).
 //! - [`Log`] writes each [`LogEntry`] as a line on standard error; a [`Visit`] is one of a client.
 //! - [`Counts`] counts requests by path and status.
 //!
-//! **Promises.** What is written to a client is what the server responded to the bytes that had come from it ([`Visitors::always_responded`],
-//! [`Visitors::serve`]).
+//! **Promises.** What is written to a client is what the server responded to the bytes that had
+//! come from it ([`Visitors::always_responded`], [`Visitors::serve`]).
 //!
-//! **Doesn't.** No clause says which sockets are ready, or what a clock shows. The network is any ([`wf_sockets`]); where none is named
-//! it is the system's.
+//! **Doesn't.** No clause says which sockets are ready, or what a clock shows. The network is any
+//! ([`wf_sockets`]); where none is named it is the system's.
 #![tactic(auto)]
 
 mod clock;

@@ -4,8 +4,9 @@ use crate::event::LogEntry;
 use jiff::Timestamp;
 use std::time::Clock;
 
-/// Writes one line an event on standard error, `TIME LEVEL EVENT KEY=VALUE ..`, or nothing if it is off. The time is that of the
-/// system's clock in UTC, to the second, and `-` if the clock can't be read. A line that can't be written is lost.
+/// Writes one line an event on standard error, `TIME LEVEL EVENT KEY=VALUE ..`, or nothing if it is
+/// off. The time is that of the system's clock in UTC, to the second, and `-` if the clock can't be
+/// read. A line that can't be written is lost.
 #[derive(Drop)]
 pub struct Log<'a, R> {
     rt: &'a R,

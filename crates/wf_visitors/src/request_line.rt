@@ -10,7 +10,8 @@ pub(crate) struct RequestLine<'a> {
     pub(crate) path: &'a str,
 }
 
-/// The method and the path of a request that has come in part or whole; of a long line its beginning.
+/// The method and the path of a request that has come in part or whole; of a long line its
+/// beginning.
 pub(crate) fn request_line(bytes: &[u8]) -> RequestLine<'_> {
     let line = first_line(bytes);
     let (method, rest) = line.split_once(' ').unwrap_or((line, ""));
@@ -19,7 +20,8 @@ pub(crate) fn request_line(bytes: &[u8]) -> RequestLine<'_> {
     RequestLine { method, path }
 }
 
-/// What the response to a request of this method says, if it was sent to change something: the first line of its body.
+/// What the response to a request of this method says, if it was sent to change something: the
+/// first line of its body.
 pub(crate) fn said_to<'a>(method: &str, response: &'a [u8]) -> Option<&'a str> {
     if method != "POST" {
         return None;

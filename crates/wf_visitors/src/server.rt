@@ -18,8 +18,8 @@ pub enum ServerReply {
 
 /// What answers requests.
 pub trait Server {
-    /// What it may respond: of itself before, the bytes that have come from a client, whether the client has closed its side, the bytes
-    /// of the response, and itself after it.
+    /// What it may respond: of itself before, the bytes that have come from a client, whether the
+    /// client has closed its side, the bytes of the response, and itself after it.
     ghost responds: { Self → List ℕ → Bool → List ℕ → Self → Type 0 };
 
     /// What it does where it doesn't respond, if that is known: of itself before and after.

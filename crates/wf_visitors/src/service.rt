@@ -40,7 +40,8 @@ fn no_connections<C: Connection + Drop>(
 }
 
 impl<N: Network> Visitors<N> {
-    /// That many free slots, with the tokens from the first one on. The only error is allocation failure.
+    /// That many free slots, with the tokens from the first one on. The only error is allocation
+    /// failure.
     pub fn new(
         alloc: Global,
         count: usize,
@@ -88,7 +89,8 @@ impl<N: Network> Visitors<N> {
         &self.counts
     }
 
-    /// Always: what is still written to a client, or was, is the response that one of the answered clients was sent. The call does nothing.
+    /// Always: what is still written to a client, or was, is the response that one of the answered
+    /// clients was sent. The call does nothing.
     pub fn always_responded(&self)
         ensures { ∥ AreResponses (responses_of self.now) self.now.slots.items ∥₁ }
     {
@@ -113,7 +115,8 @@ impl<N: Network> Visitors<N> {
         }
     }
 
-    /// Closes the port: nobody is accepted any more, and whoever is there is closed, answered or not.
+    /// Closes the port: nobody is accepted any more, and whoever is there is closed, answered or
+    /// not.
     pub fn close(&mut self)
         ensures { responses_of self.new ≡ responses_of self.old }
     {
@@ -143,7 +146,8 @@ impl<N: Network> Visitors<N> {
         }
     }
 
-    /// Puts a newcomer into a slot, in the place of the client there, and reads what has come of its request.
+    /// Puts a newcomer into a slot, in the place of the client there, and reads what has come of
+    /// its request.
     #[tactic(auto, using(crate::proofs::Answered::may_respond_new))]
     fn admit<R: Clock + Eprint + AllocGlobal>(
         &mut self,
@@ -239,8 +243,8 @@ impl<N: Network> Visitors<N> {
         }
     }
 
-    /// Puts a client back into its slot. Unless its request is to be answered, an event of it is waited for; where the system doesn't
-    /// let it be registered, it is closed.
+    /// Puts a client back into its slot. Unless its request is to be answered, an event of it is
+    /// waited for; where the system doesn't let it be registered, it is closed.
     fn keep<R>(
         &mut self,
         context: &Context<'_, '_, R, N>,
@@ -256,10 +260,12 @@ impl<N: Network> Visitors<N> {
         }
     }
 
-    /// Lets a client part that has taken its answer. A connection that is closed over unread bytes, or before more bytes come, is
-    /// reset, which can cost the client the end of its answer (RFC 9112, section 9.6). A request that was fulfilled was read whole, and
-    /// nothing more is due from its client: it is closed at once, after what came meanwhile is read. One that was rejected may still
-    /// be on its way: the writing direction is ended, and what comes is dropped until the client closes or its time is over.
+    /// Lets a client part that has taken its answer. A connection that is closed over unread bytes,
+    /// or before more bytes come, is reset, which can cost the client the end of its answer (RFC
+    /// 9112, section 9.6). A request that was fulfilled was read whole, and nothing more is due
+    /// from its client: it is closed at once, after what came meanwhile is read. One that was
+    /// rejected may still be on its way: the writing direction is ended, and what comes is dropped
+    /// until the client closes or its time is over.
     #[tactic(auto, using(crate::proofs::Answered::may_respond_parted))]
     fn part<R: AllocGlobal>(
         &mut self,
@@ -286,7 +292,8 @@ impl<N: Network> Visitors<N> {
         self.keep(context, connection, client, index);
     }
 
-    /// The next slot whose request is to be answered now, in turn; None if there is none, or the budget is used up.
+    /// The next slot whose request is to be answered now, in turn; None if there is none, or the
+    /// budget is used up.
     pub fn next(&mut self) -> Option<usize>
         ensures { responses_of self.new ≡ responses_of self.old }
     {
@@ -341,8 +348,8 @@ impl<N: Network> Visitors<N> {
         weight(self.slots.as_slice()) < BUDGET_BYTES
     }
 
-    /// Lets a server answer the request in a slot, if it is whole, and writes what the client takes of the response. Returns whether a
-    /// response was given.
+    /// Lets a server answer the request in a slot, if it is whole, and writes what the client takes
+    /// of the response. Returns whether a response was given.
     pub fn serve<R: Clock + Eprint + AllocGlobal, S: Server>(
         &mut self,
         context: &Context<'_, '_, R, N>,
@@ -358,8 +365,9 @@ impl<N: Network> Visitors<N> {
 }
 
 impl<N: Network> Visitors<N> {
-    /// Lets a server answer the request in a slot, if it is whole; the next [`turn`](Visitors::turn) of the client writes what it takes
-    /// of the response. Returns whether a response was given.
+    /// Lets a server answer the request in a slot, if it is whole; the next
+    /// [`turn`](Visitors::turn) of the client writes what it takes of the response. Returns whether
+    /// a response was given.
     #[tactic(auto, using(crate::proofs::Answered::asks_yet))]
     pub fn answer<R: Clock + Eprint + AllocGlobal, S: Server>(
         &mut self,
@@ -434,7 +442,8 @@ impl<N: Network> Visitors<N> {
         }
     }
 
-    /// Ends the phases whose time is over: a request counts as ended, and any other client is closed.
+    /// Ends the phases whose time is over: a request counts as ended, and any other client is
+    /// closed.
     pub fn tick(&mut self, time: u64)
         ensures { responses_of self.new ≡ responses_of self.old }
     {
@@ -527,8 +536,8 @@ fn respond<S: Server>(alloc: Global, server: &mut S, client: &mut Client) -> Ser
     reply
 }
 
-/// A client that was answered is to take the response. What it asked for is kept only where the response is a rejection, after which it
-/// may still send.
+/// A client that was answered is to take the response. What it asked for is kept only where the
+/// response is a rejection, after which it may still send.
 fn settle<R: AllocGlobal, N>(context: &Context<'_, '_, R, N>, client: &mut Client, status: u16)
     ensures { client.new.outgoing ≡ client.old.outgoing }
 {

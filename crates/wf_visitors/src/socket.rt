@@ -3,7 +3,8 @@
 use std::net::SocketAddr;
 use wf_sockets::{Connection, Network};
 
-/// The connection of a client. It is watched once an event of it is waited for, which a short request never needs.
+/// The connection of a client. It is watched once an event of it is waited for, which a short
+/// request never needs.
 #[derive(Drop)]
 pub(crate) struct ClientConnection<C: Connection> {
     pub(crate) connection: C,
@@ -31,7 +32,8 @@ impl<C: Connection> ClientConnection<C> {
         self.is_watched || self.watch_again(network, token)
     }
 
-    /// Watches it, again if it is watched, so that its next event comes although not all was read. Returns whether it is now.
+    /// Watches it, again if it is watched, so that its next event comes although not all was read.
+    /// Returns whether it is now.
     pub(crate) fn watch_again<N: Network<Connection = C>>(
         &mut self,
         network: &N,

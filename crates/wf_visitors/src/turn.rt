@@ -51,8 +51,8 @@ enum Step {
     Done(ClientTurn),
 }
 
-/// Reads a piece of a request. No more is read where all that has come was, and may be the whole request: if it isn't, its client's
-/// next turn reads on.
+/// Reads a piece of a request. No more is read where all that has come was, and may be the whole
+/// request: if it isn't, its client's next turn reads on.
 fn receive_piece<C: Connection>(connection: &mut C, client: &mut Client, piece: &mut [u8]) -> Step
     ensures { IsReceiving client.old client.new }
 {

@@ -6,8 +6,9 @@ use wf_client::Client;
 use wf_past::Past;
 use wf_sockets::{Network, SystemNetwork};
 
-/// Clients with their connections: that of slot i at index i. A clause sees a log that only proofs read: each client that was answered, as it
-/// was then, with what had come of its request and with the whole response.
+/// Clients with their connections: that of slot i at index i. A clause sees a log that only proofs
+/// read: each client that was answered, as it was then, with what had come of its request and with
+/// the whole response.
 #[derive(Drop)]
 pub struct Visitors<N: Network = SystemNetwork> {
     pub(crate) listener: Option<N::Listener>,

@@ -1,4 +1,5 @@
--- Kept pictures: each stays the picture of its key, and what is cut out of it is the requested image.
+-- Kept pictures: each stays the picture of its key, and what is cut out of it is the requested
+-- image.
 use Rattle.std.proofs.Common.{◌≡◌, ◌∙◌, ◌<◌, ◌≤◌, ◌-◌, ap, refl, sym, subst, subst₂, ℕ, zero, suc, nat_eq, ◌&&◌, Bool, true, false, cond, inl, inr, List, [], ◌∷◌, ◌++◌, length, take, ℤ, arith}
 use Rattle.std.specs.Prelude.{Option, Some, None, IfNone, IfSome, IsSome, OnSome, Contains, slice_get, option_copied, Result, Ok, Err, OnOk, OnErr, is_ok}
 use Rattle.std.specs.List.{All}

@@ -1,4 +1,5 @@
--- The answer to a request: the exception of the first check that fails, else what the requested operation returns.
+-- The answer to a request: the exception of the first check that fails, else what the requested
+-- operation returns.
 use Rattle.std.specs.Prelude.{◌≡◌, ◌≢◌, ◌≤◌, ℕ, length, List, [], ◌∷◌, bytes_eq, codes, Option, Some, None, Result, Ok, Err, if◌then◌else◌}
 use Rattle.wf_def.specs.Definition.{Definition}
 use Rattle.wf_learner.specs.History.{map_at}
@@ -116,14 +117,15 @@ abbrev pub or_own : ℕ → Result ℕ Exception → ℕ
 or_own s (Ok other) = other
 or_own s (Err e) = s
 
--- the sequence of the map that an operation describes or draws: for GetMap the one that MAPSEQ names, else the server's
+-- the sequence of the map that an operation describes or draws: for GetMap the one that MAPSEQ
+-- names, else the server's
 abbrev pub subject_of : Result WmsOperation Exception → ℕ → List (List ℕ × List ℕ) → ℕ
 subject_of (Err e) s pairs = s
 subject_of (Ok Capabilities) s pairs = s
 subject_of (Ok Map) s pairs = or_own s (map_sequence s pairs)
 
--- The answer to an operation at the sequence s of a history, whose first entry has sequence 1. It depends on the history only
--- through the map that is described or drawn.
+-- The answer to an operation at the sequence s of a history, whose first entry has sequence 1. It
+-- depends on the history only through the map that is described or drawn.
 pub record IsAnswerOn (operation : Result WmsOperation Exception) (s : ℕ) (history : List Definition) (pairs : List (List ℕ × List ℕ)) (answer : AnswerValue) : Type 0 where
   pub map : Definition
   pub is_published : map_at history (subject_of operation s pairs) ≡ Some map
@@ -152,12 +154,14 @@ EachQueryHasOneAnswer = (s : ℕ) (history other : List Definition) (query : Lis
     map_at history (subject s query) ≡ map_at other (subject s query) →
     IsAnswerOf s history query answer → IsAnswerOf s other query another → another ≡ answer
 
--- The query is a GetMap request (7.3), and at a server whose last sequence is s it asks for the map of sequence m.
+-- The query is a GetMap request (7.3), and at a server whose last sequence is s it asks for the map
+-- of sequence m.
 pub record AsksForMap (m s : ℕ) (query : List ℕ) : Type 0 where
   pub request : parameter (codes "REQUEST") (pairs_of query) ≡ Some (codes "GetMap")
   pub sequence : map_sequence s (pairs_of query) ≡ Ok m
 
--- A GetMap request that asks for the same map at two servers has the same answers at both, whatever their last sequences.
+-- A GetMap request that asks for the same map at two servers has the same answers at both, whatever
+-- their last sequences.
 abbrev pub AskedMapsAreAnsweredAlike : Type 0
 AskedMapsAreAnsweredAlike = (s t m : ℕ) (history : List Definition) (query : List ℕ) (answer : AnswerValue) → AsksForMap m s query → AsksForMap m t query →
     IsAnswerOf t history query answer → IsAnswerOf s history query answer

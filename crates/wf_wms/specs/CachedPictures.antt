@@ -1,5 +1,5 @@
--- Kept pictures: the picture of each cache entry, the tiles that are cut out of it, and what becomes of the cache when a picture is
--- requested.
+-- Kept pictures: the picture of each cache entry, the tiles that are cut out of it, and what
+-- becomes of the cache when a picture is requested.
 use Rattle.std.specs.Prelude.{◌≡◌, ◌≤◌, ◌⊎◌, ◌&&◌, ℕ, ◌+◌, ◌-◌, ◌^◌, min, nat_eq, Bool, true, false, List, ◌∷◌, ◌++◌, length, take, bytes_eq, Option, Some, None, pos, Contains}
 use Rattle.std.specs.Map.{lookup_entry, remove_entry}
 use Rattle.std.specs.Ordering.{int_eq}
@@ -39,16 +39,18 @@ pub record IsCellOf (key : Key) (cell : GridCell) : Type 0 where
   pub column : quotient cell.col (pos shared_tiles) ≡ key.column
   pub row : quotient cell.row (pos shared_tiles) ≡ key.row
 
--- The pixmap is the key's picture: the labelled picture, of the map that the history has at the key's sequence, with the key's
--- layers and background, out of which the tile of each of the key's cells is cut.
+-- The pixmap is the key's picture: the labelled picture, of the map that the history has at the
+-- key's sequence, with the key's layers and background, out of which the tile of each of the key's
+-- cells is cut.
 pub record IsCached (history : List Definition) (key : Key) (p : PixmapValue) : Type 0 where
   pub map : Definition
   pub is_published : map_at history key.sequence ≡ Some map
   pub shows : (cell : GridCell) → IsCellOf key cell →
       IsPicture most_pixels most_pixels (labelled map key.layers.items (tile_view map.extent cell) (background_of key)) p
 
--- A cache: its entries, the most recently used first, and its capacity; and how many pictures were drawn, how many tiles were cut out
--- of an entry's picture in place of drawing one, and how many of the drawn pictures weren't kept, since an allocation failed.
+-- A cache: its entries, the most recently used first, and its capacity; and how many pictures were
+-- drawn, how many tiles were cut out of an entry's picture in place of drawing one, and how many of
+-- the drawn pictures weren't kept, since an allocation failed.
 pub record CacheValue : Type 0 where
   pub entries : List (Key × PixmapValue)
   pub cap : ℕ
@@ -88,13 +90,15 @@ others key entries = remove_entry (is_same_picture key) entries
 unfoldable pub risen : ℕ → ℕ
 risen count = min (count + 1) (2 ^ 64 - 1)
 
--- A tile is cut out of the key's picture, which is kept. Its entry goes first, and the others stay in their order.
+-- A tile is cut out of the key's picture, which is kept. Its entry goes first, and the others stay
+-- in their order.
 pub record IsCutFromCache (key : Key) (old new : CacheValue) : Type 0 where
   pub entry : Key × PixmapValue
   pub is_cached : entry_of key old.entries ≡ Some entry
   pub goes_first : new ≡ record old { entries = entry ∷ others key old.entries; taken = risen old.taken }
 
--- The key's picture isn't kept. It is drawn, and its entry goes first; where the cache is full, the last entry goes.
+-- The key's picture isn't kept. It is drawn, and its entry goes first; where the cache is full, the
+-- last entry goes.
 pub record IsDrawn (key : Key) (old new : CacheValue) : Type 0 where
   pub is_absent : entry_of key old.entries ≡ None
   pub picture : PixmapValue
@@ -140,8 +144,8 @@ IsCacheAfter s history query old new = IsNextCache history (requested s history 
 
 -- ---- for the crate's own contracts
 
--- The view is that of one of the key's cells, in the grid of the map that the history has at the key's sequence, and the cell's tile lies
--- within it.
+-- The view is that of one of the key's cells, in the grid of the map that the history has at the
+-- key's sequence, and the cell's tile lies within it.
 pub record IsTileAt (history : List Definition) (key : Key) (view : ViewValue) : Type 0 where
   pub within : key.sequence ≤ length history
   pub map : Definition

@@ -1,5 +1,5 @@
--- The service metadata document: OGC 06-042, 7.2.4 and the schema of annex E.1, whose order of elements
--- it keeps.
+-- The service metadata document: OGC 06-042, 7.2.4 and the schema of annex E.1, whose order of
+-- elements it keeps.
 use Rattle.std.specs.Prelude.{ℕ, ℤ, List, ◌++◌, codes, decimal, flat_map}
 use Rattle.wf_def.specs.Definition.{Definition, LayerDefinition}
 use Rattle.wf_def.specs.Extent.{ExtentValue}
@@ -28,7 +28,8 @@ online_resource address = codes "<OnlineResource xlink:type=\"simple\" xlink:hre
 unfoldable pub limit : List ℕ → ℕ → List ℕ
 limit name number = line (start_tag name ++ decimal number ++ end_tag name)
 
--- the service's description (7.2.4.2 and 7.2.4.3): LayerLimit in layers, MaxWidth and MaxHeight in pixels
+-- the service's description (7.2.4.2 and 7.2.4.3): LayerLimit in layers, MaxWidth and MaxHeight in
+-- pixels
 unfoldable pub service : Definition → List ℕ
 service d =
     line (codes "<Service>")
@@ -83,7 +84,8 @@ unfoldable pub crs_lines : Projection → List ℕ
 crs_lines Epsg4326 = crs_line (codes "EPSG:4326") ++ crs_line (codes "CRS:84")
 crs_lines Epsg3857 = crs_line (codes "EPSG:3857")
 
--- the box in each of them: the first axis of EPSG:4326 is the latitude (annex B), so its x is the EXTENT's y
+-- the box in each of them: the first axis of EPSG:4326 is the latitude (annex B), so its x is the
+-- EXTENT's y
 unfoldable pub box_lines : Projection → ExtentValue → List ℕ
 box_lines Epsg4326 e =
     box_line (codes "EPSG:4326") e.miny e.minx e.maxy e.maxx

@@ -1,7 +1,8 @@
--- The GetMap request: OGC 06-042, 7.3.2 and 7.3.3. This profile adds MAPSEQ, and STYLES may be absent.
+-- The GetMap request: OGC 06-042, 7.3.2 and 7.3.3. This profile adds MAPSEQ, and STYLES may be
+-- absent.
 --
--- Each parameter is checked by a function of its value: it gives a part of the request, or the exception. `map_request` puts the
--- checks in order; the first exception is the answer.
+-- Each parameter is checked by a function of its value: it gives a part of the request, or the
+-- exception. `map_request` puts the checks in order; the first exception is the answer.
 use Rattle.std.specs.Prelude.{ℕ, ◌+◌, ◌<◌, ◌==◌, ◌&&◌, Bool, true, false, not, nat_le, nat_lt, List, [], ◌∷◌, length, bytes_eq, codes, filter_map, position, is_none, Option, Some, None, ok_or, Result, Ok, Err, ℤ, pos, ◌+ℤ◌, int_le, ⊤, if◌then◌else◌}
 use Rattle.std.specs.Char.{is_ascii_digit}
 use Rattle.std.specs.List.{All, list_all, slice_split}
@@ -51,7 +52,8 @@ abbrev pub check_version : Option (List ℕ) → Result ⊤ Exception
 check_version None = Err (exception.MissingParameter parameters.Version)
 check_version (Some version) = passed_or (exception.BadValue parameters.Version) (bytes_eq version (codes "1.3.0"))
 
--- MAPSEQ at a server at the sequence s: digits of any length, a number not above s; s if it is absent
+-- MAPSEQ at a server at the sequence s: digits of any length, a number not above s; s if it is
+-- absent
 abbrev pub sequence_in : ℕ → Option (List ℕ) → Result ℕ Exception
 sequence_in s None = Ok s
 sequence_in s (Some text) = if list_all is_ascii_digit text
@@ -71,13 +73,15 @@ layer_of d name = position (bytes_eq name) (layer_names d.layers)
 abbrev pub AreLayersOf : Definition → List ℕ → Type 0
 AreLayersOf d indices = All (λ index. index < length d.layers) indices
 
--- checks LAYERS: no more names than a request may have, each of a layer of the map; a name may occur twice (7.3.3.3)
+-- checks LAYERS: no more names than a request may have, each of a layer of the map; a name may
+-- occur twice (7.3.3.3)
 unfoldable pub check_layers : Definition → List (List ℕ) → Result ⊤ Exception
 check_layers d names = do
   _ ← passed_or (exception.BadValue parameters.Layers) (nat_le (length names) most_entries)
   none_or exception.LayerNotDefined (position (λ name. is_none (layer_of d name)) names)
 
--- STYLES has an entry for each layer, empty or `default`; if it is absent, each layer has its default style (7.3.3.4)
+-- STYLES has an entry for each layer, empty or `default`; if it is absent, each layer has its
+-- default style (7.3.3.4)
 abbrev pub is_style : List ℕ → Bool
 is_style [] = true
 is_style (byte ∷ bytes) = bytes_eq (byte ∷ bytes) (codes "default")
@@ -91,8 +95,8 @@ abbrev pub check_styles : ℕ → Option (List ℕ) → Result ⊤ Exception
 check_styles count None = Ok tt
 check_styles count (Some text) = check_style_list count (entries text)
 
--- CRS is one in which the map is offered, with its axis order (7.3.3.5, 6.7.3 and annex B): the first axis of EPSG:4326 is the
--- latitude
+-- CRS is one in which the map is offered, with its axis order (7.3.3.5, 6.7.3 and annex B): the
+-- first axis of EPSG:4326 is the latitude
 abbrev pub axes_in : Projection → Option (List ℕ) → Result Axes Exception
 axes_in projection None = Err (exception.MissingParameter parameters.Crs)
 axes_in Epsg4326 (Some crs) = if bytes_eq crs (codes "EPSG:4326") then Ok NorthFirst
@@ -113,7 +117,8 @@ abbrev pub box_along : Axes → ℤ → ℤ → ℤ → ℤ → ExtentValue
 box_along EastFirst a b c d = record { minx = a; miny = b; maxx = c; maxy = d }
 box_along NorthFirst a b c d = record { minx = b; miny = a; maxx = d; maxy = c }
 
--- the side is long enough, as that of the narrowest cell of the grid; so the minimum is below the maximum
+-- the side is long enough, as that of the narrowest cell of the grid; so the minimum is below the
+-- maximum
 abbrev pub is_side : ℤ → ℤ → Bool
 is_side low high = int_le (low +ℤ pos least_cell) high
 
@@ -134,7 +139,8 @@ abbrev pub box_in : Axes → Option (List ℕ) → Result ExtentValue Exception
 box_in axes None = Err (exception.MissingParameter parameters.Bbox)
 box_in axes (Some text) = box_of axes (four_of (entries text))
 
--- the text is decimal digits, of a number from 1 to the greatest width and height, as in the service metadata (MaxWidth, MaxHeight)
+-- the text is decimal digits, of a number from 1 to the greatest width and height, as in the
+-- service metadata (MaxWidth, MaxHeight)
 abbrev pub is_size : List ℕ → Bool
 is_size text = list_all is_ascii_digit text && (nat_le 1 (number_of_digits text) && nat_le (number_of_digits text) most_pixels)
 
@@ -196,7 +202,8 @@ map_sequence s pairs = do
   _ ← check_version (parameter (codes "VERSION") pairs)
   sequence_in s (parameter (codes "MAPSEQ") pairs)
 
--- the whole request, where d is the map of that sequence: the exception is that of the first check that fails
+-- the whole request, where d is the map of that sequence: the exception is that of the first check
+-- that fails
 unfoldable pub map_request : ℕ → Definition → List (List ℕ × List ℕ) → Result RequestValue Exception
 map_request s d pairs = do
   _ ← map_sequence s pairs

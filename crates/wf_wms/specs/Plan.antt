@@ -1,5 +1,5 @@
--- The checks of a query before a picture is drawn. The result is the answer, or a request for a picture whose answer is the
--- query's.
+-- The checks of a query before a picture is drawn. The result is the answer, or a request for a
+-- picture whose answer is the query's.
 use Rattle.std.specs.Prelude.{◌≡◌, ◌≤◌, List, length, Option, Some, None}
 use Rattle.wf_def.specs.Definition.{Definition}
 use Rattle.wf_learner.specs.History.{map_at}

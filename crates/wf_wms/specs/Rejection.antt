@@ -1,5 +1,6 @@
--- Requests that are rejected by their text alone: by a check that looks neither at a map nor at the server's sequence, and that
--- comes before each check that does. Every server rejects such a request alike.
+-- Requests that are rejected by their text alone: by a check that looks neither at a map nor at the
+-- server's sequence, and that comes before each check that does. Every server rejects such a
+-- request alike.
 use Rattle.std.specs.Prelude.{◌≡◌, ℕ, nat_le, List, length, codes, Option, Some, None, Result, Ok, Err, ⊤}
 use Rattle.std.specs.Char.{is_ascii_digit}
 use Rattle.std.specs.List.{list_all}
@@ -36,8 +37,9 @@ check_names pairs = do
   names ← listed_names pairs
   passed_or (exception.BadValue parameters.Layers) (nat_le (length (entries names)) most_entries)
 
--- That MAPSEQ is digits: whether a map has that number is for the server to say, before the next check. If it is absent, the map
--- is the server's last, which is there, and the next checks are those of FORMAT and LAYERS.
+-- That MAPSEQ is digits: whether a map has that number is for the server to say, before the next
+-- check. If it is absent, the map is the server's last, which is there, and the next checks are
+-- those of FORMAT and LAYERS.
 abbrev pub from_sequence : Option (List ℕ) → List (List ℕ × List ℕ) → Result ⊤ Exception
 from_sequence None pairs = check_names pairs
 from_sequence (Some text) pairs = passed_or (exception.BadValue parameters.MapSequence) (list_all is_ascii_digit text)
@@ -65,8 +67,9 @@ TextsAreRejectedAlike = (s : ℕ) (history : List Definition) (query : List ℕ)
 
 -- ---- the same with the server's sequence
 
--- REQUEST first, then the checks of the operation that it names, up to the first one that looks at a map: for GetCapabilities these
--- are all; for GetMap whether this server has published the map of MAPSEQ, and then FORMAT and LAYERS
+-- REQUEST first, then the checks of the operation that it names, up to the first one that looks at
+-- a map: for GetCapabilities these are all; for GetMap whether this server has published the map of
+-- MAPSEQ, and then FORMAT and LAYERS
 abbrev pub operation_at : Result WmsOperation Exception → ℕ → List (List ℕ × List ℕ) → Result ⊤ Exception
 operation_at (Err e) s pairs = Err e
 operation_at (Ok Capabilities) s pairs = passed (metadata_fault s pairs)

@@ -1,4 +1,5 @@
--- The picture that a query requests: it is a GetMap request, and no check of it fails (OGC 06-042, 7.3).
+-- The picture that a query requests: it is a GetMap request, and no check of it fails (OGC 06-042,
+-- 7.3).
 use Rattle.std.specs.Prelude.{ℕ, List, codes, Option, Some, None, Result, Ok, Err}
 use Rattle.wf_def.specs.Definition.{Definition}
 use Rattle.wf_learner.specs.History.{map_at}

@@ -1,5 +1,5 @@
--- The UPDATESEQUENCE parameter: OGC 06-042, 7.2.3.5 and its table 4. The rows for a value that isn't a number and for an empty
--- value are this profile's.
+-- The UPDATESEQUENCE parameter: OGC 06-042, 7.2.3.5 and its table 4. The rows for a value that
+-- isn't a number and for an empty value are this profile's.
 use Rattle.std.specs.Prelude.{ℕ, List, [], ◌∷◌, nat_lt, ◌==◌, Option, Some, None, if◌then◌else◌}
 use Rattle.std.specs.List.{list_all}
 use Rattle.std.specs.Char.{is_ascii_digit}

@@ -69,7 +69,8 @@ fn large_enough(minx: Micro, miny: Micro, maxx: Micro, maxy: Micro) -> Result<Ex
     }
 }
 
-/// Whether the side is long enough, as that of the narrowest cell of the grid; so the minimum is below the maximum.
+/// Whether the side is long enough, as that of the narrowest cell of the grid; so the minimum is
+/// below the maximum.
 fn is_side(low: Micro, high: Micro) -> bool
     ensures { result ≡ is_side low high }
 {

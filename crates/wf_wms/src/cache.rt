@@ -18,7 +18,8 @@ use wf_learner::History;
 use wf_paint::Pixmap;
 use wf_picture::{Size, cut, draw_view, tiles_are_crops_of_one_picture};
 
-/// The key of a picture that sixteen tiles are cut out of: its map, layers and background, and its position in the grid.
+/// The key of a picture that sixteen tiles are cut out of: its map, layers and background, and its
+/// position in the grid.
 #[derive(Drop, PartialEq, Eq, Hash)]
 pub struct Key {
     /// The update sequence of the map.
@@ -45,9 +46,9 @@ const TILE: Size = Size {
     height: TILE_PIXELS,
 };
 
-/// A cache of pictures: each has 1,024 by 1,024 pixels of a map's grid, and sixteen tiles are cut out of it. When it is full, the
-/// least recently used is dropped. It counts what was drawn, what was taken and what couldn't be kept; a count stays at its
-/// highest.
+/// A cache of pictures: each has 1,024 by 1,024 pixels of a map's grid, and sixteen tiles are cut
+/// out of it. When it is full, the least recently used is dropped. It counts what was drawn, what
+/// was taken and what couldn't be kept; a count stays at its highest.
 #[derive(Drop)]
 pub struct Cache {
     cached: LruCache<Key, Pixmap>,
@@ -68,7 +69,8 @@ impl Model for Cache {
 }
 
 impl Cache {
-    /// An empty cache for `capacity` pictures, 1 to 64, whose counts are 0. A picture takes 3 MB. Returns Ok unless allocation fails.
+    /// An empty cache for `capacity` pictures, 1 to 64, whose counts are 0. A picture takes 3 MB.
+    /// Returns Ok unless allocation fails.
     pub fn new(alloc: Global, capacity: usize) -> Result<Self, AllocError>
         requires least { 1 ≤ capacity }
         requires most { capacity ≤ most_cached }
@@ -106,8 +108,9 @@ impl Cache {
         self.unkept
     }
 
-    /// The file of the tile of this key and view, cut out of the key's picture. If the picture isn't kept, it is drawn, and kept
-    /// unless an allocation fails. An error leaves the cache unchanged.
+    /// The file of the tile of this key and view, cut out of the key's picture. If the picture
+    /// isn't kept, it is drawn, and kept unless an allocation fails. An error leaves the cache
+    /// unchanged.
     pub(crate) fn tile(
         &mut self,
         alloc: Global,
@@ -134,7 +137,8 @@ impl Cache {
         }
     }
 
-    /// The file of a tile whose picture isn't kept: it is drawn, and kept unless an allocation fails.
+    /// The file of a tile whose picture isn't kept: it is drawn, and kept unless an allocation
+    /// fails.
     fn draw_kept(
         &mut self,
         alloc: Global,
@@ -182,7 +186,8 @@ impl Cache {
         self.cached.peek(key)
     }
 
-    /// Counts a drawn picture, and keeps it; if an allocation fails, it is counted as one that isn't kept.
+    /// Counts a drawn picture, and keeps it; if an allocation fails, it is counted as one that
+    /// isn't kept.
     fn keep(&mut self, key: Key, pixmap: Pixmap)
         requires { entry_of key self.old.entries ≡ None }
         ensures used { IsUsed key self.old self.new }
@@ -199,8 +204,8 @@ impl Cache {
     }
 }
 
-/// Puts a new entry before the others, of which the last goes if there is no room for it. Returns false if an allocation fails, and
-/// then the entries are unchanged.
+/// Puts a new entry before the others, of which the last goes if there is no room for it. Returns
+/// false if an allocation fails, and then the entries are unchanged.
 fn put(cached: &mut LruCache<Key, Pixmap>, key: Key, pixmap: Pixmap) -> bool
     requires { entry_of key cached.old.entries ≡ None }
     ensures put { result ≡ true → cached.new ≡ lru_cache

@@ -1,4 +1,5 @@
-//! The service metadata document, block by block. Each call appends its whole block and returns Ok unless allocation fails.
+//! The service metadata document, block by block. Each call appends its whole block and returns Ok
+//! unless allocation fails.
 ghost use Rattle.std.specs.Prelude.{◌≡◌, ◌++◌, OnOk, IfOk, flat_map};
 ghost use Rattle.wf_wms.specs.Capabilities.{start_tag, end_tag, element, limit, online_resource, service, operation, requests, crs_lines, side, box_line, box_lines, layer_line, layers, opening, capabilities};
 

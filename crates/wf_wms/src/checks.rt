@@ -26,8 +26,8 @@ pub(crate) enum WmsOperation {
     Map,
 }
 
-/// Checks a query at an update sequence that the maps have: its answer, or the picture that it requests. Returns Ok unless
-/// allocation fails.
+/// Checks a query at an update sequence that the maps have: its answer, or the picture that it
+/// requests. Returns Ok unless allocation fails.
 pub(crate) fn plan<M: MapSource>(
     alloc: Global,
     seq: u16,
@@ -51,7 +51,8 @@ pub(crate) fn plan<M: MapSource>(
     }
 }
 
-/// Checks a GetMap query (OGC 06-042, 7.3): its answer, or the picture that it requests. Returns Ok unless allocation fails.
+/// Checks a GetMap query (OGC 06-042, 7.3): its answer, or the picture that it requests. Returns Ok
+/// unless allocation fails.
 fn map_plan<M: MapSource>(
     alloc: Global,
     seq: u16,
@@ -70,7 +71,8 @@ fn map_plan<M: MapSource>(
     }
 }
 
-/// Checks the parameters of a GetMap query after MAPSEQ, for the map of this sequence. Returns Ok unless allocation fails.
+/// Checks the parameters of a GetMap query after MAPSEQ, for the map of this sequence. Returns Ok
+/// unless allocation fails.
 fn picture_plan<M: MapSource>(
     alloc: Global,
     sequence: u16,

@@ -71,8 +71,8 @@ pub(crate) fn metadata_answer(
     }
 }
 
-/// The answer about one map definition at an update sequence: GetCapabilities is answered (OGC 06-042, 7.2), GetMap isn't
-/// supported. Returns Ok unless allocation fails.
+/// The answer about one map definition at an update sequence: GetCapabilities is answered (OGC
+/// 06-042, 7.2), GetMap isn't supported. Returns Ok unless allocation fails.
 #[tactic(auto, unfolding(crate::specs::Answer::description))]
 pub fn describe(alloc: Global, seq: u16, map: &MapDef, query: &[u8]) -> Result<Answer, AllocError>
     requires { seq ≤ last_sequence }

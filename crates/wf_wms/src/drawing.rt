@@ -25,8 +25,9 @@ pub(crate) fn draw_uncached<M: MapSource>(
     Ok(Answer::picture(draw(alloc, map, &asked.request)?))
 }
 
-/// Draws with a cache. A tile of the map's grid is cut out of the cache's picture, which is drawn if it isn't kept yet; another
-/// picture is drawn beside the cache. An error leaves the cache unchanged.
+/// Draws with a cache. A tile of the map's grid is cut out of the cache's picture, which is drawn
+/// if it isn't kept yet; another picture is drawn beside the cache. An error leaves the cache
+/// unchanged.
 pub(crate) fn draw_by(
     alloc: Global,
     cache: &mut Cache,

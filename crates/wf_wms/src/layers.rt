@@ -10,8 +10,8 @@ use crate::limits::MOST_ENTRIES;
 use std::alloc::{AllocError, Global};
 use wf_def::MapDef;
 
-/// The layers that the list names, by their indices in the map, in the list's order: at most [`MOST_ENTRIES`], each a layer of the
-/// map. A name may occur twice.
+/// The layers that the list names, by their indices in the map, in the list's order: at most
+/// [`MOST_ENTRIES`], each a layer of the map. A name may occur twice.
 #[tactic(auto, unfolding(crate::specs::MapRequest::named_layers, crate::specs::MapRequest::check_layers))]
 pub(crate) fn named_layers(
     alloc: Global,
@@ -34,7 +34,8 @@ pub(crate) fn named_layers(
     }
 }
 
-/// The indices of the named layers in the map, in the order of the list; or the index of the first name that isn't a layer's.
+/// The indices of the named layers in the map, in the order of the list; or the index of the first
+/// name that isn't a layer's.
 fn layer_indices(
     alloc: Global,
     map: &MapDef,

@@ -33,7 +33,8 @@ pub(crate) fn map_request(
     }
 }
 
-/// The requested layers by their indices in the map, the lowest in the picture first: from the parameters up to STYLES.
+/// The requested layers by their indices in the map, the lowest in the picture first: from the
+/// parameters up to STYLES.
 #[tactic(auto, unfolding(crate::specs::MapRequest::layers_in))]
 fn layers(
     alloc: Global,

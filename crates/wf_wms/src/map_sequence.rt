@@ -7,7 +7,8 @@ use crate::format::check_version;
 use crate::query::Query;
 use wf_text::{are_digits, number_of_digits};
 
-/// The sequence of the map that a query requests at a server at update sequence `seq`; VERSION is checked first.
+/// The sequence of the map that a query requests at a server at update sequence `seq`; VERSION is
+/// checked first.
 #[tactic(auto, unfolding(crate::specs::MapRequest::map_sequence))]
 pub(crate) fn map_sequence(query: &Query, seq: u16) -> Result<u16, Exception>
     ensures value { result ≡ map_sequence seq query.now }
@@ -17,7 +18,8 @@ pub(crate) fn map_sequence(query: &Query, seq: u16) -> Result<u16, Exception>
     sequence_in(query.parameter("MAPSEQ"), seq)
 }
 
-/// The sequence that MAPSEQ names at a server at update sequence `seq`; `seq` if it is absent. Digits may have any length.
+/// The sequence that MAPSEQ names at a server at update sequence `seq`; `seq` if it is absent.
+/// Digits may have any length.
 fn sequence_in(value: Option<&str>, seq: u16) -> Result<u16, Exception>
     ensures value { result ≡ sequence_in seq (option_map (λ text. text.now) value.entry) }
     ensures within { IfOk result (λ number. number ≤ seq) }

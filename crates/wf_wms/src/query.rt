@@ -36,8 +36,8 @@ impl Query {
         Ok(Query { pairs })
     }
 
-    /// The value of a parameter. Names are compared without ASCII case; the first pair of a repeated name counts; an empty value
-    /// counts as absent.
+    /// The value of a parameter. Names are compared without ASCII case; the first pair of a
+    /// repeated name counts; an empty value counts as absent.
     pub fn parameter(&self, name: &str) -> Option<&str>
         ensures { option_map (λ value. value.now) result ≡ parameter name.now self.now }
     {

@@ -110,8 +110,8 @@ const REPORT_CLOSING: &str = "</ServiceException>
 </ServiceExceptionReport>
 ";
 
-/// The report of one exception, as bytes of an XML document (OGC 06-042, 7.3.3.11 and annex E.2): the answer to a request that
-/// fails a check. Returns Ok unless allocation fails.
+/// The report of one exception, as bytes of an XML document (OGC 06-042, 7.3.3.11 and annex E.2):
+/// the answer to a request that fails a check. Returns Ok unless allocation fails.
 pub fn exception_report(alloc: Global, exception: Exception) -> Result<Vec<u8>, AllocError>
     ensures { IfOk result (λ document. document.items ≡ exception_report exception) }
 {

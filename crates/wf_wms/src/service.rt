@@ -14,8 +14,9 @@ use std::alloc::{AllocError, Global};
 use wf_def::MapDef;
 use wf_learner::History;
 
-/// The answer to a query at an update sequence of the history: the service metadata (OGC 06-042, 7.2), a picture of the map that
-/// MAPSEQ names (7.3), or the exception of the first check that fails. Returns Ok unless allocation fails.
+/// The answer to a query at an update sequence of the history: the service metadata (OGC 06-042,
+/// 7.2), a picture of the map that MAPSEQ names (7.3), or the exception of the first check that
+/// fails. Returns Ok unless allocation fails.
 pub fn answer(
     alloc: Global,
     seq: u16,
@@ -28,10 +29,11 @@ pub fn answer(
     answer_from(alloc, seq, history, query)
 }
 
-/// Answers with a cache of pictures of the history's maps, as without it. A tile is cut out of its kept picture, which is the most recently
-/// used then; one that isn't kept is drawn and kept, in place of the least recently used if the cache is full. If an allocation to
-/// keep it fails, the answer is the same. What is no tile leaves the cache as it was. Returns Ok unless allocation fails; an error
-/// leaves the cache unchanged.
+/// Answers with a cache of pictures of the history's maps, as without it. A tile is cut out of its
+/// kept picture, which is the most recently used then; one that isn't kept is drawn and kept, in
+/// place of the least recently used if the cache is full. If an allocation to keep it fails, the
+/// answer is the same. What is no tile leaves the cache as it was. Returns Ok unless allocation
+/// fails; an error leaves the cache unchanged.
 pub fn answer_cached(
     alloc: Global,
     cache: &mut Cache,
@@ -55,8 +57,8 @@ pub fn answer_cached(
     }
 }
 
-/// The answer of a server that has published only this map, at sequence 1: a preview. MAPSEQ may also name sequence 0, the empty
-/// map. Returns Ok unless allocation fails.
+/// The answer of a server that has published only this map, at sequence 1: a preview. MAPSEQ may
+/// also name sequence 0, the empty map. Returns Ok unless allocation fails.
 pub fn preview(alloc: Global, map: &MapDef, query: &[u8]) -> Result<Answer, AllocError>
     ensures { IfOk result (λ answer. IsAnswerOf 1 (map.now ∷ []) query.now answer) }
 {

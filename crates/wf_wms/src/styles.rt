@@ -8,7 +8,8 @@ use crate::exception::{Exception, Parameter};
 /// The one style of each layer, as in the service metadata.
 const DEFAULT_STYLE: &str = "default";
 
-/// Checks STYLES: it has as many entries as LAYERS, each a style's name; or it is absent, and each layer has its default style.
+/// Checks STYLES: it has as many entries as LAYERS, each a style's name; or it is absent, and each
+/// layer has its default style.
 pub(crate) fn check_styles(layers: usize, value: Option<&str>) -> Result<(), Exception>
     ensures { result ≡ check_styles layers (option_map (λ text. text.now) value.entry) }
 {

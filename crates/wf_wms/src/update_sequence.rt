@@ -18,7 +18,8 @@ fn compare(number: u64, seq: u16) -> Comparison
     }
 }
 
-/// How the value of UPDATESEQUENCE compares with the update sequence `seq` of the server. Digits may have any length.
+/// How the value of UPDATESEQUENCE compares with the update sequence `seq` of the server. Digits
+/// may have any length.
 pub(crate) fn comparison(value: Option<&str>, seq: u16) -> Comparison
     ensures { result ≡ sequence_rule (option_map (λ text. text.now) value.entry) seq }
 {

@@ -1,4 +1,5 @@
-//! Pieces of XML documents. Each call appends its whole piece and returns Ok unless allocation fails.
+//! Pieces of XML documents. Each call appends its whole piece and returns Ok unless allocation
+//! fails.
 ghost use Rattle.std.specs.Prelude.{◌≡◌, ◌++◌, OnOk, decimal};
 ghost use Rattle.wf_wms.specs.Xml.{escape, escape_byte};
 

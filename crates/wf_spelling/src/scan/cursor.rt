@@ -7,7 +7,8 @@ ghost use Rattle.wf_spelling.specs.Scan.{IsAt, Scans};
 use crate::line::quote_for;
 use std::alloc::Global;
 
-/// A canonical text while it is scanned, piece by piece. That a piece doesn't match is remembered, so only the end is to be tested.
+/// A canonical text while it is scanned, piece by piece. That a piece doesn't match is remembered,
+/// so only the end is to be tested.
 #[derive(Drop)]
 pub struct Cursor<'a> {
     alloc: Global,
@@ -94,8 +95,8 @@ impl<'a> Cursor<'a> {
         }
     }
 
-    /// Goes past a text in its quotes, and returns the text; `None` unless one is ahead, in the quotes that it has in a canonical
-    /// text.
+    /// Goes past a text in its quotes, and returns the text; `None` unless one is ahead, in the
+    /// quotes that it has in a canonical text.
     pub fn take_quoted(&mut self) -> Option<&'a [u8]>
         ensures { IfSome result (λ text. Scans self.old (quoted text.now) self.new) }
     {

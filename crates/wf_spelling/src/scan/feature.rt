@@ -68,7 +68,8 @@ pub fn scan_feature(cursor: &mut Cursor<'_>) -> Option<Feature>
     ensures { IfSome result (λ feature. Scans cursor.old (text_of (feature_lines feature))
         cursor.new) }
 {
-    // A map is read in the time of its features, so their lines are compared in pieces of at most eight bytes: each is a comparison.
+    // A map is read in the time of its features, so their lines are compared in pieces of at most
+    // eight bytes: each is a comparison.
     cursor.take(b"FEATURE\n");
     let items = scan_with_rare_text(cursor, "ITEMS", b"ITEMS \"\"")?;
     let Some(text) = scan_with_rare_text(cursor, "TEXT", b"TEXT \"\"") else {

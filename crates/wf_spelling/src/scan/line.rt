@@ -127,8 +127,8 @@ pub fn scan_optional_expression(
     }
 }
 
-/// Scans a line of a keyword and a text that most values lack, given the line of an empty text without its LF: one comparison does
-/// for all of it.
+/// Scans a line of a keyword and a text that most values lack, given the line of an empty text
+/// without its LF: one comparison does for all of it.
 #[inline(always)]
 pub fn scan_with_rare_text(cursor: &mut Cursor<'_>, keyword: &str, empty: &[u8]) -> Option<Text>
     requires { empty.now ++ 10 ∷ [] ≡ line (with_text keyword.now []) }

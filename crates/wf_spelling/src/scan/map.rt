@@ -107,7 +107,8 @@ fn scan_heading(cursor: &mut Cursor<'_>) -> Option<MapDef>
     ))
 }
 
-/// Appends a layer, unless its name is repeated, there is no room for its features and points, or allocation fails.
+/// Appends a layer, unless its name is repeated, there is no room for its features and points, or
+/// allocation fails.
 fn push_layer(layers: &mut Layers, read: LayerRead) -> bool
     requires room { length layers.old < most_layers }
     requires counted { read.points ≡ sum_by points_of_feature read.layer.features }
@@ -157,7 +158,8 @@ fn scan_layers(cursor: &mut Cursor<'_>) -> Option<Layers>
     Some(layers)
 }
 
-/// The map, without the memory that it doesn't need: a list of layers has room for nine at first, and most maps have fewer.
+/// The map, without the memory that it doesn't need: a list of layers has room for nine at first,
+/// and most maps have fewer.
 fn fit(map: MapDef) -> MapDef
     ensures { result ≡ map }
 {
@@ -182,8 +184,8 @@ fn scan_map(cursor: &mut Cursor<'_>) -> Option<MapDef>
     }
 }
 
-/// The map whose canonical text these bytes are. `None` if they are no canonical text, and where the general reader has to decide:
-/// if allocation fails, for one.
+/// The map whose canonical text these bytes are. `None` if they are no canonical text, and where
+/// the general reader has to decide: if allocation fails, for one.
 pub fn scan_text(alloc: Global, bytes: &[u8]) -> Option<MapDef>
     ensures value { IfSome result (λ map. canon map ≡ bytes.now) }
     ensures within { IfSome result IsWithinLimits }

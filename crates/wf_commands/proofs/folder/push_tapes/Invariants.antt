@@ -1,4 +1,5 @@
--- What is appended so far is the listings of the tapes before this one that are there, and the check has taken them.
+-- What is appended so far is the listings of the tapes before this one that are there, and the
+-- check has taken them.
 use Rattle.std.specs.String.{string_bytes}
 use Rattle.wf_commands.specs.Folder.{AreTakenUpTo}
 use Rattle.wf_commands.proofs.folder.push_tapes.Given as goal

@@ -1,4 +1,5 @@
--- A completed step sends few messages; after an error the node is unchanged, or halted, or the input is lost.
+-- A completed step sends few messages; after an error the node is unchanged, or halted, or the
+-- input is lost.
 use Rattle.wf_delivery.proofs.Common.{any_sturdy}
 use Rattle.wf_node.specs.Input.{view}
 use Rattle.wf_delivery.proofs.Deliveries.{any_answered, any_cut, any_rejected, any_short}

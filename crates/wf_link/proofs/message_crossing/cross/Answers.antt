@@ -1,4 +1,5 @@
--- The bytes that came out are as long as the encoding; where they aren't the encoding of one message, that is why it is lost.
+-- The bytes that came out are as long as the encoding; where they aren't the encoding of one
+-- message, that is why it is lost.
 use Rattle.std.proofs.Common.{◌∙◌, [], ◌∷◌, ap, inr, length, refl}
 use Rattle.std.proofs.lemmas.Result.{IfOk-weaker, on_err_weaker}
 use Rattle.wf_codec.specs.Message.{view}

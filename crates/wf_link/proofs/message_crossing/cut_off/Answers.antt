@@ -1,4 +1,5 @@
--- The piece of the encoding is its front; where as many bytes came out that begin with a message, that is why it is lost.
+-- The piece of the encoding is its front; where as many bytes came out that begin with a message,
+-- that is why it is lost.
 use Rattle.std.proofs.Common.{◌∙◌, ℕ, List, [], ap, inr, length, refl, subst}
 use Rattle.std.proofs.lemmas.Result.{on_err_weaker, on_ok_weaker}
 use Rattle.std.specs.Io.KnownBytes.{Appends}

@@ -1,4 +1,5 @@
--- The first pieces are none. After an error a prefix of the next piece is written behind those before, and its cause is the piece's.
+-- The first pieces are none. After an error a prefix of the next piece is written behind those
+-- before, and its cause is the piece's.
 use Rattle.std.proofs.Common.{◌+◌, ◌≡◌, ◌∙◌, List, ℕ, ap, arith, length, subst, sym}
 use Rattle.std.proofs.lemmas.List.{length-append}
 use Rattle.std.specs.Io.KnownBytes.{Appends}

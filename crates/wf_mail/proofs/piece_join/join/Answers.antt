@@ -1,4 +1,5 @@
--- The bytes moved behind the rest leave it in front; the message that begins in it ends in the piece.
+-- The bytes moved behind the rest leave it in front; the message that begins in it ends in the
+-- piece.
 use Rattle.std.proofs.Common.{rules, ◌≡◌, ◌++◌, ◌-◌, ◌<◌, ◌≤◌, List, ℕ, map, drop, take, length, sym, ap, subst, ◌∙◌, arith}
 use Rattle.wf_codec.specs.Message.{view}
 use Rattle.wf_codec.specs.Encoding.{header_length}

@@ -1,5 +1,5 @@
--- The hub's process, at whatever end, is a later moment of the one that it began with, what it heard is in the folder, and one whose folder
--- joins has only learned.
+-- The hub's process, at whatever end, is a later moment of the one that it began with, what it
+-- heard is in the folder, and one whose folder joins has only learned.
 use Rattle.std.proofs.Common.{List, subst, sym}
 use Rattle.wf_loop.specs.Hub.{IsHeardFirst}
 use Rattle.wf_node_command.proofs.Served.{lived_on}

@@ -1,4 +1,5 @@
--- Each order is performed on the farm that the ones before left, and its text is written after theirs.
+-- Each order is performed on the farm that the ones before left, and its text is written after
+-- theirs.
 use Rattle.std.proofs.Common.{◌∙◌, refl}
 use Rattle.std.specs.String.{string_bytes}
 use Rattle.wf_play.proofs.PlayEnd.{breaks_there, ends_there}

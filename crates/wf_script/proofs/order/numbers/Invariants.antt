@@ -1,4 +1,5 @@
--- Each word leaves one word less, and the numbers so far come before those of the words that are left.
+-- Each word leaves one word less, and the numbers so far come before those of the words that are
+-- left.
 use Rattle.std.proofs.Common.{◌≡◌, length}
 use Rattle.wf_script.specs.Orders.{numbers}
 use Rattle.wf_script.proofs.NumberList.{with_numbers}

@@ -1,5 +1,5 @@
--- A request that only reads leaves the farm as it is, and the node at the index runs, so it is there; a publish is an exchange. Without a
--- request the nodes stay as they are.
+-- A request that only reads leaves the farm as it is, and the node at the index runs, so it is
+-- there; a publish is an exchange. Without a request the nodes stay as they are.
 use Rattle.std.proofs.Common.{◌∙◌, ap, sym, subst}
 use Rattle.std.specs.Option.{option_copied}
 use Rattle.wf_delivery.proofs.OneRun.{nothing_is_reachable}

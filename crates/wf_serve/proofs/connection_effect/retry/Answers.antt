@@ -1,4 +1,5 @@
--- If the proposal runs, the node is asked and its messages are delivered; otherwise nothing happens.
+-- If the proposal runs, the node is asked and its messages are delivered; otherwise nothing
+-- happens.
 use Rattle.std.proofs.Common.{refl, inl, inr}
 use Rattle.wf_delivery.proofs.OneRun.{nothing_is_reachable}
 use Rattle.wf_farm.specs.Nodes.{nodes_in}

@@ -1,4 +1,5 @@
--- This many connections were served, events of the model led the nodes on, they all run, and each cache is its node's, with its room.
+-- This many connections were served, events of the model led the nodes on, they all run, and each
+-- cache is its node's, with its room.
 use Rattle.std.proofs.Common.{length}
 use Rattle.wf_delivery.specs.Reachability.{AreReachableFrom}
 use Rattle.wf_farm.specs.Nodes.{AllRun, nodes_in}

@@ -1,4 +1,5 @@
--- Without a connection nothing happens. The effect of one is that of serving it, whatever was received on it.
+-- Without a connection nothing happens. The effect of one is that of serving it, whatever was
+-- received on it.
 use Rattle.std.proofs.Common.{refl, inl, inr}
 use Rattle.wf_delivery.proofs.OneRun.{nothing_is_reachable}
 use Rattle.wf_farm.specs.Nodes.{nodes_in}

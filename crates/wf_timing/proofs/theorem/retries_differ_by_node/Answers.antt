@@ -1,5 +1,5 @@
--- After equally many tries two nodes' waits are at least as far apart as their first ones: doubling keeps that, and so do limits that are as
--- far apart.
+-- After equally many tries two nodes' waits are at least as far apart as their first ones: doubling
+-- keeps that, and so do limits that are as far apart.
 use Rattle.std.proofs.Common.{ℕ, zero, suc, ◌+◌, ◌≤◌, ◌<◌, arith}
 use Rattle.wf_timing.specs.Waits.{RetriesDifferByNode, doubled, first_retry, longest_retry, wait_after}
 use Rattle.wf_timing.proofs.theorem.retries_differ_by_node.Goals as goal

@@ -1,4 +1,5 @@
--- The message of a delivery that has an input was sent, and what the carrier brings is that message.
+-- The message of a delivery that has an input was sent, and what the carrier brings is that
+-- message.
 use Rattle.std.proofs.Common.{◌≡◌, ◌∙◌, List, length, map, is_some, true, None, Some, refl, slice_get, sym, ap, subst}
 use Rattle.wf_farm.proofs.Common.{ltb-false, ltb-true, slice_get_past, slice_get_read, Message, numbered, input_of}
 use Rattle.wf_codec.specs.Message.{view}

@@ -1,4 +1,5 @@
--- Why a node doesn't take the step; otherwise it runs, the input is there, and the table doesn't reject it.
+-- Why a node doesn't take the step; otherwise it runs, the input is there, and the table doesn't
+-- reject it.
 use Rattle.std.proofs.Common.{◌≡◌, ◌∙◌, List, length, map, slice_get, None, Some, refl, sym, ap, subst}
 use Rattle.wf_farm.proofs.Common.{ltb-false, ltb-true, slice_get_past, slice_get_read, numbered, input_of, MemoryHost, IsIdle}
 use Rattle.wf_codec.specs.Message.{view as view_message}

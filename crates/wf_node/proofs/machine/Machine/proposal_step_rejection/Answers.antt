@@ -1,5 +1,5 @@
--- A proposal would be rejected while one is running, then if the last sequence is published, then as the proposer would reject
--- it.
+-- A proposal would be rejected while one is running, then if the last sequence is published, then
+-- as the proposer would reject it.
 use Rattle.std.proofs.Common.{length, sym, ap, ◌∙◌}
 use Rattle.std.proofs.lemmas.Option.{none-some}
 use Rattle.wf_model.specs.Table.{Busy, SequenceFull, reject_proposal}

@@ -1,4 +1,5 @@
--- A proposal is rejected while one is running, then if the last sequence is published, then as the proposer rejects it.
+-- A proposal is rejected while one is running, then if the last sequence is published, then as the
+-- proposer rejects it.
 use Rattle.std.proofs.Common.{length, Err, refl, sym, subst, ap, ◌∙◌}
 use Rattle.wf_def.specs.Definition.{Definition}
 use Rattle.wf_model.specs.Table.{Propose, Transition, Busy, SequenceFull}

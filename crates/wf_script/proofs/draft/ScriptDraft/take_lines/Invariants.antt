@@ -1,5 +1,5 @@
--- What the lines that are left mean after the maps and orders so far stays what all lines mean. Each line gives one order at
--- most, and no line is returned twice.
+-- What the lines that are left mean after the maps and orders so far stays what all lines mean.
+-- Each line gives one order at most, and no line is returned twice.
 use Rattle.std.proofs.Common.{◌≡◌, ◌≤◌, ◌+◌, None, length}
 use Rattle.wf_script.specs.Lines.{total}
 use Rattle.wf_script.specs.Text.{on_from, state}
