@@ -1,10 +1,10 @@
 //! Parses the command line.
-ghost use Rattle.std.specs.Prelude.{◌≡◌, ◌∷◌, [], ℕ, codes, IfErr, IfNone, IfOk, IfSome, Option, false, map};
+ghost use Rattle.std.specs.Prelude.{◌≡◌, ◌∷◌, [], ℕ, IfErr, IfNone, IfOk, IfSome, Option, false, map, option_map};
 ghost use Rattle.clap.specs.Simple.{app_of, shape_of, subcommand_of, subcommand_rows_of};
 ghost use Rattle.clap.specs.Values.{kind_of};
 ghost use Rattle.clap.specs.Walk.{first_of, rule_of};
 ghost use Rattle.clap.specs.declared.builder.command.Command.TheViews.{out-Command};
-ghost use Rattle.wf_line.specs.CommandLine.{Asks, HasSubcommands, IsCacheOf, IsCapsOf, IsDrawOf, IsNumberOf, IsOfShape, IsLineRejection, IsServeOf, IsServiceOf, IsTapeOption, IsWhyLineRejected, PlainCanonIsAsked, PlainCapsIsAsked, PlainDrawIsAsked, PlainRunIsAsked, PlainTapeIsAsked, PlainWireIsAsked, program, caps_shape, draw_shape, canon_shape, run_shape, wire_shape, tape_shape, required_serve_shape, serve_shape, rows_in, is_set, IsMapOption, map_rule, log_rule, sequence_rule, query_rule, file_rule, number_rule, nodes_rule, port_rule, requests_rule, cache_rule, state_rule, PlainCheckIsAsked, JsonCheckIsAsked, check_shape, format_rule, IsCheckAsked, format_by};
+ghost use Rattle.wf_line.specs.CommandLine.{Asks, HasSubcommands, IsCacheBy, IsCapsOf, IsDrawOf, IsNumberOf, IsOfShape, IsLineRejection, IsServeOf, IsServiceOf, IsTapeOption, IsWhyLineRejected, PlainCanonIsAsked, PlainCapsIsAsked, PlainDrawIsAsked, PlainRunIsAsked, PlainTapeIsAsked, PlainWireIsAsked, program, caps_shape, draw_shape, canon_shape, run_shape, wire_shape, tape_shape, required_serve_shape, serve_shape, rows_in, is_set, IsMapBy, map_rule, log_rule, sequence_rule, query_rule, file_rule, number_rule, nodes_rule, port_rule, requests_rule, cache_rule, state_rule, PlainCheckIsAsked, JsonCheckIsAsked, check_shape, format_rule, IsCheckAsked, format_by};
 ghost use Rattle.wf_line.specs.Line.{IsInRange, IsNumber, SpellsSequence};
 ghost use Rattle.wf_line.specs.declared.command_line.Line.{Line};
 ghost use Rattle.wf_service.specs.declared.service.Service.{Service};
@@ -458,34 +458,32 @@ fn sequence(word: &str) -> Option<u16>
 }
 
 // The `caps` line of the parsed arguments.
-#[tactic(auto, using(crate::proofs::Named::word_in_row))]
 fn caps<'a>(found: &ArgMatches<'a>) -> Option<Line<'a>>
     ensures some { IfSome result (IsCapsOf (rows_in found.now)) }
     ensures none { IfNone result ((line : Line) → ¬ (IsCapsOf (rows_in found.now) line)) }
 {
-    let word = found.get_str("SEQ")?;
-    let query = found.get_str("QUERY")?;
+    let word = word_of(found, "SEQ")?;
+    let query = word_of(found, "QUERY")?;
     let seq = sequence(word)?;
     Some(Line::Caps { seq, query })
 }
 
 // The `draw` line of the parsed arguments.
-#[tactic(auto, using(crate::proofs::Named::word_in_row))]
 fn draw<'a>(found: &ArgMatches<'a>) -> Option<Line<'a>>
     ensures some { IfSome result (IsDrawOf (rows_in found.now)) }
     ensures none { IfNone result ((line : Line) → ¬ (IsDrawOf (rows_in found.now) line)) }
 {
-    let word = found.get_str("QUERY")?;
+    let word = word_of(found, "QUERY")?;
     Some(Line::Draw { query: word })
 }
 
-// The sequence of the map that `tape` is to write, by the parsed arguments.
-#[tactic(auto, using(crate::proofs::Named::word_in_row))]
-fn map<'a>(found: &ArgMatches<'a>) -> Option<Option<u16>>
-    ensures some { IfSome result (IsMapOption (rows_in found.now)) }
-    ensures none { IfNone result ((map : Option ℕ) → ¬ (IsMapOption (rows_in found.now) map)) }
+// The sequence of the map that `tape` is to write, by the argument if there is one.
+fn map_by(word: Option<&str>) -> Option<Option<u16>>
+    ensures some { IfSome result (IsMapBy (option_map (λ s. s.now) word.entry)) }
+    ensures none { IfNone result
+        ((map : Option ℕ) → ¬ (IsMapBy (option_map (λ s. s.now) word.entry) map)) }
 {
-    match found.get_str("map") {
+    match word {
         Some(word) => {
             let number = number(word, 1, 4_096)?;
             Some(Some(number as u16))
@@ -494,12 +492,11 @@ fn map<'a>(found: &ArgMatches<'a>) -> Option<Option<u16>>
     }
 }
 
-// The format of a report, by the parsed arguments.
-#[tactic(auto, using(crate::proofs::Named::word_in_row))]
-fn format<'a>(found: &ArgMatches<'a>) -> Option<Format>
-    ensures { result ≡ format_by (first_of (codes "format") (rows_in found.now)) }
+// The format of a report, by the argument if there is one.
+fn format_by(word: Option<&str>) -> Option<Format>
+    ensures { result ≡ format_by (option_map (λ s. s.now) word.entry) }
 {
-    match found.get_str("format") {
+    match word {
         None => Some(Format::Text),
         Some(word) if word == "text" => Some(Format::Text),
         Some(word) if word == "json" => Some(Format::Json),
@@ -512,19 +509,26 @@ fn check<'a>(found: &ArgMatches<'a>) -> Option<Line<'a>>
     ensures some { IfSome result (IsCheckAsked (rows_in found.now)) }
     ensures none { IfNone result ((line : Line) → ¬ (IsCheckAsked (rows_in found.now) line)) }
 {
-    let format = format(found)?;
+    let format = format_by(word_of(found, "format"))?;
     Some(Line::Check { format })
 }
 
 // The `tape` line of the parsed arguments.
-#[tactic(auto, using(crate::proofs::Named::word_in_row))]
 fn tape<'a>(found: &ArgMatches<'a>) -> Option<Line<'a>>
     ensures some { IfSome result (IsTapeOption (rows_in found.now)) }
     ensures none { IfNone result ((line : Line) → ¬ (IsTapeOption (rows_in found.now) line)) }
 {
-    let word = found.get_str("FILE")?;
-    let map = map(found)?;
+    let word = word_of(found, "FILE")?;
+    let map = map_by(word_of(found, "map"))?;
     Some(Line::Tape { file: word, map })
+}
+
+// The text parsed for an argument.
+#[tactic(auto, using(crate::proofs::Named::word_in_row))]
+pub(crate) fn word_of<'a>(found: &ArgMatches<'a>, id: &str) -> Option<&'a str>
+    ensures { first_of id.now (rows_in found.now) ≡ option_map (λ s. s.now) result }
+{
+    found.get_str(id)
 }
 
 // The number in least..=most that an argument spells.
@@ -539,41 +543,45 @@ pub(crate) fn number(word: &str, least: u32, most: u32) -> Option<u32>
 }
 
 // The number parsed for an option.
-#[tactic(auto, using(crate::proofs::Named::word_in_row))]
 pub(crate) fn number_of<'a>(found: &ArgMatches<'a>, id: &str, least: u32, most: u32) -> Option<u32>
     ensures some { IfSome result (IsNumberOf (rows_in found.now) id.now least most) }
     ensures none { IfNone result
         ((number : ℕ) → ¬ (IsNumberOf (rows_in found.now) id.now least most number)) }
 {
-    let word = found.get_str(id)?;
+    let word = word_of(found, id)?;
     number(word, least, most)
 }
 
-// The number of pictures to keep, by the parsed arguments.
-#[tactic(auto, using(crate::proofs::Named::word_in_row))]
-fn cache<'a>(found: &ArgMatches<'a>) -> Option<u32>
-    ensures some { IfSome result (IsCacheOf (rows_in found.now)) }
-    ensures none { IfNone result ((cached : ℕ) → ¬ (IsCacheOf (rows_in found.now) cached)) }
+// The number of pictures to keep, by the argument if there is one.
+fn cache_by(word: Option<&str>) -> Option<u32>
+    ensures some { IfSome result (IsCacheBy (option_map (λ s. s.now) word.entry)) }
+    ensures none { IfNone result
+        ((cached : ℕ) → ¬ (IsCacheBy (option_map (λ s. s.now) word.entry) cached)) }
 {
-    match found.get_str("cache") {
+    match word {
         Some(word) => number(word, 1, 64),
         None => Some(DEFAULT_CACHE),
     }
 }
 
 // Whether a flag was given.
-#[tactic(auto, using(crate::proofs::Named::word_in_row))]
 pub(crate) fn is_set<'a>(found: &ArgMatches<'a>, id: &str) -> bool
     ensures { result ≡ is_set (first_of id.now (rows_in found.now)) }
 {
-    match found.get_str(id) {
+    is_true(word_of(found, id))
+}
+
+// Whether the argument of a flag says that it was given.
+fn is_true(word: Option<&str>) -> bool
+    ensures { result ≡ is_set (option_map (λ s. s.now) word.entry) }
+{
+    match word {
         Some(word) => word == "true",
         None => false,
     }
 }
 
 // What to serve, by the parsed arguments.
-#[tactic(auto, using(crate::proofs::Named::word_in_row))]
 fn service<'a>(found: &ArgMatches<'a>) -> Option<Service<'a>>
     ensures some { IfSome result (IsServiceOf (rows_in found.now)) }
     ensures none { IfNone result
@@ -582,13 +590,13 @@ fn service<'a>(found: &ArgMatches<'a>) -> Option<Service<'a>>
     let nodes = number_of(found, "nodes", 1, 64)?;
     let port = number_of(found, "port", 0, 65_535)?;
     let requests = number_of(found, "requests", 0, 1_000_000)?;
-    let cache = cache(found)?;
+    let cache = cache_by(word_of(found, "cache"))?;
     Some(Service {
         nodes: nodes as u8,
         port: port as u16,
         requests,
         cache: cache as u8,
-        state: found.get_str("state"),
+        state: word_of(found, "state"),
         log: is_set(found, "log"),
     })
 }

@@ -1,13 +1,15 @@
 //! The arguments of the commands `init`, `node` and `clear`.
-ghost use Rattle.std.specs.Prelude.{◌≡◌, ℕ, IfNone, IfOk, IfSome, codes, false};
+ghost use Rattle.std.specs.Prelude.{◌≡◌, ℕ, IfNone, IfOk, IfSome, codes, false, option_map};
 ghost use Rattle.clap.specs.Walk.{rule_of};
 ghost use Rattle.wf_line.specs.CommandLine.{IsOfShape, rows_in};
-ghost use Rattle.wf_line.specs.NodeCommandLine.{IsClearLineOf, IsInitLineOf, IsNodeLineOf, IsNumberOr, clear_shape, clients_rule, flag_rule, id_rule, init_shape, init_shape_start, init_shape_values, node_shape, node_shape_addresses, node_shape_numbers, node_shape_start, nodes_rule, text_rule};
+ghost use Rattle.wf_line.specs.NodeCommandLine.{IsClearLineOf, IsInitLineOf, IsNodeLineOf, IsNumberBy, IsNumberOr, clear_shape, clients_rule, flag_rule, id_rule, init_shape, init_shape_start, init_shape_values, node_shape, node_shape_addresses, node_shape_numbers, node_shape_start, nodes_rule, text_rule};
 ghost use Rattle.wf_line.specs.declared.node_line.ClearLine.{ClearLine};
 ghost use Rattle.wf_line.specs.declared.node_line.InitLine.{InitLine};
 ghost use Rattle.wf_line.specs.declared.node_line.NodeLine.{NodeLine};
 
-use crate::arguments::{cache_argument, is_set, log_argument, number, number_argument, number_of};
+use crate::arguments::{
+    cache_argument, is_set, log_argument, number, number_argument, number_of, word_of,
+};
 use crate::node_line::{ClearLine, InitLine, NodeLine};
 use clap::{Arg, ArgAction, ArgMatches, Command};
 use std::alloc::{AllocError, Global};
@@ -247,26 +249,33 @@ pub(crate) fn clear_command<'a>(alloc: Global) -> Result<Command<'a>, AllocError
 }
 
 // The number parsed for an option, or the one where it is absent.
-#[tactic(auto, using(crate::proofs::Named::word_in_row))]
 pub(crate) fn number_or<'a>(found: &ArgMatches<'a>, id: &str, most: u32, absent: u32) -> Option<u32>
     ensures some { IfSome result (IsNumberOr (rows_in found.now) id.now most absent) }
     ensures none { IfNone result
         ((number : ℕ) → ¬ (IsNumberOr (rows_in found.now) id.now most absent number)) }
 {
-    match found.get_str(id) {
+    number_by(word_of(found, id), most, absent)
+}
+
+// The number that an argument spells, or the one where it is absent.
+fn number_by(word: Option<&str>, most: u32, absent: u32) -> Option<u32>
+    ensures some { IfSome result (IsNumberBy (option_map (λ s. s.now) word.entry) most absent) }
+    ensures none { IfNone result
+        ((number : ℕ) → ¬ (IsNumberBy (option_map (λ s. s.now) word.entry) most absent number)) }
+{
+    match word {
         Some(word) => number(word, 1, most),
         None => Some(absent),
     }
 }
 
 // The arguments parsed for `init`.
-#[tactic(auto, using(crate::proofs::Named::word_in_row))]
 pub(crate) fn init_line<'a>(found: &ArgMatches<'a>) -> Option<InitLine<'a>>
     ensures some { IfSome result (IsInitLineOf (rows_in found.now)) }
     ensures none { IfNone result ((line : InitLine) → ¬ (IsInitLineOf (rows_in found.now) line)) }
 {
-    let state = found.get_str("state")?;
-    let farm = found.get_str("farm")?;
+    let state = word_of(found, "state")?;
+    let farm = word_of(found, "farm")?;
     let id = number_of(found, "id", 0, 63)?;
     let nodes = number_of(found, "nodes", 1, 64)?;
     Some(InitLine {
@@ -274,29 +283,28 @@ pub(crate) fn init_line<'a>(found: &ArgMatches<'a>) -> Option<InitLine<'a>>
         farm,
         id: id as u8,
         nodes: nodes as u8,
-        from: found.get_str("from"),
+        from: word_of(found, "from"),
         replaces: is_set(found, "replace"),
     })
 }
 
 // The arguments parsed for `node`.
-#[tactic(auto, using(crate::proofs::Named::word_in_row))]
 pub(crate) fn node_line<'a>(found: &ArgMatches<'a>) -> Option<NodeLine<'a>>
     ensures some { IfSome result (IsNodeLineOf (rows_in found.now)) }
     ensures none { IfNone result ((line : NodeLine) → ¬ (IsNodeLineOf (rows_in found.now) line)) }
 {
-    let state = found.get_str("state")?;
-    let peers = found.get_str("peers")?;
-    let http = found.get_str("http")?;
+    let state = word_of(found, "state")?;
+    let peers = word_of(found, "peers")?;
+    let http = word_of(found, "http")?;
     let cache = number_or(found, "cache", 64, DEFAULT_CACHE)?;
     let clients = number_or(found, "clients", 1_024, DEFAULT_CLIENTS)?;
     Some(NodeLine {
         state,
         peers,
         http,
-        listen: found.get_str("listen"),
-        admin: found.get_str("admin"),
-        readers: found.get_str("readers"),
+        listen: word_of(found, "listen"),
+        admin: word_of(found, "admin"),
+        readers: word_of(found, "readers"),
         cache: cache as u8,
         clients: clients as u16,
         log: is_set(found, "log"),
@@ -305,11 +313,10 @@ pub(crate) fn node_line<'a>(found: &ArgMatches<'a>) -> Option<NodeLine<'a>>
 }
 
 // The arguments parsed for `clear`.
-#[tactic(auto, using(crate::proofs::Named::word_in_row))]
 pub(crate) fn clear_line<'a>(found: &ArgMatches<'a>) -> Option<ClearLine<'a>>
     ensures some { IfSome result (IsClearLineOf (rows_in found.now)) }
     ensures none { IfNone result ((line : ClearLine) → ¬ (IsClearLineOf (rows_in found.now) line)) }
 {
-    let state = found.get_str("state")?;
+    let state = word_of(found, "state")?;
     Some(ClearLine { state })
 }

@@ -4,7 +4,7 @@ ghost use Rattle.wf_line.specs.CommandLine.{IsOfShape, rows_in};
 ghost use Rattle.wf_line.specs.ReplicaCommandLine.{IsReplicaLineOf, replica_shape, replica_shape_addresses, replica_shape_start};
 ghost use Rattle.wf_line.specs.declared.replica_line.ReplicaLine.{ReplicaLine};
 
-use crate::arguments::{cache_argument, is_set, log_argument};
+use crate::arguments::{cache_argument, is_set, log_argument, word_of};
 use crate::node_arguments::{DEFAULT_CACHE, number_or, option, readers_argument};
 use crate::replica_line::ReplicaLine;
 use clap::{ArgMatches, Command};
@@ -62,24 +62,23 @@ pub(crate) fn replica_arguments<'a>(alloc: Global) -> Result<Command<'a>, AllocE
 }
 
 // The arguments parsed for `replica`.
-#[tactic(auto, using(crate::proofs::Named::word_in_row))]
 pub(crate) fn replica_line<'a>(found: &ArgMatches<'a>) -> Option<ReplicaLine<'a>>
     ensures some { IfSome result (IsReplicaLineOf (rows_in found.now)) }
     ensures none { IfNone result
         ((line : ReplicaLine) → ¬ (IsReplicaLineOf (rows_in found.now) line)) }
 {
-    let state = found.get_str("state")?;
-    let farm = found.get_str("farm")?;
-    let peers = found.get_str("peers")?;
-    let http = found.get_str("http")?;
+    let state = word_of(found, "state")?;
+    let farm = word_of(found, "farm")?;
+    let peers = word_of(found, "peers")?;
+    let http = word_of(found, "http")?;
     let cache = number_or(found, "cache", 64, DEFAULT_CACHE)?;
     Some(ReplicaLine {
         state,
         farm,
         peers,
         http,
-        readers: found.get_str("readers"),
-        admin: found.get_str("admin"),
+        readers: word_of(found, "readers"),
+        admin: word_of(found, "admin"),
         cache: cache as u8,
         log: is_set(found, "log"),
     })

@@ -1,5 +1,7 @@
 -- No number, nothing to serve.
+use Rattle.std.proofs.Common.{subst}
 use Rattle.std.specs.Prelude.{Option, Some, None, IfNone}
+use Rattle.wf_line.specs.CommandLine.{IsCacheBy}
 use Rattle.wf_line.proofs.arguments.service.Goals as goal
 
 held : {A P : Type 0} (found : Option A) → P → IfNone found P
@@ -16,4 +18,4 @@ pub returns-in_err-requests-clause-none : goal.returns-in_err-requests-clause-no
 returns-in_err-requests-clause-none c = held c.from_residual-in_err-requests.result (λ s is. c.in_err-requests.ensures.none s.requests is.requests)
 
 pub returns-in_err-cache-clause-none : goal.returns-in_err-cache-clause-none
-returns-in_err-cache-clause-none c = held c.from_residual-in_err-cache.result (λ s is. c.in_err-cache.ensures.none s.cache is.cache)
+returns-in_err-cache-clause-none c = held c.from_residual-in_err-cache.result (λ s is. c.in_err-cache.ensures.none s.cache (subst (λ word. IsCacheBy word s.cache) c.word_of.ensures is.cache))
