@@ -48,7 +48,6 @@ CRATES = ["wf_test_map", "wf_test_farm", "wf_test_paint", "wf_test_failures"]
 # tests that make each call once, and so fail where an allocation does
 ONCE = (
     "tape::",
-    "edge::a_request_over_a_connection_is_answered",
     "serve::a_start_where_port_or_folder_is_taken_changes_no_tape",
 )
 EDGE = ("hear", "serve", "refuse", "serve_alone", "serve_published", "serve_cached")

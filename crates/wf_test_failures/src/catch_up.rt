@@ -71,22 +71,10 @@ fn is_level(rt: &impl Abort, alloc: Global, count: u16) -> bool {
     catch_up_counts(rt, alloc, count) == expected || catch_up_counts(rt, alloc, count) == expected
 }
 
+/// No map, some, and as many as there may be.
 #[test]
-fn a_node_that_missed_no_map_catches_up(rt: HostRuntime) {
-    assert!(rt; is_level(&rt, rt.alloc(), 0));
-}
-
-#[test]
-fn a_node_that_missed_40_maps_catches_up(rt: HostRuntime) {
-    assert!(rt; is_level(&rt, rt.alloc(), 40));
-}
-
-#[test]
-fn a_node_that_missed_4095_maps_catches_up(rt: HostRuntime) {
-    assert!(rt; is_level(&rt, rt.alloc(), 4095));
-}
-
-#[test]
-fn a_node_that_missed_all_4096_maps_catches_up(rt: HostRuntime) {
-    assert!(rt; is_level(&rt, rt.alloc(), 4096));
+fn a_node_that_missed_maps_catches_up(rt: HostRuntime) {
+    for count in [0, 40, 4_096] {
+        assert!(&rt; is_level(&rt, rt.alloc(), count), "{count} maps");
+    }
 }

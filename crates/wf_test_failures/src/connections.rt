@@ -10,15 +10,12 @@ use std::net::{Ipv4Addr, Net, Shutdown, SocketAddr, TcpListener, TcpStream};
 use std::process::Abort;
 use wf_codec::{Message, encode};
 use wf_farm::{Carrier, CarrierFault};
-use wf_link::{Connection, cross, cut_off};
+use wf_link::{Connection, cross};
 use wf_stream::Stream;
 
 /// The encoding of the Chosen of map `a` for slot 1 up to the text: version 2, kind 6, the length
 /// of the rest, the slot.
 const BEFORE_A: &[u8] = &[2, 6, 0, 0, 0, 166, 0, 1];
-
-/// The length of that encoding.
-const BYTES_OF_A: usize = 172;
 
 /// The beginning of the encoding whose text has 65,536 bytes.
 const BEFORE_LONGEST: &[u8] = &[2, 6, 0, 1, 0, 2, 0, 1];
@@ -124,25 +121,6 @@ fn is_crossed(
     is_same && is_passed
 }
 
-/// Whether a message that is cut off after so many bytes crosses a connection by these bytes.
-fn is_cut(
-    alloc: Global,
-    message: &Message,
-    count: usize,
-    (sender, receiver): (TcpStream, TcpStream),
-    bytes: &[u8],
-) -> bool {
-    let mut out = Stream::new(Noting::new(alloc, &sender));
-    let mut back = Stream::new(Noting::new(alloc, &receiver));
-    let is_ok = cut_off(alloc, message, count, &mut out, &mut back).is_ok();
-    let is_passed = have_passed(out.inner(), back.inner(), bytes);
-    drop(out);
-    drop(back);
-    drop(sender);
-    drop(receiver);
-    is_ok && is_passed
-}
-
 /// The Chosen of the map of a canonical text for slot 1.
 fn chosen(rt: &impl Abort, alloc: Global, text: &[u8]) -> Message {
     Message::Chosen(slot(rt, 1), map(rt, alloc, text))
@@ -169,21 +147,6 @@ fn encoding_of_a(rt: &impl Abort, alloc: Global) -> Vec<u8> {
 }
 
 #[test]
-fn the_bytes_that_cross_are_the_encoding(rt: HostRuntime) {
-    let alloc = rt.alloc();
-    let message = chosen(&rt, alloc, MAP_A);
-    let bytes = encoding_of_a(&rt, alloc);
-    assert!(&rt; bytes.len() == BYTES_OF_A);
-    let first = ends(&rt).expect(&rt, "a connection");
-    let again = ends(&rt).expect(&rt, "a connection");
-    assert!(&rt;
-        is_crossed(alloc, &message, first, &bytes) || is_crossed(alloc, &message, again, &bytes)
-    );
-    drop(message);
-    drop(bytes);
-}
-
-#[test]
 fn a_long_message_crosses_in_pieces_of_4096_bytes_at_most(rt: HostRuntime) {
     let alloc = rt.alloc();
     let text = longest_after(&rt, alloc, b"");
@@ -195,48 +158,6 @@ fn a_long_message_crosses_in_pieces_of_4096_bytes_at_most(rt: HostRuntime) {
     assert!(&rt;
         is_crossed(alloc, &message, first, &bytes) || is_crossed(alloc, &message, again, &bytes)
     );
-    drop(text);
-    drop(message);
-    drop(bytes);
-}
-
-/// A cut after so many bytes sends these, and all but the last byte where there are no more.
-#[test]
-fn a_cut_sends_exactly_its_bytes(rt: HostRuntime) {
-    let alloc = rt.alloc();
-    let message = chosen(&rt, alloc, MAP_A);
-    let bytes = encoding_of_a(&rt, alloc);
-    for count in [0, 1, 7, 8, 100, 170, 171, 172, 173, 5_000] {
-        let sent = bytes
-            .as_slice()
-            .split_at(count.min(BYTES_OF_A - 1).min(bytes.len()))
-            .0;
-        let first = ends(&rt).expect(&rt, "a connection");
-        let again = ends(&rt).expect(&rt, "a connection");
-        assert!(&rt;
-            is_cut(alloc, &message, count, first, sent)
-                || is_cut(alloc, &message, count, again, sent)
-        );
-    }
-    drop(message);
-    drop(bytes);
-}
-
-#[test]
-fn a_cut_within_a_long_message_sends_its_bytes_in_pieces(rt: HostRuntime) {
-    let alloc = rt.alloc();
-    let text = longest_after(&rt, alloc, b"");
-    let message = chosen(&rt, alloc, &text);
-    let bytes = longest_after(&rt, alloc, BEFORE_LONGEST);
-    for count in [4_095, 4_096, 4_097, 20_000] {
-        let sent = bytes.as_slice().split_at(count.min(bytes.len())).0;
-        let first = ends(&rt).expect(&rt, "a connection");
-        let again = ends(&rt).expect(&rt, "a connection");
-        assert!(&rt;
-            is_cut(alloc, &message, count, first, sent)
-                || is_cut(alloc, &message, count, again, sent)
-        );
-    }
     drop(text);
     drop(message);
     drop(bytes);
@@ -257,26 +178,6 @@ impl Net for Unbound {
 
     fn connect(&self, _addr: SocketAddr) -> io::Result<TcpStream> {
         Err(io::Error::from(ErrorKind::ConnectionRefused))
-    }
-}
-
-/// A network whose connections take nothing from the end that opened them.
-#[derive(Drop)]
-struct Mute<'r, R>(&'r R);
-
-impl<'r, R: Net<Listener = TcpListener, Stream = TcpStream>> Net for Mute<'r, R> {
-    type Stream = TcpStream;
-
-    type Listener = TcpListener;
-
-    fn bind(&self, addr: SocketAddr) -> io::Result<TcpListener> {
-        self.0.bind(addr)
-    }
-
-    fn connect(&self, addr: SocketAddr) -> io::Result<TcpStream> {
-        let stream = self.0.connect(addr)?;
-        stream.shutdown(Shutdown::Write)?;
-        Ok(stream)
     }
 }
 
@@ -339,27 +240,6 @@ fn a_message_is_lost_where_no_connection_opens(rt: HostRuntime) {
         )
     );
     drop(connection);
-    drop(message);
-}
-
-/// A cut after no byte writes nothing, and so it doesn't fail.
-#[test]
-fn a_message_is_lost_on_a_connection_that_takes_nothing(rt: HostRuntime) {
-    let alloc = rt.alloc();
-    let message = chosen(&rt, alloc, MAP_A);
-    let mute = Mute(&rt);
-    let mut connection = Connection::new(&mute);
-    assert!(&rt; is_lost(alloc, &mut connection, &message));
-    assert!(&rt; matches!(connection.cut(alloc, &message, 1), Err(CarrierFault::Lost)));
-    assert!(&rt;
-        matches!(
-            connection.cut(alloc, &message, 171),
-            Err(CarrierFault::Lost)
-        )
-    );
-    assert!(&rt; connection.cut(alloc, &message, 0).is_ok());
-    drop(connection);
-    drop(mute);
     drop(message);
 }
 

@@ -1,11 +1,9 @@
-//! Tapes in files, and journals over tapes that fail.
+//! Tapes in files.
 use crate::value::round;
-use std::alloc::Global;
 use std::fs;
-use std::io::ErrorKind;
 use std::process::Abort;
 use std::rt::Files;
-use wf_journal::{AddFault, Journal, OpenFault, Record};
+use wf_journal::{Journal, OpenFault, Record};
 use wf_tape::{FileTape, Tape, TapeFault};
 
 /// The bytes of a Tried record of round 1, and a prefix of one that is torn.
@@ -161,134 +159,4 @@ fn a_replacement_that_fails_is_counted(rt: HostRuntime) {
     fs::write(&rt, "stuck/tape", TORN).expect(&rt, "a file");
     assert!(&rt; fault_of(&rt, "stuck/tape") == Some((OpenFault::TapeFailed, 1)));
     assert!(rt; holds(&rt, "stuck/tape", TORN));
-}
-
-/// A tape in memory whose syncs fail after this many that succeed. To replace its content is one of
-/// them.
-#[derive(Drop)]
-pub struct Unsynced {
-    pub bytes: Vec<u8>,
-    pub sound: u64,
-    pub failures: u64,
-}
-
-impl Tape for Unsynced {
-    ghost use Rattle.std.specs.Prelude.{[]};
-
-    ghost durable = { ⊥ };
-
-    ghost content = { λ _. [] };
-
-    ghost images = { λ _ _. Unit {0} };
-
-    ghost failed = { λ t. t.failures };
-
-    ghost certain_is_durable = { λ no. absurd no };
-
-    ghost is_now = { λ no. absurd no };
-
-    ghost nested = { λ no. absurd no };
-
-    fn read(&mut self, alloc: Global) -> Result<Vec<u8>, TapeFault> {
-        Ok(self.bytes.to_vec(alloc)?)
-    }
-
-    fn append(&mut self, bytes: &[u8]) -> Result<(), TapeFault> {
-        self.bytes.extend_from_slice(bytes)?;
-        Ok(())
-    }
-
-    fn sync(&mut self) -> Result<(), TapeFault> {
-        if self.sound > 0 {
-            self.sound -= 1;
-            return Ok(());
-        }
-        self.failures = self.failures.saturating_add(1);
-        Err(TapeFault::Device)
-    }
-
-    fn replace(&mut self, bytes: &[u8]) -> Result<(), TapeFault> {
-        let copy = bytes.to_vec(*self.bytes.allocator())?;
-        match self.sync() {
-            Ok(()) => {
-                self.bytes = copy;
-                Ok(())
-            }
-            Err(fault) => {
-                drop(copy);
-                Err(fault)
-            }
-        }
-    }
-
-    fn failures(&self) -> u64 {
-        self.failures
-    }
-
-    fn cause(&self) -> Option<ErrorKind> {
-        None
-    }
-
-    fn is_doubtful(&self) -> bool {
-        false
-    }
-}
-
-#[test]
-fn a_journal_is_halted_where_a_sync_fails(rt: HostRuntime) {
-    let tape = Unsynced {
-        bytes: Vec::new(rt.alloc()),
-        sound: 1,
-        failures: 0,
-    };
-    match Journal::open(rt.alloc(), tape) {
-        Ok((journal, records)) => {
-            drop(records);
-            let refused = after_add(&rt, rt.alloc(), journal);
-            assert!(&rt; refused == (Some(AddFault::TapeFailed), true, 1));
-        }
-        Err(refused) => {
-            drop(refused);
-            assert!(&rt; false);
-        }
-    }
-}
-
-/// Adds a record to a journal that isn't halted: why it can't be added, whether the journal is
-/// halted then, and the number of its tape's failures.
-fn after_add(
-    rt: &impl Abort,
-    alloc: Global,
-    mut journal: Journal<Unsynced>,
-) -> (Option<AddFault>, bool, u64) {
-    assert!(rt; !journal.is_halted());
-    let tried = Record::Tried(round(rt, 1));
-    let added = journal.add(alloc, &tried);
-    drop(tried);
-    let halted = journal.is_halted();
-    let tape = journal.close();
-    let failures = tape.failures();
-    drop(tape);
-    (added.err(), halted, failures)
-}
-
-#[test]
-fn a_journal_is_not_opened_where_a_sync_fails(rt: HostRuntime) {
-    let tape = Unsynced {
-        bytes: TRIED.to_vec(rt.alloc()).expect(&rt, "memory"),
-        sound: 0,
-        failures: 0,
-    };
-    match Journal::open(rt.alloc(), tape) {
-        Ok(opened) => {
-            drop(opened);
-            assert!(&rt; false);
-        }
-        Err((tape, fault)) => {
-            let failures = tape.failures();
-            drop(tape);
-            assert_eq!(&rt; fault, OpenFault::TapeFailed);
-            assert_eq!(&rt; failures, 1);
-        }
-    }
 }

@@ -1,13 +1,9 @@
 //! The nodes, slots, rounds, ballots and definitions of the tests. What met an allocation failure
 //! is repeated once.
-ghost use Rattle.std.specs.Prelude.{◌<◌, ◌≤◌};
-
 use std::alloc::Global;
 use std::process::Abort;
 use wf_ballot::{Ballot, NodeId, Round, Slot};
 use wf_canon::Canon;
-use wf_node::Node;
-use wf_tape::Tape;
 
 /// The canonical text of the map that is named `a`, from 0 0 to 4 4 degrees.
 pub const MAP_A: &[u8] =
@@ -16,24 +12,6 @@ pub const MAP_A: &[u8] =
 /// The node of this number.
 fn node(rt: &impl Abort, number: u8) -> NodeId {
     NodeId::new(number).expect(rt, "a node")
-}
-
-/// Node 0 of so many, on this tape.
-pub fn first_node<T: Tape + Drop>(rt: &impl Abort, alloc: Global, tape: T, of: u8) -> Node<T>
-    requires some { 0 < of }
-    requires most { of ≤ 64 }
-{
-    let id = NodeId::new(0).expect(rt, "a node");
-    match Node::open(alloc, tape, id, of) {
-        Ok(node) => node,
-        Err((tape, _)) => match Node::open(alloc, tape, id, of) {
-            Ok(node) => node,
-            Err(refused) => {
-                drop(refused);
-                panic!(rt; "no node opens")
-            }
-        },
-    }
 }
 
 /// The slot of this number.
