@@ -21,9 +21,11 @@ from farmkit.command import add_program, parser
 from farmkit.repository import TOP, built
 
 TABLE = TOP / "crates" / "wf_test_simulation" / "stdin"
-WEIGHTS = ("alone", "one-way", "kills", "cuts", "disks")
-# (no losses: of a connection that is dead in silence only silence tells, for longer than a play gives a farm)
-PER_MILLION = {"resets": 3_000, "refusals": 100_000, "silences": 100_000, "false-events": 50_000}
+WEIGHTS = ("alone", "one-way", "kills", "cuts", "disks", "jumps")
+# (no older tape: after faults it may be what the node has stored, and then nothing is wrong)
+RELAPSES = ("lost", "gone", "replaced")
+PER_MILLION = {"resets": 3_000, "losses": 1_000, "refusals": 100_000, "silences": 100_000,
+               "false-events": 50_000}
 FIRST_SEED = 1_000_000
 
 
@@ -58,7 +60,8 @@ def plan_of(seed: int) -> Plan:
     kinds = {kind: draw.randint(1, 10) for kind in WEIGHTS if draw.random() < 0.6}
     kinds |= {kind: draw.randint(1, most) for kind, most in PER_MILLION.items() if draw.random() < 0.5}
     kinds |= {"delay": draw.choice((1, 10, 40, 200)), "pause": draw.choice((300, 1_500, 4_000))}
-    return Plan(draw.choice((1, 2, 3, 3, 3, 4, 5, 5, 7)), draw.choice((5, 10, 20, 40)), kinds)
+    plan = Plan(draw.choice((1, 2, 3, 3, 3, 4, 5, 5, 7)), draw.choice((5, 10, 20, 40)), kinds)
+    return plan.having(**{draw.choice(RELAPSES): 1}) if plan.nodes > 2 and draw.random() < 0.2 else plan
 
 
 def case_of(seed: int, plan: Plan) -> str:
@@ -86,18 +89,29 @@ def play(program: str, seed: int, plan: Plan) -> Played:
     return Played([f"the program ended with status {ran.returncode}", ran.stdout, ran.stderr[-2_000:]], {})
 
 
-def fewer(plan: Plan) -> list[Plan]:
-    """Plans with a kind of fault, nodes or seconds left out, those that leave out most first."""
-    return [*(plan.without(kind) for kind in [*WEIGHTS, *PER_MILLION] if kind in plan.kinds),
-            *(replace(plan, nodes=nodes) for nodes in (1, 2, 3, 4, 5) if nodes < plan.nodes),
-            *(replace(plan, seconds=seconds) for seconds in (2, 5, 10, 20) if seconds < plan.seconds)]
+def least(low: int, high: int, holds: Callable[[int], bool]) -> int:
+    """A number at which it holds, if it does at the greater one, and not at the number before."""
+    while low < high:
+        middle = (low + high) // 2
+        low, high = (low, middle) if holds(middle) else (middle + 1, high)
+    return high
 
 
 def smaller(seed: int, plan: Plan, violates: Callable[[int, Plan], bool]) -> Plan:
-    """A plan that violates too, of which nothing more can be left out."""
-    for other in fewer(plan):
-        if violates(seed, other):
-            return smaller(seed, other, violates)
+    """A plan of fewer faults that violates too."""
+    drawn = 2_000 * plan.seconds
+    last = least(0, drawn, lambda number: violates(seed, plan.having(last=number)))
+    plan = plan.having(last=last)
+    first = last + 1 - least(0, last, lambda number: violates(seed, plan.having(first=last + 1 - number)))
+    plan = plan.having(first=first)
+    for kind in [*WEIGHTS, *PER_MILLION]:
+        fewer = plan.having(**{f"no-{kind}": 1}) if kind in WEIGHTS else plan.without(kind)
+        if kind in plan.kinds and violates(seed, fewer):
+            plan = fewer
+    for seconds in (1, 2, 5, 10, 20):
+        shorter = replace(plan, seconds=seconds)
+        if seconds < plan.seconds and violates(seed, shorter):
+            return shorter
     return plan
 
 

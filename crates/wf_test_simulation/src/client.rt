@@ -1,17 +1,41 @@
-//! A client of a node: it publishes and asks what has become of that, or asks for capabilities.
+//! A client of a node: it publishes and asks what has become of that, or looks at maps, or is an
+//! operator or a reader of the history.
 
 use crate::dice::Dice;
-use crate::exchange::{Exchange, Stage, number_behind};
-use crate::ledger::{Ledger, NO_BYTES, digest_of};
+use crate::exchange::{Ending, Exchange, Stage, head_of, number_behind, text_of};
+use crate::ledger::{Ledger, Seen};
+use crate::names::{Port, address_at};
+use crate::requests::{
+    AGREE, BEGIN, CAPABILITIES, METRICS, READINESS, STATUS, bytes_of, picture_request,
+    publish_request, question,
+};
+use crate::scene::Scene;
 use std::alloc::{AllocError, Global};
-use std::cell::RefCell;
-use wf_simulation::World;
-
-/// How long a client waits for a response, in milliseconds.
-const PATIENCE_MILLIS: u64 = 1_500;
+use std::mem::replace;
+use std::net::SocketAddr;
+use wf_reader::{Reply, decode_reply};
 
 /// The time after which a running proposal is asked for again, in milliseconds.
 const ASKING_MILLIS: u64 = 50;
+
+/// The time after which an operator looks again whether all is healed, in milliseconds.
+const LOOKING_MILLIS: u64 = 200;
+
+/// What a client does.
+#[derive(Clone, Copy, PartialEq)]
+pub(crate) enum Role {
+    /// It publishes.
+    Publisher,
+    /// It asks for capabilities and pictures.
+    Viewer,
+    /// It asks at the operator's port whether the node is ready, and for its metrics.
+    Operator,
+    /// It asks at the readers' port for what is published.
+    Reader,
+}
+
+/// Each of them.
+pub(crate) const ROLES: [Role; 4] = [Role::Publisher, Role::Viewer, Role::Operator, Role::Reader];
 
 /// What a client wants to know.
 #[derive(Clone, Copy)]
@@ -24,47 +48,50 @@ enum Goal {
     Status { map: u32, sequence: u16 },
     /// What the capabilities are.
     Capabilities,
-}
-
-/// How often clients had which answers.
-#[derive(Clone, Copy, Default)]
-pub(crate) struct Answers {
-    /// Maps that were accepted.
-    pub(crate) accepted: u64,
-    /// Publishes that were answered otherwise.
-    pub(crate) rejected: u64,
-    /// Documents of capabilities.
-    pub(crate) documents: u64,
-    /// Requests that nothing answered.
-    pub(crate) failed: u64,
-    /// The number of the next map.
-    pub(crate) next_map: u32,
+    /// What the picture at a sequence is.
+    Picture { sequence: u16 },
+    /// Whether the node is ready.
+    Readiness,
+    /// What the metrics are.
+    Metrics,
+    /// That a folder joins in the place of that of node 0.
+    Replacement,
+    /// What is published next.
+    Reply,
 }
 
 /// A client of a node.
 #[derive(Drop)]
 pub(crate) struct Client<'a> {
     node: u8,
-    publishes: bool,
+    role: Role,
     goal: Goal,
     exchange: Option<Exchange<'a>>,
     next: u64,
     // whether it has had an answer since all faults are over
     is_served: bool,
     is_healing: bool,
+    // whether a folder joins then
+    has_joiner: bool,
+    // the last sequence that it was told of, and, of a reader, the digest up to that
+    told: u16,
+    digest: [u8; 32],
 }
 
 impl<'a> Client<'a> {
     /// A client that begins at this time.
-    pub(crate) fn new(node: u8, publishes: bool, next: u64) -> Self {
+    pub(crate) fn new(node: u8, role: Role, next: u64) -> Self {
         Client {
             node,
-            publishes,
+            role,
             goal: Goal::Nothing,
             exchange: None,
             next,
             is_served: false,
             is_healing: false,
+            has_joiner: false,
+            told: 0,
+            digest: [0; 32],
         }
     }
 
@@ -73,125 +100,176 @@ impl<'a> Client<'a> {
         self.node
     }
 
-    /// Whether it has had an answer since all faults are over: that its map is published, or the
-    /// capabilities.
+    /// Whether it has had the answer that it wants since all faults are over.
     pub(crate) fn is_served(&self) -> bool {
         self.is_served
     }
 
-    /// When it does something next. None: it waits for bytes.
+    /// When it does something next where no bytes come.
     pub(crate) fn due(&self) -> u64 {
-        match self.exchange {
-            Some(_) => u64::MAX,
-            None => self.next,
+        match &self.exchange {
+            Some(exchange) => exchange.deadline(),
+            None => if self.is_at_rest() {
+                u64::MAX
+            } else {
+                self.next
+            },
         }
     }
 
-    /// All faults are over: it begins anew, at once.
-    pub(crate) fn heal(&mut self, time: u64) {
-        self.exchange = None;
+    /// Whether it wants nothing more. An operator goes on, since a node may be suspended after it
+    /// was ready, and where a folder joins a publisher too, since that needs more maps.
+    fn is_at_rest(&self) -> bool {
+        let goes_on = match self.role {
+            Role::Operator => true,
+            Role::Publisher => self.has_joiner,
+            Role::Viewer | Role::Reader => false,
+        };
+        self.is_healing && self.is_served && !goes_on
+    }
+
+    /// All faults are over: it begins anew, at once. A folder joins then, or doesn't.
+    pub(crate) fn heal(&mut self, time: u64, has_joiner: bool) {
+        self.end();
         self.goal = Goal::Nothing;
         self.next = time;
         self.is_served = false;
         self.is_healing = true;
+        self.has_joiner = has_joiner;
+    }
+
+    /// Closes its connection, if it has one.
+    pub(crate) fn end(&mut self) {
+        drop(self.exchange.take());
     }
 
     /// Begins a request if it is time to, and goes on with one that has begun.
-    pub(crate) fn turn(
+    pub(crate) fn turn(&mut self, scene: &Scene<'a>, dice: &mut Dice, ledger: &mut Ledger) {
+        match self.exchange.take() {
+            Some(exchange) => self.go_on(exchange, scene, dice, ledger),
+            None => if self.next <= scene.time && !self.is_at_rest() {
+                self.begin(scene, dice, ledger);
+            },
+        }
+    }
+
+    /// Begins the next request.
+    fn begin(&mut self, scene: &Scene<'a>, dice: &mut Dice, ledger: &mut Ledger) {
+        self.next = scene.time.saturating_add(ASKING_MILLIS);
+        self.goal = self.next_goal(dice, ledger);
+        let (address, ending) = self.target();
+        match request_for(scene.alloc, self.node, self.goal, self.told, self.digest) {
+            Ok(request) => self.keep(Exchange::begin(scene, address, ending, request)),
+            Err(_) => ledger.cut(),
+        }
+    }
+
+    /// It has this exchange from now on.
+    fn keep(&mut self, exchange: Option<Exchange<'a>>) {
+        drop(replace(&mut self.exchange, exchange));
+    }
+
+    /// Goes on with an exchange.
+    fn go_on(
         &mut self,
-        alloc: Global,
-        world: &'a RefCell<World>,
-        host: usize,
-        time: u64,
+        exchange: Exchange<'a>,
+        scene: &Scene<'a>,
         dice: &mut Dice,
-        answers: &mut Answers,
         ledger: &mut Ledger,
-    ) -> Result<(), AllocError> {
-        let Some(mut exchange) = self.exchange.take() else {
-            if self.next <= time && !(self.is_healing && self.is_served) {
-                let request = self.request(alloc, answers)?;
-                let deadline = time.saturating_add(PATIENCE_MILLIS);
-                self.exchange = Exchange::begin(alloc, world, host, self.node, request, deadline);
-                self.next = time.saturating_add(ASKING_MILLIS);
+    ) {
+        let mut exchange = exchange;
+        match exchange.turn(scene.time) {
+            Stage::Waiting => {
+                self.keep(Some(exchange));
+                return;
             }
-            return Ok(());
-        };
-        match exchange.turn(time) {
-            Stage::Waiting => self.exchange = Some(exchange),
             Stage::Answered => {
-                self.rest(time, dice);
-                let taken = self.take(exchange.response(), time, answers, ledger);
-                drop(exchange);
-                return taken;
+                self.rest(scene.time, dice);
+                self.take(exchange.response(), scene, ledger);
             }
             Stage::Failed => {
-                drop(exchange);
-                answers.failed = answers.failed.saturating_add(1);
-                self.rest(time, dice);
-                self.give_up();
+                self.rest(scene.time, dice);
+                self.give_up(ledger);
             }
         }
-        Ok(())
+        drop(exchange);
     }
 
     /// It begins the next request later.
     fn rest(&mut self, time: u64, dice: &mut Dice) {
-        let pause = if self.is_healing {
-            ASKING_MILLIS
-        } else {
-            dice.millis(50, 1_000)
+        let pause = match (self.is_healing, self.role) {
+            (true, Role::Operator) => LOOKING_MILLIS,
+            (true, _) => ASKING_MILLIS,
+            (false, Role::Publisher) => dice.millis(10, 300),
+            (false, Role::Viewer) => dice.millis(50, 1_000),
+            (false, _) => dice.millis(500, 3_000),
         };
         self.next = time.saturating_add(pause);
     }
 
     /// Nothing answered: whether a map was accepted isn't known.
-    fn give_up(&mut self) {
+    fn give_up(&mut self, ledger: &mut Ledger) {
+        ledger.answers.failed = ledger.answers.failed.saturating_add(1);
         if let Goal::Publish { .. } = self.goal {
             self.goal = Goal::Nothing;
         }
     }
 
-    /// The next request.
-    fn request(&mut self, alloc: Global, answers: &mut Answers) -> Result<String, AllocError> {
-        if let Goal::Status { .. } = self.goal {
-            return String::from_str(alloc, "GET /status HTTP/1.1\r\nHost: farm\r\n\r\n");
+    /// Where it asks, and by what the response is known to be whole.
+    fn target(&self) -> (SocketAddr, Ending) {
+        match self.role {
+            Role::Publisher | Role::Viewer => (address_at(self.node, Port::Http), Ending::Close),
+            Role::Operator => (address_at(self.node, Port::Admin), Ending::Close),
+            Role::Reader => (address_at(self.node, Port::Readers), Ending::Length),
         }
-        if !self.publishes {
-            self.goal = Goal::Capabilities;
-            return String::from_str(
-                alloc,
-                "GET /wms?SERVICE=WMS&REQUEST=GetCapabilities HTTP/1.1\r\nHost: farm\r\n\r\n",
-            );
+    }
+
+    /// What it wants to know next.
+    fn next_goal(&self, dice: &mut Dice, ledger: &mut Ledger) -> Goal {
+        match self.role {
+            Role::Publisher => match self.goal {
+                Goal::Status { map, sequence } => Goal::Status { map, sequence },
+                _ => Goal::Publish {
+                    map: ledger.take_map(),
+                },
+            },
+            Role::Viewer => {
+                if self.told == 0 || self.is_healing || dice.below(2) == 0 {
+                    Goal::Capabilities
+                } else {
+                    Goal::Picture {
+                        sequence: self.told,
+                    }
+                }
+            }
+            Role::Operator => match (self.is_healing, self.has_joiner, dice.below(2)) {
+                (false, _, 0) => Goal::Metrics,
+                (true, true, 0) => Goal::Replacement,
+                _ => Goal::Readiness,
+            },
+            Role::Reader => Goal::Reply,
         }
-        let map = answers.next_map;
-        answers.next_map = map.saturating_add(1);
-        self.goal = Goal::Publish { map };
-        publish_request(alloc, map)
     }
 
     /// Takes a response.
-    fn take(
-        &mut self,
-        response: &[u8],
-        time: u64,
-        answers: &mut Answers,
-        ledger: &mut Ledger,
-    ) -> Result<(), AllocError> {
-        let text = str::from_utf8(response).unwrap_or("");
+    fn take(&mut self, response: &[u8], scene: &Scene<'a>, ledger: &mut Ledger) {
         match self.goal {
             Goal::Nothing => {}
-            Goal::Publish { map } => self.take_accepted(text, map, time, answers),
+            Goal::Publish { map } => self.take_accepted(response, map, scene.time, ledger),
             Goal::Status { map, sequence } => {
-                return self.take_status(text, map, sequence, time, ledger);
+                self.take_status(response, map, sequence, scene.time, ledger);
             }
-            Goal::Capabilities => return self.take_document(text, answers, ledger),
+            Goal::Capabilities => self.take_document(response, ledger),
+            Goal::Picture { sequence } => self.take_picture(response, sequence, ledger),
+            Goal::Readiness | Goal::Metrics | Goal::Replacement => self.take_page(response, ledger),
+            Goal::Reply => self.take_reply(response, scene.alloc, ledger),
         }
-        Ok(())
     }
 
     /// Takes the response to a publish.
-    fn take_accepted(&mut self, text: &str, map: u32, time: u64, answers: &mut Answers) {
-        match sequence_behind(text, "accepted for ") {
+    fn take_accepted(&mut self, response: &[u8], map: u32, time: u64, ledger: &mut Ledger) {
+        let answers = &mut ledger.answers;
+        match sequence_behind(text_of(response), "accepted for ") {
             Some(sequence) => {
                 answers.accepted = answers.accepted.saturating_add(1);
                 self.goal = Goal::Status { map, sequence };
@@ -207,57 +285,115 @@ impl<'a> Client<'a> {
     /// Takes the response that says what has become of a map.
     fn take_status(
         &mut self,
-        text: &str,
+        response: &[u8],
         map: u32,
         sequence: u16,
         time: u64,
         ledger: &mut Ledger,
-    ) -> Result<(), AllocError> {
+    ) {
+        let text = text_of(response);
         if text.contains("proposal running") {
             self.next = time.saturating_add(ASKING_MILLIS);
-            return Ok(());
+            return;
         }
         self.goal = Goal::Nothing;
         if sequence_behind(text, "proposal published ") == Some(sequence) {
             self.is_served = true;
-            return ledger.note_report(sequence, map);
+            ledger.note_report(sequence, map);
         }
-        Ok(())
     }
 
     /// Takes a document of capabilities.
-    fn take_document(
-        &mut self,
-        text: &str,
-        answers: &mut Answers,
-        ledger: &mut Ledger,
-    ) -> Result<(), AllocError> {
-        match sequence_behind(text, "updateSequence=\"") {
+    fn take_document(&mut self, response: &[u8], ledger: &mut Ledger) {
+        match sequence_behind(text_of(response), "updateSequence=\"") {
             Some(sequence) => {
-                answers.documents = answers.documents.saturating_add(1);
                 self.is_served = true;
-                let digest = digest_of(NO_BYTES, text.as_bytes());
-                ledger.note_document(self.node, sequence, digest)
+                self.told = sequence;
+                ledger.answers.documents = ledger.answers.documents.saturating_add(1);
+                ledger.note_answer(self.node, sequence, Seen::Capabilities, response);
             }
-            None => {
-                answers.rejected = answers.rejected.saturating_add(1);
-                Ok(())
+            None => ledger.answers.rejected = ledger.answers.rejected.saturating_add(1),
+        }
+    }
+
+    /// Takes the picture at a sequence.
+    fn take_picture(&mut self, response: &[u8], sequence: u16, ledger: &mut Ledger) {
+        if has_succeeded(response) {
+            ledger.answers.pictures = ledger.answers.pictures.saturating_add(1);
+            ledger.note_answer(self.node, sequence, Seen::Picture, response);
+        } else {
+            ledger.answers.rejected = ledger.answers.rejected.saturating_add(1);
+        }
+    }
+
+    /// Takes a page of the operator's port. A node that isn't ready says so.
+    fn take_page(&mut self, response: &[u8], ledger: &mut Ledger) {
+        ledger.answers.pages = ledger.answers.pages.saturating_add(1);
+        if has_succeeded(response) {
+            self.is_served = true;
+        } else if text_of(response).contains("suspended: ") {
+            self.is_served = true;
+            ledger.note_suspended(self.node);
+        }
+    }
+
+    /// Takes what is published next.
+    fn take_reply(&mut self, response: &[u8], alloc: Global, ledger: &mut Ledger) {
+        match decode_reply(alloc, response) {
+            Ok(reply) => {
+                self.take_answer(&reply, ledger);
+                drop(reply);
             }
+            Err(_) => ledger.answers.rejected = ledger.answers.rejected.saturating_add(1),
+        }
+    }
+
+    /// Takes an answer to a reader. Once it has all, it asks for what comes then.
+    fn take_answer(&mut self, reply: &Reply, ledger: &mut Ledger) {
+        let Reply::Answer(answer) = reply else {
+            ledger.answers.rejected = ledger.answers.rejected.saturating_add(1);
+            return;
+        };
+        ledger.answers.replies = ledger.answers.replies.saturating_add(1);
+        self.is_served = true;
+        let mut sequence = self.told;
+        for canon in answer.definitions() {
+            sequence = sequence.saturating_add(1);
+            ledger.note_text(self.node, sequence, canon.text());
+        }
+        if sequence == answer.published().number() {
+            self.told = sequence;
+            self.digest = answer.digest();
         }
     }
 }
 
-/// A request to publish the map of this number.
-fn publish_request(alloc: Global, map: u32) -> Result<String, AllocError> {
-    let body = format!(in alloc;
-        "MAP\nNAME \"m{map}\"\nEXTENT 0 0 4 4\nPROJECTION\n\"init=epsg:4326\"\nEND\nWEB\nMETADATA\n\"wms_title\" \"m{map}\"\n\"wms_abstract\" \"\"\n\"wms_onlineresource\" \"http://localhost/wms?\"\nEND\nEND\nEND\n"
-    )?;
-    let length = body.len();
-    let request = format!(in alloc;
-        "POST /publish HTTP/1.1\r\nHost: farm\r\nContent-Length: {length}\r\n\r\n{body}"
-    );
-    drop(body);
-    Ok(request?)
+/// The request by which a client learns what it wants to.
+fn request_for(
+    alloc: Global,
+    node: u8,
+    goal: Goal,
+    told: u16,
+    digest: [u8; 32],
+) -> Result<Vec<u8>, AllocError> {
+    match goal {
+        Goal::Nothing | Goal::Status { .. } => bytes_of(alloc, STATUS),
+        Goal::Publish { map } => publish_request(alloc, map),
+        Goal::Capabilities => bytes_of(alloc, CAPABILITIES),
+        Goal::Picture { sequence } => picture_request(alloc, sequence),
+        Goal::Readiness => bytes_of(alloc, READINESS),
+        Goal::Metrics => bytes_of(alloc, METRICS),
+        Goal::Replacement => bytes_of(alloc, if node == 0 { BEGIN } else { AGREE }),
+        Goal::Reply => question(alloc, told, digest),
+    }
+}
+
+/// Whether a response says that the request succeeded.
+fn has_succeeded(response: &[u8]) -> bool {
+    match head_of(response) {
+        Some(head) => head.starts_with("HTTP/1.1 200 "),
+        None => false,
+    }
 }
 
 /// The sequence that stands behind the first of these marks in a text.

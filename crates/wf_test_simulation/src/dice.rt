@@ -3,20 +3,17 @@
 use rand_core::utils::NextWord;
 use rand_pcg::Pcg32;
 
-/// The stream of the generator: another one than that of the network.
-const STREAM: u64 = 7;
-
-/// Numbers by chance: the same ones for the same seed.
+/// Numbers by chance: the same ones for the same seed and stream.
 #[derive(Drop)]
 pub(crate) struct Dice {
     generator: Pcg32,
 }
 
 impl Dice {
-    /// The numbers of a seed.
-    pub(crate) fn new(seed: u64) -> Self {
+    /// The numbers of a stream of a seed.
+    pub(crate) fn new(seed: u64, stream: u64) -> Self {
         Dice {
-            generator: Pcg32::new(seed, STREAM),
+            generator: Pcg32::new(seed, stream),
         }
     }
 

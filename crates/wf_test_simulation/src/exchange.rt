@@ -1,13 +1,16 @@
 //! A request of a client, and its response.
 
-use crate::names::http_of;
-use std::alloc::Global;
-use std::cell::RefCell;
-use wf_simulation::{Offline, SimulatedConnection, SimulatedNetwork, World};
+use crate::scene::Scene;
+use std::net::SocketAddr;
+use wf_reader::reply_length;
+use wf_simulation::{Offline, SimulatedConnection, SimulatedNetwork};
 use wf_sockets::{Connection, Moved, Network};
 
+/// How long a response is waited for, in milliseconds.
+const PATIENCE_MILLIS: u64 = 1_500;
+
 /// The most bytes of one read.
-const PIECE_BYTES: usize = 4_096;
+const PIECE_BYTES: usize = 1_024;
 
 /// The most reads or writes of a turn.
 const MOST_CALLS: u32 = 64;
@@ -17,39 +20,48 @@ const MOST_CALLS: u32 = 64;
 pub(crate) enum Stage {
     /// The response isn't whole.
     Waiting,
-    /// The connection has ended behind the response.
+    /// It is.
     Answered,
     /// The connection failed, or nothing came in time.
     Failed,
+}
+
+/// By what a response is known to be whole.
+#[derive(Clone, Copy)]
+pub(crate) enum Ending {
+    /// The connection ends behind it, and its head says how long it is.
+    Close,
+    /// Its first four bytes say how long it is.
+    Length,
 }
 
 /// A connection on which a request is sent, and its response read.
 #[derive(Drop)]
 pub(crate) struct Exchange<'a> {
     connection: SimulatedConnection<'a>,
-    request: String,
+    request: Vec<u8>,
     sent: usize,
     response: Vec<u8>,
+    ending: Ending,
     deadline: u64,
 }
 
 impl<'a> Exchange<'a> {
-    /// Begins a request to a node, from a host. None: no connection is free.
+    /// Begins a request to an address. None: no connection is free.
     pub(crate) fn begin(
-        alloc: Global,
-        world: &'a RefCell<World>,
-        host: usize,
-        node: u8,
-        request: String,
-        deadline: u64,
+        scene: &Scene<'a>,
+        address: SocketAddr,
+        ending: Ending,
+        request: Vec<u8>,
     ) -> Option<Exchange<'a>> {
-        match SimulatedNetwork::new(world, host).connect(&Offline, http_of(node)) {
+        match SimulatedNetwork::new(scene.world, scene.host).connect(&Offline, address) {
             Some(connection) => Some(Exchange {
                 connection,
                 request,
                 sent: 0,
-                response: Vec::new(alloc),
-                deadline,
+                response: Vec::new(scene.alloc),
+                ending,
+                deadline: scene.time.saturating_add(PATIENCE_MILLIS),
             }),
             None => {
                 drop(request);
@@ -63,6 +75,11 @@ impl<'a> Exchange<'a> {
         self.response.as_slice()
     }
 
+    /// When it fails if nothing comes.
+    pub(crate) fn deadline(&self) -> u64 {
+        self.deadline
+    }
+
     /// Writes and reads as much as can be now.
     pub(crate) fn turn(&mut self, time: u64) -> Stage {
         let written = self.write_all();
@@ -74,18 +91,6 @@ impl<'a> Exchange<'a> {
             return Stage::Failed;
         }
         stage
-    }
-
-    /// The stage at the end of the response: a node that was killed within it has sent a part.
-    fn ended(&self) -> Stage {
-        let text = str::from_utf8(self.response.as_slice()).unwrap_or("");
-        let Some((_, body)) = text.split_once("\r\n\r\n") else {
-            return Stage::Failed;
-        };
-        match number_behind(text, "Content-Length: ") {
-            Some(length) if length as usize == body.len() => Stage::Answered,
-            _ => Stage::Failed,
-        }
     }
 
     /// Writes until nothing is taken.
@@ -113,19 +118,58 @@ impl<'a> Exchange<'a> {
                         return Stage::Failed;
                     }
                 }
-                Moved::Blocked => return Stage::Waiting,
+                Moved::Blocked => return self.paused(),
                 Moved::Closed => return self.ended(),
                 Moved::Failed => return Stage::Failed,
             }
         }
         Stage::Waiting
     }
+
+    /// The stage where no more comes now.
+    fn paused(&self) -> Stage {
+        let response = self.response.as_slice();
+        match (self.ending, reply_length(response)) {
+            (Ending::Length, Ok(length)) if length <= response.len() => Stage::Answered,
+            _ => Stage::Waiting,
+        }
+    }
+
+    /// The stage at the end of the response: a node that was killed within it has sent a part.
+    fn ended(&self) -> Stage {
+        match (self.ending, length_of(self.response.as_slice())) {
+            (Ending::Close, Some(length)) if length == self.response.len() => Stage::Answered,
+            _ => Stage::Failed,
+        }
+    }
 }
 
 /// Writes what is left of a request of which so many bytes were sent.
-fn write_rest(connection: &mut SimulatedConnection<'_>, request: &str, sent: usize) -> Moved {
-    let bytes = request.as_bytes();
-    connection.write(bytes.split_at(sent.min(bytes.len())).1)
+fn write_rest(connection: &mut SimulatedConnection<'_>, request: &[u8], sent: usize) -> Moved {
+    connection.write(request.split_at(sent.min(request.len())).1)
+}
+
+/// The number of bytes of a response, by its head.
+fn length_of(response: &[u8]) -> Option<usize> {
+    let head = head_of(response)?;
+    let body = number_behind(head, "Content-Length: ")? as usize;
+    Some(head.len().saturating_add(body))
+}
+
+/// The head of a response, with the empty line behind it.
+pub(crate) fn head_of(response: &[u8]) -> Option<&str> {
+    for count in 0..response.len() {
+        let (head, _) = response.split_at(count.saturating_add(1).min(response.len()));
+        if head.ends_with(b"\r\n\r\n") {
+            return str::from_utf8(head).ok();
+        }
+    }
+    None
+}
+
+/// The text of a response; an empty one if it is none.
+pub(crate) fn text_of(response: &[u8]) -> &str {
+    str::from_utf8(response).unwrap_or("")
 }
 
 /// The number that stands behind the first of these marks in a text.

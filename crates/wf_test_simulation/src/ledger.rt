@@ -1,5 +1,6 @@
 //! What was seen of a farm, and what that violates.
 
+use crate::exchange::{number_behind, text_of};
 use std::alloc::{AllocError, Global};
 use thiserror::Error;
 use wf_ballot::Slot;
@@ -15,24 +16,42 @@ pub(crate) enum Violation {
     /// Two nodes, or one at two times, have different maps at a sequence.
     #[error("node {0} has another map at {1}")]
     TwoMaps(u8, u16),
+    /// A map is published that nobody has sent.
+    #[error("node {0} has a map at {1} that nobody published")]
+    NobodysMap(u8, u16),
     /// A node has published fewer sequences than before.
     #[error("node {0} went back from {1} to {2}")]
     WentBack(u8, u16, u16),
     /// The map that a node reported as published at a sequence isn't there.
     #[error("{0} hasn't the map {1} that was reported there")]
     OtherMap(u16, u32),
-    /// Two documents of capabilities of a sequence differ.
-    #[error("node {0} has other capabilities at {1}")]
-    TwoDocuments(u8, u16),
+    /// Two answers to a request about a sequence differ.
+    #[error("node {0} has other capabilities or another picture at {1}")]
+    TwoAnswers(u8, u16),
     /// A node didn't start, and its process ended with this status.
     #[error("node {0} didn't start: status {1}")]
     NotStarted(u8, u8),
+    /// A sound node was refused by a peer.
+    #[error("node {0} is suspended")]
+    Suspended(u8),
+    /// A node started on a folder that isn't its last one, and wasn't refused.
+    #[error("node {0} isn't refused")]
+    NotRefused(u8),
     /// A client of a node had no answer in time, once all faults were over.
     #[error("node {0} isn't healed")]
     NotHealed(u8),
     /// A node hasn't published as many sequences as others then.
     #[error("node {0} has published {1} of {2}")]
     NotEqual(u8, u16, usize),
+}
+
+/// A request about a sequence, whose answer is one at all nodes.
+#[derive(Clone, Copy, PartialEq)]
+pub(crate) enum Seen {
+    /// The capabilities.
+    Capabilities,
+    /// The picture.
+    Picture,
 }
 
 /// A digest of bytes, to which more are added (FNV-1a, 64 bits).
@@ -47,15 +66,40 @@ pub(crate) fn digest_of(digest: u64, bytes: &[u8]) -> u64 {
 /// The digest of no bytes.
 pub(crate) const NO_BYTES: u64 = 0xcbf2_9ce4_8422_2325;
 
-/// What was seen of a farm: its maps and documents by sequence, and which maps were reported as
-/// published.
+/// How often clients had which answers.
+#[derive(Clone, Copy, Default)]
+pub(crate) struct Answers {
+    /// Maps that were accepted.
+    pub(crate) accepted: u64,
+    /// Requests that were answered by an error.
+    pub(crate) rejected: u64,
+    /// Documents of capabilities.
+    pub(crate) documents: u64,
+    /// Pictures.
+    pub(crate) pictures: u64,
+    /// Pages of operators.
+    pub(crate) pages: u64,
+    /// Replies to readers.
+    pub(crate) replies: u64,
+    /// Requests that nothing answered.
+    pub(crate) failed: u64,
+}
+
+/// What was seen of a farm: its maps and answers by sequence, and which maps were reported as
+/// published. It remembers whether an allocation failed.
 #[derive(Drop)]
 pub(crate) struct Ledger {
     alloc: Global,
+    pub(crate) answers: Answers,
+    // how many maps clients have sent
+    maps: u32,
     texts: Vec<Vec<u8>>,
-    documents: Vec<(u16, u64)>,
+    seen: Vec<(u16, Seen, u64)>,
     reports: Vec<(u16, u32)>,
+    // the nodes that said that a peer refuses them
+    suspended: Vec<u8>,
     violations: Vec<Violation>,
+    is_cut: bool,
 }
 
 impl Ledger {
@@ -63,17 +107,44 @@ impl Ledger {
     pub(crate) fn new(alloc: Global) -> Self {
         Ledger {
             alloc,
+            answers: Answers::default(),
+            maps: 0,
             texts: Vec::new(alloc),
-            documents: Vec::new(alloc),
+            seen: Vec::new(alloc),
             reports: Vec::new(alloc),
+            suspended: Vec::new(alloc),
             violations: Vec::new(alloc),
+            is_cut: false,
         }
     }
 
+    /// An allocation has failed.
+    pub(crate) fn cut(&mut self) {
+        self.is_cut = true;
+    }
+
+    /// Whether an allocation has failed.
+    pub(crate) fn is_cut(&self) -> bool {
+        self.is_cut
+    }
+
+    /// The number of the next map.
+    pub(crate) fn take_map(&mut self) -> u32 {
+        let map = self.maps;
+        self.maps = map.saturating_add(1);
+        map
+    }
+
     /// Notes a violation.
-    pub(crate) fn violate(&mut self, violation: Violation) -> Result<(), AllocError> {
-        self.violations.push(violation)?;
-        Ok(())
+    pub(crate) fn violate(&mut self, violation: Violation) {
+        if self.violations.push(violation).is_err() {
+            self.cut();
+        }
+    }
+
+    /// How many violations there are.
+    pub(crate) fn violated(&self) -> usize {
+        self.violations.len()
     }
 
     /// How many maps were published.
@@ -88,102 +159,113 @@ impl Ledger {
 
     /// Notes what a node has published, of which so many sequences were noted. Returns how many it
     /// has.
-    pub(crate) fn note_list(
-        &mut self,
-        node: u8,
-        history: &History,
-        noted: u16,
-    ) -> Result<u16, AllocError> {
+    pub(crate) fn note_list(&mut self, node: u8, history: &History, noted: u16) -> u16 {
         let published = history.published().number();
         if published < noted {
-            self.violate(Violation::WentBack(node, noted, published))?;
+            self.violate(Violation::WentBack(node, noted, published));
         }
         for index in 0..published.saturating_sub(noted) {
             let sequence = noted.saturating_add(index).saturating_add(1);
             if let Some(slot) = Slot::new(sequence) {
                 if let Some(canon) = history.canon(slot) {
-                    self.note_text(node, sequence, canon.text())?;
+                    self.note_text(node, sequence, canon.text());
                 }
             }
         }
-        Ok(published)
+        published
     }
 
     /// Notes a map that a node has published.
-    fn note_text(&mut self, node: u8, sequence: u16, text: &[u8]) -> Result<(), AllocError> {
+    pub(crate) fn note_text(&mut self, node: u8, sequence: u16, text: &[u8]) {
         match self.texts.get((sequence as usize).saturating_sub(1)) {
-            Some(known) => {
-                if known.as_slice() != text {
-                    return self.violate(Violation::TwoMaps(node, sequence));
-                }
-            }
-            None => {
-                let copy = text.to_vec(self.alloc)?;
-                self.texts.push(copy)?;
-            }
+            Some(known) => if known.as_slice() != text {
+                self.violate(Violation::TwoMaps(node, sequence));
+            },
+            None => self.note_new_text(node, sequence, text),
         }
+    }
+
+    /// Notes a map that no node had published before.
+    fn note_new_text(&mut self, node: u8, sequence: u16, text: &[u8]) {
+        match number_behind(text_of(text), "NAME \"m") {
+            Some(map) if map < self.maps => {}
+            _ => self.violate(Violation::NobodysMap(node, sequence)),
+        }
+        if self.keep_text(text).is_err() {
+            self.cut();
+        }
+    }
+
+    /// Keeps a copy of a map.
+    fn keep_text(&mut self, text: &[u8]) -> Result<(), AllocError> {
+        let copy = text.to_vec(self.alloc)?;
+        self.texts.push(copy)?;
         Ok(())
     }
 
     /// Notes that a map was reported as published.
-    pub(crate) fn note_report(&mut self, sequence: u16, map: u32) -> Result<(), AllocError> {
-        self.reports.push((sequence, map))?;
-        self.compare_report(sequence, map)
+    pub(crate) fn note_report(&mut self, sequence: u16, map: u32) {
+        if self.reports.push((sequence, map)).is_err() {
+            self.cut();
+        }
+        self.compare_report(sequence, map);
     }
 
     /// Compares a report with what is published.
-    fn compare_report(&mut self, sequence: u16, map: u32) -> Result<(), AllocError> {
-        let name = format!(in self.alloc; "\"m{map}\"")?;
-        let has = match self.texts.get((sequence as usize).saturating_sub(1)) {
-            Some(text) => has_text(text.as_slice(), name.as_str()),
-            None => false,
+    fn compare_report(&mut self, sequence: u16, map: u32) {
+        let found = match self.texts.get((sequence as usize).saturating_sub(1)) {
+            Some(text) => number_behind(text_of(text.as_slice()), "NAME \"m"),
+            None => None,
         };
-        drop(name);
-        if has {
-            Ok(())
-        } else {
-            self.violate(Violation::OtherMap(sequence, map))
+        if found != Some(map) {
+            self.violate(Violation::OtherMap(sequence, map));
         }
     }
 
     /// Compares all reports with what is published at the end.
-    pub(crate) fn compare_reports(&mut self) -> Result<(), AllocError> {
+    pub(crate) fn compare_reports(&mut self) {
         for index in 0..self.reports.len() {
             if let Some((sequence, map)) = self.reports.get(index).copied() {
-                self.compare_report(sequence, map)?;
+                self.compare_report(sequence, map);
             }
         }
-        Ok(())
     }
 
-    /// Notes the digest of a document of capabilities that a node sent.
-    pub(crate) fn note_document(
-        &mut self,
-        node: u8,
-        sequence: u16,
-        digest: u64,
-    ) -> Result<(), AllocError> {
-        for (known, known_digest) in &self.documents {
-            if *known == sequence {
-                if *known_digest == digest {
-                    return Ok(());
-                }
-                return self.violate(Violation::TwoDocuments(node, sequence));
-            }
+    /// Notes what a node answered to a request about a sequence.
+    pub(crate) fn note_answer(&mut self, node: u8, sequence: u16, request: Seen, answer: &[u8]) {
+        let digest = digest_of(NO_BYTES, answer);
+        match known_in(self.seen.as_slice(), sequence, request) {
+            Some(known) => if known != digest {
+                self.violate(Violation::TwoAnswers(node, sequence));
+            },
+            None => if self.seen.push((sequence, request, digest)).is_err() {
+                self.cut();
+            },
         }
-        self.documents.push((sequence, digest))?;
-        Ok(())
     }
 
-    /// Writes what was violated.
-    pub(crate) fn write(&self, answer: &mut Transcript) {
+    /// Notes that a node says that a peer refuses it.
+    pub(crate) fn note_suspended(&mut self, node: u8) {
+        if !self.is_suspended(node) && self.suspended.push(node).is_err() {
+            self.cut();
+        }
+    }
+
+    /// Whether a node has said that a peer refuses it.
+    pub(crate) fn is_suspended(&self, node: u8) -> bool {
+        self.suspended.contains(&node)
+    }
+
+    /// Writes what was violated, a line each behind these words.
+    pub(crate) fn write(&self, before: &str, answer: &mut Transcript) {
         for violation in self.violations.iter().take(MOST_TOLD) {
+            answer.text(before);
             answer.value(*violation);
             answer.line("");
         }
     }
 
-    /// The digest of all that was published and reported.
+    /// The digest of all that was published, reported and answered.
     pub(crate) fn digest(&self) -> u64 {
         let mut digest = NO_BYTES;
         for text in &self.texts {
@@ -193,18 +275,20 @@ impl Ledger {
             digest = digest_of(digest, &sequence.to_be_bytes());
             digest = digest_of(digest, &map.to_be_bytes());
         }
-        for (sequence, document) in &self.documents {
+        for (sequence, _, answer) in &self.seen {
             digest = digest_of(digest, &sequence.to_be_bytes());
-            digest = digest_of(digest, &document.to_be_bytes());
+            digest = digest_of(digest, &answer.to_be_bytes());
         }
         digest
     }
 }
 
-/// Whether a text has another within it.
-fn has_text(text: &[u8], part: &str) -> bool {
-    match str::from_utf8(text) {
-        Ok(text) => text.contains(part),
-        Err(_) => false,
+/// The digest of the answer to a request about a sequence that is known.
+fn known_in(seen: &[(u16, Seen, u64)], sequence: u16, request: Seen) -> Option<u64> {
+    for (known, known_request, digest) in seen {
+        if *known == sequence && *known_request == request {
+            return Some(*digest);
+        }
     }
+    None
 }

@@ -1,13 +1,25 @@
 //! Farms of real nodes in one process, on a network, disks and a clock that are simulated, driven
 //! by a seed.
 //!
-//! Standard input is a table of cases (`wf_test_table` defines its format). A case is a play: nodes
-//! as `wfarm node` starts and steps them ([`wf_node_command::RunningNode`]), each on a folder in
-//! memory and a simulated network, while clients publish at each node and ask for capabilities, and
-//! faults happen by chance. After each step is checked what a farm promises ([`ledger`]); once all
-//! faults are over, a publish at each node has to be at all within five seconds. The answer has
-//! what was violated, how much happened, and a digest of all answers, which is one on every
-//! machine.
+//! Standard input is a table of cases (`wf_test_table` defines its format). A case is a play, or
+//! many whose counts are added up: nodes as `wfarm node` starts and steps them
+//! ([`wf_node_command::RunningNode`]), each on a folder in memory ([`member`]) and a simulated
+//! network, with a clock of its own. All the while clients publish at each node, ask for
+//! capabilities and pictures, look at the operator's port, and read the history ([`client`]), and
+//! faults happen that are drawn from the seed ([`schedule`]). After each step is checked what a
+//! farm promises ([`ledger`]):
+//!
+//! - Two answers to one request about a sequence are equal, and so are two maps.
+//! - No list of maps goes back, and each published map is one that a client sent.
+//! - What a node reported as published is there, then and at the end.
+//! - Each node starts, and none is rejected by its peers; but one whose folder was lost, or put
+//!   back as it was before, doesn't start or is suspended.
+//! - Once all faults are over, each client has its answer and all nodes have published equally many
+//!   within five seconds; within twelve where connections had died in silence, or where a folder
+//!   joins in the place of a lost one.
+//!
+//! The answer has what was violated, how much happened, and a digest of all answers, which is one
+//! on every machine. Replicas aren't in it: `tools/try_replicas.py` tries these.
 //!
 //! The program is proved to be safe and to return, and nothing more: what the cases show is in the
 //! table.
@@ -23,6 +35,10 @@ mod names;
 mod plan;
 mod play;
 mod questions;
+mod requests;
+mod scene;
+mod schedule;
+mod tally;
 
 use questions::Plays;
 use std::process::ExitCode;

@@ -16,16 +16,57 @@ pub(crate) enum Fault {
     Cut,
     /// A call of its disks fails.
     Disk,
+    /// Its clock jumps ahead.
+    Jump,
 }
 
-/// Each of them, with its word.
-pub(crate) const FAULTS: [(&str, Fault); 5] = [
-    ("alone", Fault::Alone),
-    ("one-way", Fault::OneWay),
-    ("kills", Fault::Kill),
-    ("cuts", Fault::Cut),
-    ("disks", Fault::Disk),
+/// Each of them, with its word, and the word that leaves it out.
+pub(crate) const FAULTS: [(&str, &str, Fault); 6] = [
+    ("alone", "no-alone", Fault::Alone),
+    ("one-way", "no-one-way", Fault::OneWay),
+    ("kills", "no-kills", Fault::Kill),
+    ("cuts", "no-cuts", Fault::Cut),
+    ("disks", "no-disks", Fault::Disk),
+    ("jumps", "no-jumps", Fault::Jump),
 ];
+
+/// What takes the place of the folder of node 0 once the faults are over. The node has to be
+/// refused then, unless its folder joins.
+#[derive(Clone, Copy, PartialEq)]
+pub(crate) enum Relapse {
+    /// Its folder stays.
+    Nothing,
+    /// An empty folder.
+    Lost,
+    /// All of its files as they were in the middle of the play.
+    Older,
+    /// Its tape as it was then; the other files stay.
+    Tape,
+    /// No tape; the other files stay.
+    Gone,
+    /// An empty folder that joins in its place, to which the other nodes agree.
+    Replaced,
+}
+
+impl Relapse {
+    /// Whether files of the middle of the play are put back.
+    pub(crate) fn is_copied(self) -> bool {
+        matches!(self, Relapse::Older | Relapse::Tape)
+    }
+
+    /// Whether the node has to be refused: its peers have to suspend it, or it may not start.
+    pub(crate) fn is_refused(self) -> bool {
+        self == Relapse::Older || self.is_unstartable()
+    }
+
+    /// Whether the node may not start.
+    pub(crate) fn is_unstartable(self) -> bool {
+        matches!(self, Relapse::Lost | Relapse::Tape | Relapse::Gone)
+    }
+}
+
+/// How many nodes a farm has whose case doesn't say it, by its seed.
+const NODES: [u8; 8] = [3, 5, 4, 5, 7, 5, 3, 2];
 
 /// A play: its seed, how many nodes, for how long, and what goes wrong.
 #[derive(Clone, Copy)]
@@ -36,22 +77,34 @@ pub(crate) struct Plan {
     pub(crate) network: Faults,
     /// Between two faults there are so many milliseconds at most.
     pub(crate) pause: u32,
-    /// How often each fault is drawn, in the order of `FAULTS`.
-    pub(crate) weights: [u32; 5],
+    /// How often each fault is drawn, in the order of `FAULTS`, and whether none of a kind happens.
+    pub(crate) weights: [u32; 6],
+    pub(crate) skips: [bool; 6],
+    /// The first and the last of the drawn faults that happen, counted from 1.
+    pub(crate) first: u32,
+    pub(crate) last: u32,
+    /// What becomes of the folder of node 0, and whether all nodes are killed then.
+    pub(crate) relapse: Relapse,
+    pub(crate) kills_all: bool,
     /// Whether the log is printed.
     pub(crate) is_printed: bool,
 }
 
 impl Plan {
-    /// The plan of a seed and of `NODES SECONDS [KIND NUMBER]..`.
-    pub(crate) fn parse(seed: u64, words: &mut CaseWords<'_>) -> Result<Plan, Unanswered> {
+    /// The plan of `NODES SECONDS [KIND NUMBER]..`, whose seed is 0.
+    pub(crate) fn parse(words: &mut CaseWords<'_>) -> Result<Plan, Unanswered> {
         let mut plan = Plan {
-            seed,
+            seed: 0,
             nodes: words.byte()?,
             seconds: u64::from(words.number()?),
             network: Faults::NONE,
             pause: 1_500,
-            weights: [0; 5],
+            weights: [0; 6],
+            skips: [false; 6],
+            first: 1,
+            last: u32::MAX,
+            relapse: Relapse::Nothing,
+            kills_all: false,
             is_printed: false,
         };
         for _ in 0..u32::MAX {
@@ -65,28 +118,53 @@ impl Plan {
         Ok(plan)
     }
 
+    /// The play of a seed by this plan. A plan of 0 nodes leaves their number to the seed.
+    pub(crate) fn of_seed(&self, seed: u64) -> Plan {
+        let mut plan = *self;
+        plan.seed = seed;
+        if plan.nodes == 0 {
+            let index = seed.checked_rem(8).unwrap_or(0) as usize;
+            plan.nodes = NODES.get(index).copied().unwrap_or(3);
+        }
+        plan
+    }
+
     /// Sets how much there is of a kind.
     fn set(&mut self, kind: &str, number: u32) -> Result<(), Unanswered> {
-        for (weight, (word, _)) in self.weights.iter_mut().zip(FAULTS) {
-            if word == kind {
+        match kind_at(kind) {
+            Some((index, true)) => if let Some(weight) = self.weights.get_mut(index) {
                 *weight = number;
-                return Ok(());
-            }
-        }
-        let network = &mut self.network;
-        match kind {
-            "pause" => self.pause = number,
-            "log" => self.is_printed = number != 0,
-            "delay" => network.delay = number,
-            "room" => network.least_room = number,
-            "resets" => network.resets = number,
-            "losses" => network.losses = number,
-            "refusals" => network.refusals = number,
-            "silences" => network.silences = number,
-            "false-events" => network.false_events = number,
-            _ => return Err(Unanswered::BadWords),
+            },
+            Some((index, false)) => if let Some(skips) = self.skips.get_mut(index) {
+                *skips = number != 0;
+            },
+            None => return self.set_other(kind, number),
         }
         Ok(())
+    }
+
+    /// Sets how much there is of what is none of `FAULTS`.
+    fn set_other(&mut self, kind: &str, number: u32) -> Result<(), Unanswered> {
+        match kind {
+            "pause" => self.pause = number,
+            "first" => self.first = number,
+            "last" => self.last = number,
+            "lost" => self.relapse = Relapse::Lost,
+            "older" => self.relapse = Relapse::Older,
+            "tape" => self.relapse = Relapse::Tape,
+            "gone" => self.relapse = Relapse::Gone,
+            "replaced" => self.relapse = Relapse::Replaced,
+            "all" => self.kills_all = number != 0,
+            "log" => self.is_printed = number != 0,
+            _ => return set_network(&mut self.network, kind, number),
+        }
+        Ok(())
+    }
+
+    /// Whether the fault of this number, counted from 1, and of this kind happens.
+    pub(crate) fn has(&self, number: u32, kind: usize) -> bool {
+        let is_skipped = self.skips.get(kind).copied().unwrap_or(false);
+        self.first <= number && number <= self.last && !is_skipped
     }
 
     /// The index of the fault for a number that is drawn below the sum of all weights.
@@ -109,4 +187,32 @@ impl Plan {
         }
         total
     }
+}
+
+/// The index of the fault with this word, and whether the word is its own or leaves it out.
+fn kind_at(word: &str) -> Option<(usize, bool)> {
+    for (index, (own, without, _)) in FAULTS.iter().enumerate() {
+        if *own == word {
+            return Some((index, true));
+        }
+        if *without == word {
+            return Some((index, false));
+        }
+    }
+    None
+}
+
+/// Sets how much there is of a kind of fault of a network.
+fn set_network(network: &mut Faults, kind: &str, number: u32) -> Result<(), Unanswered> {
+    match kind {
+        "delay" => network.delay = number,
+        "room" => network.least_room = number,
+        "resets" => network.resets = number,
+        "losses" => network.losses = number,
+        "refusals" => network.refusals = number,
+        "silences" => network.silences = number,
+        "false-events" => network.false_events = number,
+        _ => return Err(Unanswered::BadWords),
+    }
+    Ok(())
 }

@@ -1,20 +1,21 @@
 //! A play: a farm, its clients, and what goes wrong, from one moment to the next.
 
-use crate::client::{Answers, Client};
+use crate::client::{Client, ROLES};
 use crate::dice::Dice;
 use crate::ledger::{Ledger, Violation};
 use crate::machine::Machine;
-use crate::member::Member;
+use crate::member::{Member, make_folder};
 use crate::names::Names;
-use crate::plan::{FAULTS, Fault, Plan};
+use crate::plan::{Fault, Plan, Relapse};
+use crate::requests::JOINER_BITS;
+use crate::scene::Scene;
+use crate::schedule::{Schedule, Stroke};
+use crate::tally::Tally;
 use std::alloc::{AllocError, Global};
 use std::cell::RefCell;
 use wf_simulation::{Counts, Faults, World};
 use wf_store::MemoryFolder;
 use wf_test_table::Transcript;
-
-/// The most connections of the network.
-const CONNECTIONS: usize = 160;
 
 /// The most moments of a play.
 const MOST_MOMENTS: u64 = 10_000_000;
@@ -22,128 +23,198 @@ const MOST_MOMENTS: u64 = 10_000_000;
 /// For how long a farm heals at most once all faults are over, in milliseconds.
 const HEALING_MILLIS: u64 = 5_000;
 
+/// For how long it heals at most where connections are dead in silence, which only silence tells,
+/// or where a folder joins.
+const SILENT_MILLIS: u64 = 12_000;
+
+/// The stream of the generator: another one than that of the network.
+const STREAM: u64 = 7;
+
 /// A play as far as it is.
 #[derive(Drop)]
-struct Play<'a, R> {
+pub(crate) struct Play<'a, R> {
     machine: &'a Machine<'a, R>,
     world: &'a RefCell<World>,
     names: &'a Names,
+    folders: &'a [MemoryFolder],
     plan: Plan,
     dice: Dice,
+    schedule: Schedule,
     members: Vec<Member<'a>>,
     clients: Vec<Client<'a>>,
     ledger: Ledger,
-    answers: Answers,
     // how often each fault happened
-    faults: [u64; 5],
-    next_fault: u64,
+    faults: [u64; 6],
     turns: u64,
-    deliveries: u64,
 }
 
-/// Plays, and writes what was violated, how much happened and the digest.
+/// What a play showed.
+#[derive(Clone, Copy)]
+pub(crate) struct Outcome {
+    pub(crate) tally: Tally,
+    pub(crate) digest: u64,
+    pub(crate) violated: usize,
+}
+
+/// Plays, and writes a line behind these words for each violation.
 pub(crate) fn run_play<R: Eprint>(
     rt: &R,
     alloc: Global,
     plan: Plan,
+    before: &str,
     answer: &mut Transcript,
-) -> Result<(), AllocError> {
+) -> Result<Outcome, AllocError> {
     let machine = Machine::new(rt, alloc, plan.is_printed);
-    let nodes = plan.nodes;
+    let hosts = (plan.nodes as usize).saturating_add(1);
     let world = RefCell::new(World::new(
         alloc,
         plan.seed,
         plan.network,
-        (nodes as usize).saturating_add(1),
-        CONNECTIONS,
+        hosts,
+        connections(plan.nodes),
     )?);
-    let names = Names::new(alloc, nodes)?;
+    let names = Names::new(alloc, plan.nodes)?;
+    let folders = folders_of(alloc, plan.nodes)?;
+    let mut play = Play::new(&machine, &world, &names, folders.as_slice(), plan);
+    play.run();
+    let outcome = play.finish(before, answer);
+    drop(play);
+    outcome
+}
+
+/// The most connections of the network, for so many nodes: one from each to each other, and eight
+/// for the clients of each, of which four are at most.
+fn connections(nodes: u8) -> usize {
+    let nodes = nodes as usize;
+    nodes
+        .saturating_mul(nodes.saturating_add(7))
+        .saturating_add(8)
+}
+
+/// A folder for each node, and one more.
+fn folders_of(alloc: Global, nodes: u8) -> Result<Vec<MemoryFolder>, AllocError> {
     let mut folders = Vec::new(alloc);
-    for _ in 0..nodes {
+    for _ in 0..(nodes as usize).saturating_add(1) {
         folders.push(MemoryFolder::new(alloc, nodes)?)?;
     }
-    let mut play = Play::new(alloc, &machine, &world, &names, folders.as_slice(), plan)?;
-    play.run()?;
-    play.write(answer);
-    drop(play);
-    Ok(())
+    Ok(folders)
 }
 
 impl<'a, R: Eprint> Play<'a, R> {
-    /// A play that begins: each node's folder is made.
+    /// A play that begins, without nodes.
     fn new(
-        alloc: Global,
         machine: &'a Machine<'a, R>,
         world: &'a RefCell<World>,
         names: &'a Names,
         folders: &'a [MemoryFolder],
         plan: Plan,
-    ) -> Result<Self, AllocError> {
-        let mut dice = Dice::new(plan.seed);
-        let mut members = Vec::new(alloc);
-        let mut clients = Vec::new(alloc);
-        for (index, folder) in folders.iter().enumerate() {
-            let number = u8::try_from(index).unwrap_or(u8::MAX);
-            folder.set_bits(dice.bits());
-            let start = dice.millis(0, 500);
-            members.push(Member::new(machine, folder, number, plan.nodes, start))?;
-            clients.push(Client::new(number, true, dice.millis(500, 2_000)))?;
-            clients.push(Client::new(number, false, dice.millis(500, 2_000)))?;
-        }
-        let next_fault = dice.millis(1_000, 3_000);
-        Ok(Play {
+    ) -> Self {
+        let alloc = machine.alloc();
+        Play {
             machine,
             world,
             names,
+            folders,
             plan,
-            dice,
-            members,
-            clients,
+            dice: Dice::new(plan.seed, STREAM),
+            schedule: Schedule::new(plan),
+            members: Vec::new(alloc),
+            clients: Vec::new(alloc),
             ledger: Ledger::new(alloc),
-            answers: Answers::default(),
-            faults: [0; 5],
-            next_fault,
+            faults: [0; 6],
             turns: 0,
-            deliveries: 0,
-        })
+        }
+    }
+
+    /// Makes the folder of each node, and its clients.
+    fn populate(&mut self) -> Result<(), AllocError> {
+        let folders = self.folders;
+        for (number, folder) in (0..self.plan.nodes).zip(folders) {
+            folder.set_bits(self.dice.bits());
+            let start = self.dice.millis(0, 500);
+            let nodes = self.plan.nodes;
+            self.members
+                .push(Member::new(self.machine, folder, number, nodes, start))?;
+            for role in ROLES {
+                let start = self.dice.millis(500, 2_000);
+                self.clients.push(Client::new(number, role, start))?;
+            }
+        }
+        Ok(())
     }
 
     /// Plays: faults happen for the plan's time, and then the farm heals.
-    fn run(&mut self) -> Result<(), AllocError> {
+    fn run(&mut self) {
+        if self.populate().is_err() {
+            self.ledger.cut();
+        }
         let end = self.plan.seconds.saturating_mul(1_000);
+        let middle = end / 2;
+        self.run_until(middle);
+        self.save();
+        self.run_until(end);
+        self.relapse(end);
+        self.heal(end);
+        self.run_healing(end.saturating_add(self.patience()));
+        self.judge();
+    }
+
+    /// Goes on until that moment, while faults happen.
+    fn run_until(&mut self, end: u64) {
         for _ in 0..MOST_MOMENTS {
             if end <= self.machine.millis() {
-                break;
+                return;
             }
             self.fail_by_chance();
-            self.step(end)?;
+            self.step(end);
         }
-        self.heal(end);
-        let latest = end.saturating_add(HEALING_MILLIS);
+    }
+
+    /// Goes on until that moment at the latest, or until all is healed.
+    fn run_healing(&mut self, latest: u64) {
         for _ in 0..MOST_MOMENTS {
             if latest <= self.machine.millis() || self.is_healed() {
-                break;
+                return;
             }
-            self.step(latest)?;
+            self.step(latest);
         }
-        self.judge()
+    }
+
+    /// For how long the farm may heal.
+    fn patience(&self) -> u64 {
+        if self.plan.network.losses == 0 && self.plan.relapse != Relapse::Replaced {
+            HEALING_MILLIS
+        } else {
+            SILENT_MILLIS
+        }
     }
 
     /// Goes on to the next moment at which something is due, that time at the latest; each node and
     /// each client does what it has to do.
-    fn step(&mut self, latest: u64) -> Result<(), AllocError> {
+    fn step(&mut self, latest: u64) {
         let time = self.next_moment().min(latest);
         self.machine.set_millis(time);
-        if let Ok(mut world) = self.world.try_borrow_mut() {
-            world.advance(time);
-        }
-        self.turn_members()?;
-        self.turn_clients()
+        let is_news = self.advance(time);
+        self.turn_members(is_news);
+        self.turn_clients(is_news);
+    }
+
+    /// What is due on the network happens. Returns whether anything was.
+    fn advance(&self, time: u64) -> bool {
+        let Ok(mut world) = self.world.try_borrow_mut() else {
+            return false;
+        };
+        let is_news = match world.due() {
+            Some(due) => due <= time,
+            None => false,
+        };
+        world.advance(time);
+        is_news
     }
 
     /// The next moment at which something is due.
     fn next_moment(&self) -> u64 {
-        let mut due = self.next_fault;
+        let mut due = self.schedule.due();
         if let Ok(world) = self.world.try_borrow() {
             due = due.min(world.due().unwrap_or(u64::MAX));
         }
@@ -156,125 +227,142 @@ impl<'a, R: Eprint> Play<'a, R> {
         due.max(self.machine.millis().saturating_add(1))
     }
 
-    /// Each node takes its turn, the first one by chance.
-    fn turn_members(&mut self) -> Result<(), AllocError> {
+    /// Each node for which there may be news takes its turn, the first one by chance.
+    fn turn_members(&mut self, is_news: bool) {
         let count = self.members.len();
         let first = self.dice.index(count);
         for offset in 0..count {
             let index = first.saturating_add(offset).checked_rem(count).unwrap_or(0);
-            if let Some(member) = self.members.get_mut(index) {
-                let taken = member.turn(
-                    self.machine,
-                    self.world,
-                    self.names,
-                    &mut self.dice,
-                    &mut self.ledger,
-                )?;
-                if let Some(ready) = taken {
-                    self.turns = self.turns.saturating_add(1);
-                    self.deliveries = self.deliveries.saturating_add(ready);
-                }
+            self.turn_member(index, is_news);
+        }
+    }
+
+    /// A node takes its turn.
+    fn turn_member(&mut self, index: usize, is_news: bool) {
+        if let Some(member) = self.members.get_mut(index) {
+            if !is_news && self.machine.millis() < member.due() {
+                return;
+            }
+            let taken = member.turn(
+                self.machine,
+                self.world,
+                self.names,
+                &mut self.dice,
+                &mut self.ledger,
+            );
+            if taken {
+                self.turns = self.turns.saturating_add(1);
             }
         }
-        Ok(())
     }
 
     /// Each client does what it has to do.
-    fn turn_clients(&mut self) -> Result<(), AllocError> {
-        let host = self.plan.nodes as usize;
-        let time = self.machine.millis();
+    fn turn_clients(&mut self, is_news: bool) {
+        let scene = Scene {
+            alloc: self.machine.alloc(),
+            world: self.world,
+            host: self.plan.nodes as usize,
+            time: self.machine.millis(),
+        };
         for client in self.clients.iter_mut() {
-            client.turn(
-                self.machine.alloc(),
-                self.world,
-                host,
-                time,
-                &mut self.dice,
-                &mut self.answers,
-                &mut self.ledger,
-            )?;
+            if is_news || client.due() <= scene.time {
+                client.turn(&scene, &mut self.dice, &mut self.ledger);
+            }
         }
-        Ok(())
     }
 
-    /// A fault happens, if one is due: which one, by the plan's weights.
+    /// A fault happens, if one is due.
     fn fail_by_chance(&mut self) {
-        let time = self.machine.millis();
-        if time < self.next_fault {
-            return;
-        }
-        self.next_fault = time.saturating_add(self.dice.millis(1, self.plan.pause));
-        let total = self.plan.total();
-        if total == 0 {
-            return;
-        }
-        let kind = self.plan.fault_at(self.dice.below(total));
-        let index = self.dice.index(self.members.len());
-        if let Some((_, fault)) = FAULTS.get(kind) {
-            if self.fail(*fault, index, time) {
-                if let Some(count) = self.faults.get_mut(kind) {
+        if let Some(stroke) = self.schedule.take(self.machine.millis()) {
+            if self.fail(&stroke) {
+                if let Some(count) = self.faults.get_mut(stroke.kind) {
                     *count = count.saturating_add(1);
                 }
             }
         }
     }
 
-    /// A fault happens at a node. Returns whether it could.
-    fn fail(&mut self, fault: Fault, index: usize, time: u64) -> bool {
-        let until = time.saturating_add(self.dice.millis(200, 8_000));
-        match fault {
-            Fault::Alone => self.cut_off(index, until),
-            Fault::OneWay => self.block_way(index, until),
-            Fault::Kill | Fault::Cut | Fault::Disk => return self.fail_member(fault, index, time),
+    /// A fault happens. Returns whether it could.
+    fn fail(&mut self, stroke: &Stroke) -> bool {
+        match stroke.fault {
+            Fault::Alone => self.cut_off(stroke.node, stroke.until),
+            Fault::OneWay => self.block(stroke.node, stroke.other, stroke.until),
+            _ => return self.fail_member(stroke),
         }
         true
     }
 
-    /// A node ends, or its disk fails. Returns whether it ran.
-    fn fail_member(&mut self, fault: Fault, index: usize, time: u64) -> bool {
-        let due = time.saturating_add(self.dice.millis(1, 3_000));
-        let Some(member) = self.members.get_mut(index) else {
+    /// A node ends, or its disk fails, or its clock jumps. Returns whether it ran.
+    fn fail_member(&mut self, stroke: &Stroke) -> bool {
+        let Some(member) = self.members.get_mut(stroke.node) else {
             return false;
         };
         if !member.runs() {
             return false;
         }
-        match fault {
-            Fault::Kill => member.kill(due),
-            Fault::Cut => member.cut(self.world, &mut self.dice, due),
-            _ => member.fail_disk(&mut self.dice),
+        match stroke.fault {
+            Fault::Kill => member.kill(stroke.back),
+            Fault::Cut => member.cut(self.world, stroke.older, stroke.kept, stroke.back),
+            Fault::Jump => member.jump(stroke.until.saturating_sub(self.machine.millis())),
+            _ => member.fail_disk(stroke.call, stroke.kept),
         }
         true
     }
 
     /// A node and all others don't reach each other until then.
-    fn cut_off(&self, host: usize, until: u64) {
+    fn cut_off(&self, node: usize, until: u64) {
+        for other in 0..self.members.len() {
+            self.block(node, other, until);
+            self.block(other, node, until);
+        }
+    }
+
+    /// What a host sends to another doesn't come until then.
+    fn block(&self, from: usize, to: usize, until: u64) {
         if let Ok(mut world) = self.world.try_borrow_mut() {
-            for other in 0..self.members.len() {
-                world.block(host, other, until);
-                world.block(other, host, until);
+            world.block(from, to, until);
+        }
+    }
+
+    /// Copies the files of node 0, if they are to be put back later.
+    fn save(&self) {
+        if self.plan.relapse.is_copied() {
+            if let (Some(member), Some(spare)) = (self.members.first(), self.folders.last()) {
+                member.copy_into(spare);
             }
         }
     }
 
-    /// What a node sends to another, or to the clients, doesn't come until then.
-    fn block_way(&mut self, host: usize, until: u64) {
-        let other = self.dice.index(self.members.len().saturating_add(1));
-        if let Ok(mut world) = self.world.try_borrow_mut() {
-            world.block(host, other, until);
+    /// Kills all nodes, and puts another folder in the place of that of node 0, as the plan says.
+    fn relapse(&mut self, time: u64) {
+        if self.plan.kills_all {
+            for member in self.members.iter_mut() {
+                member.kill(time);
+            }
+        }
+        if self.plan.relapse == Relapse::Nothing {
+            return;
+        }
+        let folders = self.folders;
+        if let (Some(member), Some(spare)) = (self.members.get_mut(0), folders.last()) {
+            if self.plan.relapse == Relapse::Replaced {
+                spare.set_bits(JOINER_BITS);
+                make_folder(self.machine, spare, 0, self.plan.nodes, true);
+            }
+            member.relapse(self.plan.relapse, spare, time);
         }
     }
 
     /// All faults are over: each node that was ended is started, all reach each other, and the
     /// clients begin anew.
     fn heal(&mut self, time: u64) {
-        self.next_fault = u64::MAX;
+        self.schedule.end();
         if let Ok(mut world) = self.world.try_borrow_mut() {
             world.set_faults(Faults::NONE);
-            for host in 0..self.members.len().saturating_add(1) {
-                for other in 0..self.members.len().saturating_add(1) {
-                    world.block(host, other, 0);
-                }
+        }
+        for host in 0..self.members.len().saturating_add(1) {
+            for other in 0..self.members.len().saturating_add(1) {
+                self.block(host, other, 0);
             }
         }
         for member in self.members.iter_mut() {
@@ -282,95 +370,139 @@ impl<'a, R: Eprint> Play<'a, R> {
             member.mend_disk();
         }
         for client in self.clients.iter_mut() {
-            client.heal(time);
+            client.heal(time, self.plan.relapse == Relapse::Replaced);
         }
     }
 
-    /// Whether each client was served, and all nodes have published equally many sequences.
+    /// Whether each sound node has published as many sequences as any, and its clients were served,
+    /// and any other is refused.
     fn is_healed(&self) -> bool {
         let most = self.ledger.published();
-        self.clients.iter().all(|client| client.is_served())
-            && self
-                .members
-                .iter()
-                .all(|member| member.published() as usize == most)
+        for client in &self.clients {
+            if is_sound(&self.plan, client.node()) && !client.is_served() {
+                return false;
+            }
+        }
+        for member in &self.members {
+            if violation_of(&self.plan, &self.ledger, member, most).is_some() {
+                return false;
+            }
+        }
+        true
     }
 
     /// Notes what wasn't healed, and compares all reports.
-    fn judge(&mut self) -> Result<(), AllocError> {
-        for client in &self.clients {
-            if !client.is_served() {
-                self.ledger.violate(Violation::NotHealed(client.node()))?;
-            }
-        }
+    fn judge(&mut self) {
         let most = self.ledger.published();
-        for member in &self.members {
-            let published = member.published();
-            if published as usize != most {
-                self.ledger
-                    .violate(Violation::NotEqual(member.number(), published, most))?;
+        for client in &self.clients {
+            if is_sound(&self.plan, client.node()) && !client.is_served() {
+                self.ledger.violate(Violation::NotHealed(client.node()));
             }
         }
-        self.ledger.compare_reports()
+        for member in &self.members {
+            if let Some(violation) = violation_of(&self.plan, &self.ledger, member, most) {
+                self.ledger.violate(violation);
+            }
+        }
+        self.ledger.compare_reports();
     }
 
-    /// Writes what was violated, a line each, and then in a line how much happened and the digest.
-    fn write(&self, answer: &mut Transcript) {
-        self.ledger.write(answer);
-        let Answers {
-            accepted,
-            documents,
-            rejected,
-            failed,
-            ..
-        } = self.answers;
-        write_counts(
-            answer,
-            &[
-                ("published", self.ledger.published() as u64),
-                ("reported", self.ledger.reported() as u64),
-                ("accepted", accepted),
-                ("documents", documents),
-                ("rejected", rejected),
-                ("unanswered", failed),
-                ("turns", self.turns),
-                ("deliveries", self.deliveries),
-                ("lines", self.machine.lines()),
-            ],
-        );
-        for ((word, _), count) in FAULTS.iter().zip(self.faults) {
-            write_counts(answer, &[(*word, count)]);
+    /// Writes a line behind these words for each violation. Returns what happened.
+    fn finish(&self, before: &str, answer: &mut Transcript) -> Result<Outcome, AllocError> {
+        self.ledger.write(before, answer);
+        if self.ledger.is_cut() {
+            return Err(AllocError);
         }
-        if let Ok(world) = self.world.try_borrow() {
-            write_network(answer, world.counts());
+        Ok(Outcome {
+            tally: self.tally(),
+            digest: self.ledger.digest(),
+            violated: self.ledger.violated(),
+        })
+    }
+
+    /// How often what happened, in the order of the words of a tally.
+    fn tally(&self) -> Tally {
+        let answers = self.ledger.answers;
+        let network = self.network_counts();
+        let [alone, one_way, kills, cuts, _, jumps] = self.faults;
+        let mut messages = 0u64;
+        let mut disks = 0u64;
+        for member in &self.members {
+            messages = messages.saturating_add(member.messages());
+            disks = disks.saturating_add(member.failed());
         }
-        write_counts(answer, &[("millis", self.machine.millis())]);
-        answer.text("digest ");
-        answer.value(self.ledger.digest());
-        answer.line("");
+        Tally::of([
+            self.ledger.published() as u64,
+            self.ledger.reported() as u64,
+            answers.accepted,
+            answers.documents,
+            answers.pictures,
+            answers.pages,
+            answers.replies,
+            answers.rejected,
+            answers.failed,
+            self.turns,
+            messages,
+            self.machine.lines(),
+            alone,
+            one_way,
+            kills,
+            cuts,
+            disks,
+            jumps,
+            network.opened,
+            network.refused,
+            network.unanswered,
+            network.resets,
+            network.answers,
+            network.losses,
+            network.pieces,
+            network.waits,
+            self.machine.millis(),
+        ])
+    }
+
+    /// How often what happened on the network.
+    fn network_counts(&self) -> Counts {
+        match self.world.try_borrow() {
+            Ok(world) => world.counts(),
+            Err(_) => Counts::default(),
+        }
     }
 }
 
-/// Writes numbers, each behind its word.
-fn write_counts(answer: &mut Transcript, counts: &[(&str, u64)]) {
-    for (word, count) in counts {
-        answer.texts(&[*word, " "]);
-        answer.value(*count);
-        answer.text(", ");
-    }
+/// Whether a node has its own folder at the end, so that it has to heal.
+fn is_sound(plan: &Plan, node: u8) -> bool {
+    !plan.relapse.is_refused() || node != 0
 }
 
-/// Writes how often what happened on a network.
-fn write_network(answer: &mut Transcript, counts: Counts) {
-    write_counts(
-        answer,
-        &[
-            ("connections", counts.opened),
-            ("refused", counts.refused),
-            ("silent", counts.unanswered),
-            ("resets", counts.resets),
-            ("losses", counts.losses),
-            ("pieces", counts.pieces),
-        ],
-    );
+/// What a node violates at the end, where so many sequences are published: a sound one has all of
+/// them and is let in by each peer, any other doesn't start or is suspended.
+fn violation_of(
+    plan: &Plan,
+    ledger: &Ledger,
+    member: &Member<'_>,
+    most: usize,
+) -> Option<Violation> {
+    let number = member.number();
+    let is_suspended = ledger.is_suspended(number);
+    if !is_sound(plan, number) {
+        let is_refused = if plan.relapse.is_unstartable() {
+            member.is_refused()
+        } else {
+            is_suspended
+        };
+        return if is_refused {
+            None
+        } else {
+            Some(Violation::NotRefused(number))
+        };
+    }
+    if is_suspended {
+        return Some(Violation::Suspended(number));
+    }
+    if member.published() as usize != most {
+        return Some(Violation::NotEqual(number, member.published(), most));
+    }
+    None
 }

@@ -1,0 +1,71 @@
+//! What is counted.
+
+use wf_test_table::Transcript;
+
+/// What is counted, in this order.
+const WORDS: [&str; 27] = [
+    "published",
+    "reported",
+    "accepted",
+    "documents",
+    "pictures",
+    "pages",
+    "replies",
+    "rejected",
+    "unanswered",
+    "turns",
+    "messages",
+    "lines",
+    "alone",
+    "one-way",
+    "kills",
+    "cuts",
+    "disks",
+    "jumps",
+    "connections",
+    "refused",
+    "silent",
+    "resets",
+    "answers",
+    "losses",
+    "pieces",
+    "waits",
+    "millis",
+];
+
+/// How often what happened, in a play or in several.
+#[derive(Clone, Copy)]
+pub(crate) struct Tally {
+    counts: [u64; 27],
+}
+
+impl Tally {
+    /// Nothing happened.
+    pub(crate) fn new() -> Self {
+        Tally { counts: [0; 27] }
+    }
+
+    /// So much happened, in the order of the words.
+    pub(crate) fn of(counts: [u64; 27]) -> Self {
+        Tally { counts }
+    }
+
+    /// That happened too.
+    pub(crate) fn add(&mut self, other: &Tally) {
+        for (count, more) in self.counts.iter_mut().zip(other.counts) {
+            *count = count.saturating_add(more);
+        }
+    }
+
+    /// Writes each count behind its word, and then a digest.
+    pub(crate) fn write(&self, digest: u64, answer: &mut Transcript) {
+        for (word, count) in WORDS.iter().zip(self.counts) {
+            answer.texts(&[*word, " "]);
+            answer.value(count);
+            answer.text(", ");
+        }
+        answer.text("digest ");
+        answer.value(digest);
+        answer.line("");
+    }
+}
