@@ -1,59 +1,26 @@
 """Cases of `tools/try_nodes.py`: a machine is lost with its disk, and a new folder takes its node's place."""
 
 import subprocess
-import sys
-import threading
 import time
 
+from farmkit.command import lacks
+from farmkit.control import command, wfarmctl, write_nodes
 from farmkit.mapfiles import a_map
-from farmkit.repository import TOP
-from farmkit.wanted import PATIENCE, until, want
-from farmkit.web import loopback
+from farmkit.processes import Node, Service, free_ports
+from farmkit.wanted import PATIENCE, is_so_within, until, want
+from farmkit.web import ask, loopback
 
 ALLOWED = "--replace-allowed"
 RETIRED = "retired: another folder took its place; end it, and never start its folder again"
 
 
-class Service:
-    """Starts each node again whose process ended with status 0, as the service of a machine does."""
-
-    def __init__(self, nodes):
-        self.nodes, self.over, self.restarts = nodes, threading.Event(), 0
-        self.thread = threading.Thread(target=self.watch)
-        self.thread.start()
-
-    def watch(self):
-        while not self.over.wait(0.05):
-            for i in range(self.nodes.count):
-                if self.nodes[i].ended() == 0:
-                    self.nodes.start(i, ALLOWED)
-                    self.restarts += 1
-
-    def __enter__(self):
-        return self
-
-    def __exit__(self, *_):
-        self.over.set()
-        self.thread.join()
-
-
-def wfarmctl(nodes, *words):
-    """What `wfarmctl` says of these nodes."""
-    farm = nodes.folder / "nodes"
-    ports = zip(map(loopback, nodes.http), map(loopback, nodes.admin))
-    farm.write_text("".join(f"{clients} {operator}\n" for clients, operator in ports))
-    command = [sys.executable, str(TOP / "tools" / "wfarmctl"), "--farm", str(farm)]
-    return subprocess.run([*command, "--program", str(nodes.program), *words], capture_output=True, text=True,
-                          timeout=4 * PATIENCE)
-
-
 def started_anew(nodes):
     """All nodes again, with replacements allowed."""
     nodes.kill_all()
-    for i in range(nodes.count):
-        nodes.start(i, ALLOWED)
-    for i in range(nodes.count):
-        nodes.wait(i)
+    for node in nodes.each:
+        node.words.append(ALLOWED)
+    nodes.start_all()
+    write_nodes(nodes.folder / "nodes", nodes.each)
 
 
 def lose(nodes, i):
@@ -63,7 +30,7 @@ def lose(nodes, i):
     nodes[i].folder.rename(old)
     nodes[i].life += 1
     nodes.init(i, "--replace")
-    nodes.start(i, ALLOWED)
+    nodes.start(i)
     until(lambda: nodes.health(i)[1].startswith("joins"))
     return old
 
@@ -71,9 +38,19 @@ def lose(nodes, i):
 def give_vote(nodes, i):
     """The seconds until the new folder of a node votes, with maps published as it wants them."""
     begun = time.monotonic()
-    ran = wfarmctl(nodes, "replace", str(i), "--yes", "--force", "--publish")
-    want(f"replace {i}: {ran.stdout} {ran.stderr}", ran.returncode == 0)
+    status, told, error = wfarmctl(nodes.program, nodes.folder / "nodes", *words_for(i))
+    want(f"replace {i}: {told} {error}", status == 0)
     return round(time.monotonic() - begun, 1)
+
+
+def words_for(i):
+    return ["replace", i, "--yes", "--force", "--publish"]
+
+
+def begun_replacement(nodes, i):
+    """A `wfarmctl replace` that runs, with what it writes in a pipe."""
+    return subprocess.Popen(command(nodes.program, nodes.folder / "nodes", *words_for(i)),
+                            stdout=subprocess.PIPE, stderr=subprocess.STDOUT, text=True)
 
 
 def publish_at_each(nodes, word):
@@ -86,7 +63,7 @@ def replaced(nodes):
     started_anew(nodes)
     publish_at_each(nodes, "before")
     seconds = []
-    with Service(nodes) as service:
+    with Service(nodes.each) as service:
         old = lose(nodes, 1)
         nodes.publish_whole(0, a_map("meanwhile"))
         want("it joins, and answers a client", nodes.published(1) == -1)
@@ -97,16 +74,17 @@ def replaced(nodes):
         nodes.kill(2)
         nodes.publish_whole(0, a_map("two"))
         nodes.publish_whole(1, a_map("of three"))
-        nodes.start(2, ALLOWED)
+        nodes.start(2)
         nodes.wait(2)
         nodes.level()
         is_rejected = comes_back(nodes, 1, old)
-        # (not node 0 too: a folder can't join yet where each other node was replaced before)
-        lose(nodes, 2)
-        seconds.append(give_vote(nodes, 2))
-        publish_at_each(nodes, "anew")
-        nodes.level()
-        return f"2 machines replaced in {seconds} s, {service.restarts} restarts; {is_rejected}"
+        # node 0 last: each other node was replaced before
+        for i in (2, 0):
+            lose(nodes, i)
+            seconds.append(give_vote(nodes, i))
+            publish_at_each(nodes, f"anew{i}")
+            nodes.level()
+        return f"{len(seconds)} machines replaced in {seconds} s, {service.restarts} restarts; {is_rejected}"
 
 
 def comes_back(nodes, i, old):
@@ -115,7 +93,7 @@ def comes_back(nodes, i, old):
     new = nodes.folder / "new"
     nodes[i].folder.rename(new)
     old.rename(nodes[i].folder)
-    nodes.start(i, ALLOWED)
+    nodes.start(i)
     nodes[i].life += 1
     until(lambda: nodes.health(i)[1].startswith("suspended"))
     said = nodes.health(i)[1]
@@ -125,10 +103,176 @@ def comes_back(nodes, i, old):
     nodes[i].folder.rename(old)
     new.rename(nodes[i].folder)
     nodes[i].life += 1
-    nodes.start(i, ALLOWED)
+    nodes.start(i)
     nodes.wait(i)
     nodes.level()
     return said
 
 
-CASES = [replaced]
+def beside(nodes, i, folder):
+    """Another process of a node, on this folder and at ports of its own."""
+    http, admin, listen = map(loopback, free_ports(3))
+    made = Node(nodes.program, i, folder, nodes[i].words[2], http, admin)
+    made.words += [ALLOWED, "--listen", listen]
+    return made
+
+
+def standing(node):
+    """What a node tells of its folder, by the first word, and of replacements: node, count and mark."""
+    lines = node.ask_operator("/replacements").body.decode().splitlines()
+    known = [line.split()[1:] for line in lines if line.startswith("replaced ")]
+    return dict(line.split(" ", 1) for line in lines if " " in line), known
+
+
+def agree_at_once(i, pairs):
+    """Operators let each of these nodes agree to the replacement of node i by another folder."""
+    marks = [standing(joiner)[0]["mark"] for _, joiner in pairs]
+    for node, path in [*((joiner, "begin?count=1") for _, joiner in pairs),
+                       *((asked, f"agree?node={i}&count=1&mark={mark}&force")
+                         for (asked, _), mark in zip(pairs, marks))]:
+        answer = ask(node.operator, f"/replace/{path}", b"")
+        want(f"{node.known_as}: {path}: {answer}", answer.status == 202)
+    until(lambda: all([str(i), "1", mark] in standing(asked)[1] for (asked, _), mark in zip(pairs, marks)))
+
+
+def health(node):
+    return node.ask_operator("/healthz").body.decode().strip()
+
+
+def has_half(joiner):
+    """Whether half of the nodes have agreed to a folder; one that restarts tells nothing."""
+    few = ("joins, 0 of 2 nodes agreed", "joins, 1 of 2 nodes agreed", "Unanswered")
+    return not health(joiner).startswith(few)
+
+
+def rivals(nodes):
+    """two folders join at once as one node, and each other node agrees to another one first: none votes,
+    until a replacement of a higher count is begun; the one that is left behind never votes; an old folder
+    that is started beside the new one is retired"""
+    started_anew(nodes)
+    publish_at_each(nodes, "before")
+    old = lose(nodes, 1)
+    other = beside(nodes, 1, nodes.folder / "other")
+    other.init("tried", "--replace")
+    other.start()
+    until(lambda: health(other).startswith("joins"))
+    with Service([*nodes.each, other]):
+        try:
+            agree_at_once(1, ((nodes[0], nodes[1]), (nodes[2], other)))
+            nodes.publish_whole(0, a_map("meanwhile"))
+            # the one at the listed address may hear of the other one first, and then counts no agreement
+            votes = is_so_within(lambda: has_half(nodes[1]) or has_half(other), 8, 0.2)
+            first = [health(each) for each in (nodes[1], other)]
+            seconds = give_vote(nodes, 1)
+            publish_at_each(nodes, "after")
+            left, known = health(other), [standing(node)[1] for node in nodes.each]
+            want(f"the folder that was left behind: {left}", left.startswith("joins"))
+            want(f"what they know: {known}",
+                 all([each[:2] for each in told] == [["1", "2"]] for told in known))
+        finally:
+            other.kill()
+        retired = retired_beside(nodes, 1, old)
+    want(f"with an agreement each at most: {first}", not votes)
+    return f"{first}, then count 2 in {seconds} s; the one left behind: {left}; {retired}"
+
+
+def retired_beside(nodes, i, folder):
+    """What an old folder is told that is started beside the one that took its place."""
+    old = beside(nodes, i, folder)
+    old.start()
+    try:
+        until(lambda: health(old).startswith("suspended"))
+        want(f"it isn't told that it is retired: {old.last_line()}", RETIRED in old.log.read_text())
+        publish_at_each(nodes, "beside")
+        want("it answers a client", old.published(2) is None)
+        return health(old)
+    finally:
+        old.kill()
+
+
+def stopped(nodes):
+    """an asked node is killed at each call by which it writes that it agreed, the last one behind its sync:
+    `wfarmctl replace` goes on once it is started again, or is run again, and one folder votes"""
+    if lacking := lacks("strace"):
+        return f"left out: {lacking}"
+    started_anew(nodes)
+    publish_at_each(nodes, "before")
+    said = []
+    with Service(nodes.each):
+        for call, path in CUTS:
+            lose(nodes, 1)
+            nodes.kill(0)
+            nodes[0].start(before=dying(call, nodes[0].folder / path, nodes.folder / "trace"))
+            nodes.wait(0)
+            running = begun_replacement(nodes, 1)
+            until(lambda: nodes[0].ended() is not None)
+            ended = nodes[0].ended()
+            nodes.start(0)
+            told = running.communicate(timeout=4 * PATIENCE)[0]
+            want(f"{call} {path}: node 0 ended with {ended}; {told}", ended != 0)
+            if running.returncode != 0:
+                give_vote(nodes, 1)
+            said.append(f"{call} {path} {told.splitlines()[-1]}")
+            publish_at_each(nodes, f"{call}{path}")
+            nodes.level()
+    return ", ".join(said)
+
+
+def dying(call, path, trace):
+    """The words before those of a program that is killed when it does this call to a file."""
+    return ["strace", "-D", "-f", "-q", "-P", str(path), "-e", f"trace={call}", "-e",
+            f"inject={call}:signal=SIGKILL:when=1", "-o", str(trace)]
+
+
+# the calls at which a node is killed, and of which file of its folder
+CUTS = (("openat", "replaced.new"), ("fsync", "replaced.new"), ("rename", "replaced.new"))
+
+
+def resumed(nodes):
+    """`wfarmctl replace` is ended after each of its lines and run again, with the same folder or, where its
+    disk is lost too, with another one: it votes"""
+    started_anew(nodes)
+    publish_at_each(nodes, "before")
+    said = []
+    with Service(nodes.each):
+        for lines in range(1, 6):
+            for is_lost in (False, True):
+                lose(nodes, 1)
+                running = begun_replacement(nodes, 1)
+                last = [running.stdout.readline().strip() for _ in range(lines)][-1]
+                running.kill()
+                running.communicate()
+                if is_lost:
+                    lose(nodes, 1)
+                give_vote(nodes, 1)
+                said.append(f"{last}{' and a lost disk' if is_lost else ''}")
+                nodes.level()
+        publish_at_each(nodes, "after")
+        counts = {told for node in nodes.each for told in map(tuple, standing(node)[1])}
+        want(f"what they know: {counts}", len(counts) == 1)
+    return f"ended after {'; '.join(said)}; then {counts}"
+
+
+def operators(nodes):
+    """two operators run `wfarmctl replace` at once, five times: a folder votes, and all know of one
+    replacement"""
+    started_anew(nodes)
+    publish_at_each(nodes, "before")
+    said = []
+    with Service(nodes.each):
+        for _ in range(5):
+            lose(nodes, 1)
+            both = [begun_replacement(nodes, 1) for _ in range(2)]
+            told = [each.communicate(timeout=4 * PATIENCE)[0].splitlines()[-1] for each in both]
+            statuses = [each.returncode for each in both]
+            if 0 not in statuses:
+                give_vote(nodes, 1)
+            said.append(f"{statuses} {told if 0 in statuses else ''}")
+            publish_at_each(nodes, f"after{len(said)}")
+            nodes.level()
+        counts = {told for node in nodes.each for told in map(tuple, standing(node)[1])}
+        want(f"what they know: {counts}", len(counts) == 1)
+    return f"{', '.join(said)}; then {counts}"
+
+
+CASES = [replaced, rivals, stopped, resumed, operators]

@@ -7,6 +7,7 @@ use crate::hub::Voter;
 use crate::token::Socket;
 use std::alloc::Global;
 use std::io::ErrorKind;
+use std::mem::replace;
 use std::net::{Net, SocketAddr};
 use wf_ballot::NodeId;
 use wf_client::Outgoing;
@@ -64,7 +65,7 @@ pub(crate) struct Dial<C: Connection> {
 }
 
 /// What came of a connection's turn.
-#[derive(Clone, Copy, PartialEq, Eq)]
+#[derive(Clone, Copy)]
 pub(crate) enum DialTurn {
     /// Nothing new.
     Same,
@@ -150,14 +151,14 @@ impl<C: Connection + Drop> Dial<C> {
         index: usize,
         greeting: &[u8],
     ) {
-        self.greeting = Outgoing::new(context.alloc());
-        self.reply = Vec::new(context.alloc());
+        drop(replace(&mut self.greeting, Outgoing::new(context.alloc())));
+        drop(replace(&mut self.reply, Vec::new(context.alloc())));
         self.is_established = false;
         self.is_open = false;
         self.since = context.time;
         let _ = self.greeting.write(greeting);
         match begin_connection(context, self.address, index) {
-            Some(stream) => self.stream = Some(stream),
+            Some(stream) => drop(replace(&mut self.stream, Some(stream))),
             None => self.postpone(context.time),
         }
     }
@@ -186,7 +187,7 @@ impl<C: Connection + Drop> Dial<C> {
 
     /// Ends the connection.
     pub(crate) fn end(&mut self, now: u64) {
-        self.stream = None;
+        drop(self.stream.take());
         self.is_established = false;
         self.is_open = false;
         self.postpone(now);
@@ -206,7 +207,7 @@ impl<C: Connection + Drop> Dial<C> {
             return DialTurn::Same;
         };
         let turned = self.turn_at(voter, peer, &mut stream, now);
-        self.stream = Some(stream);
+        drop(replace(&mut self.stream, Some(stream)));
         turned
     }
 
@@ -225,7 +226,7 @@ impl<C: Connection + Drop> Dial<C> {
             return DialTurn::Ended(why);
         }
         let turned = self.handle(stream, now);
-        if turned != DialTurn::Same || !self.is_open {
+        if !matches!(turned, DialTurn::Same) || !self.is_open {
             return turned;
         }
         match send(voter, peer, stream, &mut self.written) {

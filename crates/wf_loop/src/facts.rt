@@ -192,9 +192,18 @@ fn remembered(cause: u8) -> &'static str {
     }
 }
 
+/// How many peers are heard.
+fn connected_count(peers: &[PeerState]) -> u64 {
+    let mut count = 0u64;
+    for peer in peers {
+        count = count.saturating_add(peer.is_connected as u64);
+    }
+    count
+}
+
 /// Appends how many nodes the farm has, and how many are heard.
 fn push_farm<R>(text: &mut String, facts: &NodeFacts<'_, R>) -> Result<(), AllocError> {
-    let connected = facts.peers.iter().filter(|peer| peer.is_connected).count();
+    let connected = connected_count(facts.peers);
     let nodes = facts.peers.len();
     gauge(
         text,
@@ -206,7 +215,7 @@ fn push_farm<R>(text: &mut String, facts: &NodeFacts<'_, R>) -> Result<(), Alloc
         text,
         "wfarm_peers_connected",
         "Peers of which a message came within five seconds",
-        connected as u64,
+        connected,
     )?;
     gauge(
         text,

@@ -1,7 +1,7 @@
 //! Whether a node acts.
 
 /// Whether a node acts: whether it is given the messages that come, and says what it has to.
-#[derive(Clone, Copy, Debug, PartialEq, Eq)]
+#[derive(Clone, Copy, PartialEq, Eq)]
 pub enum Gate {
     /// It acts.
     Open,

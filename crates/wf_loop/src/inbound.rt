@@ -2,6 +2,7 @@
 
 use crate::event::PeerEnd;
 use std::alloc::Global;
+use std::mem::replace;
 use std::net::SocketAddr;
 use wf_ballot::NodeId;
 use wf_client::Outgoing;
@@ -25,7 +26,7 @@ pub(crate) struct Inbound<C: Connection> {
 }
 
 /// What came in one piece.
-#[derive(Clone, Copy, PartialEq, Eq)]
+#[derive(Clone, Copy)]
 pub(crate) enum Came {
     /// Nothing now.
     Nothing,
@@ -93,12 +94,10 @@ impl<C: Connection + Drop> Inbound<C> {
 
     /// Greets the peer.
     fn greet(&mut self, alloc: Global, own: &Greeting) -> Option<PeerEnd> {
-        let mut bytes = Vec::new(alloc);
-        let mut reply = Outgoing::new(alloc);
-        if encode(own, &mut bytes).is_err() || reply.write(&bytes).is_err() {
+        let Some(reply) = reply_by(alloc, own) else {
             return Some(PeerEnd::Memory);
-        }
-        self.reply = reply;
+        };
+        drop(replace(&mut self.reply, reply));
         self.send()
     }
 
@@ -169,4 +168,23 @@ impl<C: Connection + Drop> Inbound<C> {
             Err(fault) => Came::Ended(PeerEnd::BadGreeting(fault)),
         }
     }
+}
+
+/// The reply that is this greeting. None: an allocation failed.
+fn reply_by(alloc: Global, greeting: &Greeting) -> Option<Outgoing> {
+    let mut bytes = Vec::new(alloc);
+    let mut reply = Outgoing::new(alloc);
+    let is_written = encode(greeting, &mut bytes).is_ok() && reply.write(&bytes).is_ok();
+    drop(bytes);
+    if is_written {
+        Some(reply)
+    } else {
+        drop(reply);
+        None
+    }
+}
+
+/// Closes the connection in a slot, if there is one.
+pub(crate) fn close<C: Connection + Drop>(slot: &mut Option<Inbound<C>>) {
+    drop(slot.take());
 }

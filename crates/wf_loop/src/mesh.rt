@@ -1,5 +1,5 @@
 //! The connections to and from the peers of a node.
-ghost use Rattle.std.specs.Prelude.{◌≡◌, ◌⊎◌, IfOk, IfSome};
+ghost use Rattle.std.specs.Prelude.{◌≡◌, ◌⊎◌, IfSome};
 ghost use Rattle.wf_loop.specs.Continuation.{ContinuesIn};
 ghost use Rattle.wf_loop.specs.Hub.{IsGreetedWith};
 ghost use Rattle.wf_loop.specs.Reach.{IsHighestVoted};
@@ -10,7 +10,7 @@ use crate::dial::Dial;
 use crate::event::FolderNotWritten;
 use crate::gate::Gate;
 use crate::hub::Voter;
-use crate::inbound::Inbound;
+use crate::inbound::{Inbound, close};
 use crate::notes::{Notes, Told};
 use crate::order::Order;
 use crate::peer_state::PeerState;
@@ -125,26 +125,60 @@ fn unknown_peers(alloc: Global, count: usize) -> Result<Vec<PeerState>, AllocErr
     Ok(states)
 }
 
+/// What the connections of a mesh need, allocated.
+#[derive(Drop)]
+pub(crate) struct Rooms<C: Connection> {
+    dials: Vec<Dial<C>>,
+    inbounds: Vec<Option<Inbound<C>>>,
+    piece: Vec<u8>,
+    states: Vec<PeerState>,
+    notes: Notes,
+}
+
+impl<C: Connection + Drop> Rooms<C> {
+    /// For the nodes of this plan, with what was heard of them before.
+    pub(crate) fn new(
+        alloc: Global,
+        plan: &NodePlan,
+        known: PeerProgress,
+    ) -> Result<Self, AllocError> {
+        let notes = Notes::new(alloc, plan.own, known)?;
+        let piece = vec![in alloc; 0; PIECE_BYTES]?;
+        let states = unknown_peers(alloc, plan.peers.len())?;
+        let dials = dials_of(alloc, plan.peers.as_slice())?;
+        let inbounds = free_slots(alloc)?;
+        Ok(Rooms {
+            dials,
+            inbounds,
+            piece,
+            states,
+            notes,
+        })
+    }
+}
+
 impl<N: Network> Mesh<N> {
     /// No connection yet.
     pub(crate) fn new(
         alloc: Global,
         plan: NodePlan,
         listener: N::Listener,
-        known: PeerProgress,
+        rooms: Rooms<N::Connection>,
         time: u64,
-    ) -> Result<Self, AllocError>
-        ensures suspended { IfOk result (λ mesh. mesh.suspension ≡ plan.suspension) }
-        ensures joins { IfOk result (λ mesh. mesh.plan.joining ≡ plan.joining) }
+    ) -> Self
+        ensures suspended { result.suspension ≡ plan.suspension }
+        ensures joins { result.plan.joining ≡ plan.joining }
     {
-        let dials = dials_of(alloc, plan.peers.as_slice())?;
-        let inbounds = free_slots(alloc)?;
-        let piece = vec![in alloc; 0; PIECE_BYTES]?;
-        let states = unknown_peers(alloc, plan.peers.len())?;
-        let notes = Notes::new(alloc, plan.own, known)?;
+        let Rooms {
+            dials,
+            inbounds,
+            piece,
+            states,
+            notes,
+        } = rooms;
         let suspension = plan.suspension;
         let learned = plan.replacements;
-        Ok(Mesh {
+        Mesh {
             plan,
             listener,
             dials,
@@ -168,7 +202,7 @@ impl<N: Network> Mesh<N> {
             unlisted: Unlisted::new(alloc),
             is_busy: false,
             is_idle: false,
-        })
+        }
     }
 
     /// A turn begins, in which so many sockets are ready. Where it could wait for one, and none is,
@@ -241,7 +275,8 @@ impl<N: Network> Mesh<N> {
         }
     }
 
-    /// Notes that a file of the folder can't be written; the log has the first failure.
+    /// Notes that what is for a file of the folder can't be written; the log has the first failure,
+    /// with the file that is its cause: another one may have to be written before.
     pub(crate) fn note_unwritten<R: Clock + Eprint>(
         &mut self,
         log: &Log<'_, R>,
@@ -253,7 +288,7 @@ impl<N: Network> Mesh<N> {
             self.unwritten = Some(file);
             log.write(&FolderNotWritten {
                 folder: self.plan.folder.as_str(),
-                file,
+                file: why.file().unwrap_or(file),
                 why,
             });
             self.close_all(time);
@@ -387,7 +422,7 @@ impl<N: Network> Mesh<N> {
             dial.end(time);
         }
         for slot in &mut self.inbounds {
-            *slot = None;
+            close(slot);
         }
     }
 

@@ -24,6 +24,9 @@ use wf_visitors::{Context, Log};
 /// was told of more, in milliseconds: not all nodes are to end within one second.
 const NOTING_MILLIS: u64 = 30_000;
 
+/// For how long a folder that joins does, in milliseconds: another peer may tell of more.
+const JOINER_NOTING_MILLIS: u64 = 1_000;
+
 /// What is to be written to the folder about replacements before the node goes by it.
 #[derive(Clone, Copy)]
 pub(crate) enum Order {
@@ -58,13 +61,30 @@ impl<N: Network> Mesh<N> {
     /// replies to this node's greeting, a folder that joins hears whether the peer has agreed to
     /// it, and how far the peer is.
     pub(crate) fn hear_of_replacements(&mut self, is_reply: bool, greeting: &Greeting, time: u64) {
-        let latest = news_of(&self.learned, greeting);
+        self.learn_of_replacements(greeting, time);
+        if is_reply && self.order.is_none() {
+            self.hear_as_joiner(greeting);
+        }
+    }
+
+    /// Takes in what the greeting of a peer says of replacements that is turned away because its
+    /// own isn't known here. Only a folder that joins does, which may know nobody else.
+    pub(crate) fn hear_of_replacements_untold(&mut self, greeting: &Greeting, time: u64) {
+        if self.plan.joining.is_some() {
+            self.learn_of_replacements(greeting, time);
+        }
+    }
+
+    /// Takes in what a greeting says of the replacements of other nodes, unless its folder joins:
+    /// that one has it from others.
+    fn learn_of_replacements(&mut self, greeting: &Greeting, time: u64) {
+        if greeting.state == NodeState::Joins {
+            return;
+        }
+        let latest = news_of(&self.learned, greeting, self.plan.peers.len());
         if latest != self.learned {
             self.learned = latest;
             self.learned_at = Some(time);
-        }
-        if is_reply && self.order.is_none() {
-            self.hear_as_joiner(greeting);
         }
     }
 
@@ -137,12 +157,14 @@ impl<N: Network> Mesh<N> {
         }
     }
 
-    /// Whether what was learned of replacements is to be written: at once where the folder joins.
+    /// Whether what was learned of replacements is to be written.
     fn is_noting_due(&self, time: u64) -> bool {
+        let least = match self.plan.joining {
+            Some(_) => JOINER_NOTING_MILLIS,
+            None => NOTING_MILLIS,
+        };
         match self.learned_at {
-            Some(since) => {
-                self.plan.joining.is_some() || NOTING_MILLIS <= time.saturating_sub(since)
-            }
+            Some(since) => least <= time.saturating_sub(since),
             None => false,
         }
     }
@@ -200,10 +222,10 @@ fn answer_of(greeting: &Greeting) -> Option<Answer> {
     }
 }
 
-/// What is known of replacements after the greeting of a peer.
-fn news_of(known: &Replacements, greeting: &Greeting) -> Replacements {
+/// What is known of the replacements of so many nodes after the greeting of a peer.
+fn news_of(known: &Replacements, greeting: &Greeting, nodes: usize) -> Replacements {
     let mut latest = *known;
-    for number in 0..MOST_NODES {
+    for number in 0..nodes {
         latest = news_at(&latest, greeting, number);
     }
     latest

@@ -4,11 +4,11 @@ ghost use Rattle.wf_loop.specs.StartErrors.{IsStartError};
 ghost use Rattle.wf_visitors.specs.Visitors.{responses_of};
 
 use crate::desk::Desk;
-use crate::mesh::Mesh;
+use crate::mesh::{Mesh, Rooms};
 use crate::pace::Pace;
 use crate::plan::{LoopFault, NodePlan};
 use crate::token::{CLIENT, Socket};
-use std::alloc::Global;
+use std::alloc::{AllocError, Global};
 use std::net::{Net, SocketAddr};
 use std::time::Clock;
 use wf_operator::StartTime;
@@ -17,14 +17,28 @@ use wf_reader::Answerer;
 use wf_sockets::Network;
 use wf_visitors::Visitors;
 
+/// The listeners for all but the peers.
+#[derive(Drop)]
+struct Ports<N: Network> {
+    http: N::Listener,
+    admin: Option<N::Listener>,
+    readers: Option<N::Listener>,
+}
+
 /// The network, and the listeners on it.
 #[derive(Drop)]
 struct Doors<N: Network> {
     network: N,
-    http: N::Listener,
     listener: N::Listener,
-    admin: Option<N::Listener>,
-    readers: Option<N::Listener>,
+    ports: Ports<N>,
+}
+
+/// What a hub allocates before it begins.
+#[derive(Drop)]
+struct HubRooms<N: Network> {
+    visitors: Visitors<N>,
+    desk: Desk<N>,
+    rooms: Rooms<N::Connection>,
 }
 
 /// All of a hub but its node and its clients.
@@ -91,10 +105,12 @@ fn doors_of<R: Net, N: Network + Drop>(
     };
     Ok(Doors {
         network,
-        http,
         listener,
-        admin,
-        readers,
+        ports: Ports {
+            http,
+            admin,
+            readers,
+        },
     })
 }
 
@@ -104,6 +120,31 @@ fn answerer_of(plan: &NodePlan) -> Answerer {
         farm: plan.own.farm,
         distance: 0,
     }
+}
+
+/// What a hub allocates, with these listeners. The only error is allocation failure.
+fn rooms_of<N: Network + Drop>(
+    alloc: Global,
+    plan: &NodePlan,
+    ports: Ports<N>,
+    known: PeerProgress,
+    started: StartTime,
+) -> Result<HubRooms<N>, AllocError>
+    ensures { IfOk result (λ made. responses_of made.visitors ≡ []) }
+{
+    let Ports {
+        http,
+        admin,
+        readers,
+    } = ports;
+    let rooms = Rooms::new(alloc, plan, known)?;
+    let desk = Desk::new(alloc, answerer_of(plan), admin, readers, started)?;
+    let visitors = Visitors::new(alloc, plan.clients, Some(http), CLIENT)?;
+    Ok(HubRooms {
+        visitors,
+        desk,
+        rooms,
+    })
 }
 
 /// All of a hub but its node, with these listeners. The only error is allocation failure.
@@ -122,23 +163,31 @@ fn begin_at<N: Network + Drop>(
 {
     let Doors {
         network,
-        http,
         listener,
-        admin,
-        readers,
+        ports,
     } = doors;
-    let answerer = answerer_of(&plan);
-    let visitors = Visitors::new(alloc, plan.clients, Some(http), CLIENT)?;
-    let desk = Desk::new(alloc, answerer, admin, readers, started)?;
-    let mesh = Mesh::new(alloc, plan, listener, known, time)?;
-    Ok(HubStart {
-        parts: HubParts {
-            network,
-            mesh,
-            desk,
-        },
-        visitors,
-    })
+    match rooms_of(alloc, &plan, ports, known, started) {
+        Ok(
+            HubRooms {
+                visitors,
+                desk,
+                rooms,
+            },
+        ) => Ok(HubStart {
+            parts: HubParts {
+                network,
+                mesh: Mesh::new(alloc, plan, listener, rooms, time),
+                desk,
+            },
+            visitors,
+        }),
+        Err(_) => {
+            drop(plan);
+            drop(network);
+            drop(listener);
+            Err(LoopFault::Memory)
+        }
+    }
 }
 
 /// Binds the addresses of a node on a network, and makes all of its hub but the node.

@@ -4,12 +4,12 @@ ghost use Rattle.wf_loop.specs.Continuation.{Continues, ContinuesIn};
 use crate::acts::{handle, is_heard_next, open_receiver, receive};
 use crate::event::{NodeEvent, PeerEnd};
 use crate::hub::Voter;
-use crate::inbound::{Came, Inbound};
+use crate::inbound::{Came, Inbound, close};
 use crate::mesh::{INBOUND_SLOTS, Mesh};
 use crate::peer_state::Greeted;
 use crate::reopening::NodeFolder;
 use crate::token::Socket;
-use std::mem;
+use std::mem::replace;
 use std::net::SocketAddr;
 use std::time::Clock;
 use wf_ballot::{NodeId, SEQUENCES};
@@ -120,9 +120,7 @@ impl<N: Network> Mesh<N> {
                         .network
                         .watch(inbound.connection(), Socket::Inbound(index).token());
                 }
-                if let Some(slot) = self.inbounds.get_mut(index) {
-                    *slot = Some(inbound);
-                }
+                self.keep(index, inbound);
             }
             Some(why) => {
                 // its line is there once the peer sees that it was closed
@@ -130,6 +128,14 @@ impl<N: Network> Mesh<N> {
                 context.log.write(&NodeEvent::Dropped { peer, why });
                 drop(inbound);
             }
+        }
+    }
+
+    /// Keeps a connection from a peer in its slot.
+    fn keep(&mut self, index: usize, inbound: Inbound<N::Connection>) {
+        match self.inbounds.get_mut(index) {
+            Some(slot) => drop(replace(slot, Some(inbound))),
+            None => drop(inbound),
         }
     }
 
@@ -145,9 +151,9 @@ impl<N: Network> Mesh<N> {
         ensures on { ContinuesIn T.Tape (F.stands folder.old) voter.old
             (F.stands folder.new) voter.new }
     {
-        let mut piece = mem::replace(&mut self.piece, Vec::new(context.alloc()));
+        let mut piece = replace(&mut self.piece, Vec::new(context.alloc()));
         let ended = self.read_pieces(context, voter, folder, inbound, piece.as_mut_slice());
-        self.piece = piece;
+        drop(replace(&mut self.piece, piece));
         ended
     }
 
@@ -292,6 +298,10 @@ impl<N: Network> Mesh<N> {
                 self.count_rejection(number);
                 self.note_difference(context, greeting.node, greeting.progress.published.number());
             }
+            Err(PeerRejection::NotTold) => {
+                self.count_rejection(number);
+                self.hear_of_replacements_untold(greeting, context.time);
+            }
             Err(_) => self.count_rejection(number),
         }
         let _ = self.save(context, voter, folder);
@@ -331,7 +341,7 @@ impl<N: Network> Mesh<N> {
                     peer: Some(peer.number() as usize),
                     why: PeerEnd::Replaced,
                 });
-                *slot = None;
+                close(slot);
             }
         }
     }
@@ -452,7 +462,7 @@ impl<N: Network> Mesh<N> {
                     peer: peer_in(slot),
                     why: PeerEnd::Silent,
                 });
-                *slot = None;
+                close(slot);
             }
         }
     }

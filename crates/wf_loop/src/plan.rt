@@ -1,7 +1,6 @@
 //! Which node of a farm it is, and where the others are.
 
 use crate::joiner::Joiner;
-use std::alloc::AllocError;
 use std::net::SocketAddr;
 use thiserror::Error;
 use wf_folder::Suspension;
@@ -42,7 +41,7 @@ pub struct NodePlan {
 }
 
 /// Why a node doesn't begin.
-#[derive(Clone, Copy, Debug, PartialEq, Eq, Error)]
+#[derive(Clone, Copy, Debug, Error)]
 pub enum LoopFault {
     /// The system gives no poll.
     #[error("no poll")]
@@ -62,15 +61,4 @@ pub enum LoopFault {
     /// An allocation failed.
     #[error("out of memory")]
     Memory,
-}
-
-impl From<AllocError> for LoopFault {
-    ghost use Rattle.std.specs.Prelude.{◌≡◌};
-    ghost use Rattle.wf_loop.specs.declared.plan.LoopFault.TheVariants.{Memory};
-
-    ghost from_gives = { λ _ fault. fault ≡ Memory };
-
-    fn from(_: AllocError) -> Self {
-        LoopFault::Memory
-    }
 }

@@ -13,7 +13,7 @@ use wf_tape::Tape;
 use wf_visitors::{Level, LogEntry};
 
 /// Why a file of the node's folder isn't read or written.
-#[derive(Clone, Copy, Debug, PartialEq, Eq)]
+#[derive(Clone, Copy, Debug)]
 pub enum FolderError {
     /// What is at the folder's path isn't the folder that this process has locked.
     Other,
@@ -23,7 +23,7 @@ pub enum FolderError {
 
 impl FolderError {
     /// The file that is the cause. None: it is the folder itself, or no memory.
-    fn file(&self) -> Option<FileName> {
+    pub(crate) fn file(&self) -> Option<FileName> {
         match self {
             FolderError::Store(FolderFault::Unread(file, _))
             | FolderError::Store(FolderFault::Unopened(file))
@@ -64,7 +64,7 @@ impl fmt::Display for FolderError {
 }
 
 /// Why the tape of a halted node isn't opened again.
-#[derive(Clone, Copy, Debug, PartialEq, Eq, Error)]
+#[derive(Clone, Copy, Debug, Error)]
 pub enum NotReopened {
     /// The folder, or a file of it, can't be read.
     #[error("{0}")]

@@ -16,7 +16,7 @@ pub(crate) const READER: usize = 768;
 pub(crate) const CLIENT: usize = 1_024;
 
 /// A socket.
-#[derive(Clone, Copy, Debug, PartialEq, Eq)]
+#[derive(Clone, Copy)]
 pub(crate) enum Socket {
     /// The listener for clients.
     Http,
