@@ -22,20 +22,19 @@ import concurrent.futures
 import pathlib
 import queue
 import shutil
-import subprocess
 import sys
 import tempfile
 import time
 
 from farmkit import hosts
 from farmkit.command import add_cases, listed, numbers, program_parser, tell_missing
+from farmkit.control import wfarmctl, write_nodes
 from farmkit.hosts import HostedNode
 from farmkit.mapfiles import map_of
 from farmkit.nodes import NO_MAJORITY, VOTES
 from farmkit.tapes import MOST_MAPS, tape_of
-from farmkit.wanted import Wrong, seconds_until, want
+from farmkit.wanted import Wrong, is_so_within, want
 
-HERE = pathlib.Path(__file__).resolve().parent
 # seconds: for a waiting publish after the healing; until a node knows that it isn't heard, and more of that
 # where peers hear it; without a connection that is dialed anew
 HEALED, NOTICED, ONE_WAY, QUIET = 5, 6, 1, 12
@@ -44,7 +43,7 @@ AGAIN = 10
 
 
 def until(is_so, seconds=PATIENCE):
-    return seconds_until(is_so, seconds, 0.1)
+    return is_so_within(is_so, seconds, 0.1)
 
 
 class Node(HostedNode):
@@ -78,22 +77,22 @@ class Farm:
         every = self.network.hosts
         self.nodes = [Node(host, folder, options.program, every, tape) for host in every]
         self.file = folder / "nodes"
-        self.file.write_text("".join(f"{node.clients} {node.operator}\n" for node in self.nodes))
+        write_nodes(self.file, self.nodes)
 
     def start(self, published):
         for node in self.nodes:
             node.start()
         want("the nodes don't begin", until(lambda: all(node.published() == published for node in self.nodes),
-                                            4 * PATIENCE) is not None)
-        want("they don't hear one another", until(lambda: self.unlike([]) == []) is not None)
+                                            4 * PATIENCE))
+        want("they don't hear one another", until(lambda: self.unlike([]) == []))
         if not published:
             self.publish(self.nodes[0])
 
     def publish(self, node):
         before, answer = self.top(), node.publish(self.next())
-        want(f"no publish: {answer}", answer[0] == 202
-             and until(lambda: (node.published() or 0) > before) is not None)
-        want("not level", until(self.is_level) is not None)
+        want(f"no publish: {answer}",
+             answer[0] == 202 and until(lambda: (node.published() or 0) > before))
+        want("not level", until(self.is_level))
 
     def next(self):
         self.number += 1
@@ -129,9 +128,7 @@ class Farm:
         return None if left else took
 
     def control(self, *words):
-        ended = subprocess.run([sys.executable, str(HERE / "wfarmctl"), "--farm", str(self.file), *words],
-                               capture_output=True, text=True)
-        return ended.returncode, ended.stdout, ended.stderr
+        return wfarmctl(self.options.program, self.file, *words)
 
     def stop(self):
         for node in self.nodes:

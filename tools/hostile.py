@@ -1,6 +1,6 @@
 #!/usr/bin/env python3
-"""Shows what input that means harm does to the built program: to `serve` over sockets, to `canon` and `draw`
-as mapfiles and queries.
+"""Shows what input that means harm does to the built program: to `serve`, `node` and `replica` over sockets,
+to `canon` and `draw` as mapfiles and queries.
 
 Sockets: 1,000 connections, eight at a time, to a farm of three nodes on tapes in files: silent ones, heads
 that are cut, sent a byte at a time, too large, with more after them, of random bytes, publishes that are no
@@ -10,130 +10,63 @@ Afterwards the farm has to be as before: sequence, capabilities, tile and tapes,
 serves one connection at a time and gives a client ten seconds, so a client waits for those that came before
 it.
 
+Processes: as many connections to two nodes of three and to a replica, at the ports of peers (half greetings,
+a byte at a time, with 64 replaced nodes and more, of other farms and folders; those of the third node, which
+doesn't run, with half a message behind it, one that is too long, or none), of readers, clients and operators;
+a stranger answers in the place of the third node and of a source of the replica. Then all slots of each port
+are filled with silent connections. Meanwhile maps are published, a client asks each process, and all answers
+are compared by sequence. Afterwards all have to be level, and none may have ended.
+
 Mutations: N mapfiles through `wfarm canon`, and a fifth as many queries, each with such a mapfile, through
 `wfarm draw`. A failure is a signal, a status other than 0 and 1, a second of processor time, an answer
 together with an error, no answer, an error line of another form, an allocation failure within 64 MB of
 address space, or a canonical text that isn't its own.
 
-1,000 sockets take about five minutes, most of them waiting; 100,000 mapfiles and 20,000 queries about seven.
-Either is left out with 0. Status 1 where anything fails.
+1,000 sockets take about five minutes, most of them waiting, 1,000 at processes as long; 100,000 mapfiles and
+20,000 queries about seven. Each is left out with 0. Status 1 where anything fails.
 """
 
 import collections
 import concurrent.futures
+import contextlib
+import itertools
 import os
 import pathlib
 import random
 import re
-import select
-import socket
 import statistics
-import struct
 import sys
 import tempfile
 import threading
 import time
 
+from farmkit.attacks import (CLIENTS, MAP, SLOW, TILE, Impostor, Peers, Readers, operators, peer_answers,
+                             silent, source_answers)
 from farmkit.command import program_parser
-from farmkit.mapfiles import GET_MAP
+from farmkit.greetings import greeting
+from farmkit.ledger import Ledger, Watch
+from farmkit.mapfiles import map_of
 from farmkit.mutation import Maps, Queries
-from farmkit.processes import Farm
-from farmkit.web import CAPABILITIES, ask, connect
+from farmkit.nodes import Nodes
+from farmkit.processes import Farm, Replica, free_ports
+from farmkit.wanted import Wrong, is_so_within, until
+from farmkit.web import CAPABILITIES, ask, connect, loopback
 
-MAP = b"""MAP NAME "it" EXTENT 0 0 4 4 PROJECTION "init=epsg:3857" END
-LAYER NAME it TYPE POLYGON CLASS STYLE COLOR 9 99 199 END END
-FEATURE POINTS 1 1 3 1 3 3 1 3 END END END END"""
-TILE = GET_MAP.format(256).removesuffix("&MAPSEQ=%d")
 NODES = 3
 AT_ONCE = 8
 PATIENCE = 120
 MOST_SECONDS = 1.0
 MOST_MEMORY = 64 << 10
-GOOD = b"GET /status HTTP/1.1\r\n\r\n"
+# seconds for which all slots are filled: longer than any silent connection is kept
+FILLED = 12
 
 
 # Sockets.
 
-def drain(peer, seconds=15):
-    peer.settimeout(seconds)
-    while peer.recv(1 << 16):
-        pass
-
-
-def silent(peer, _):
-    drain(peer)
-
-
-def trickling(peer, _):
-    """A head that never ends, a byte at a time until the farm closes."""
-    peer.sendall(GOOD[:-2] + b"a: ")
-    while not select.select([peer], [], [], 0.3)[0]:
-        peer.sendall(b"b")
-    drain(peer)
-
-
-def staying(peer, draw):
-    """Its answer is read, and the connection stays open."""
-    peer.sendall(draw.choice((b"GET /x HTTP/1.1\r\n\r\n",
-                              b"POST /publish HTTP/1.1\r\nContent-Length: 200000\r\n\r\n",
-                              b"\x16\x03\x01\r\n\r\n")))
-    drain(peer)
-
-
-def cut(peer, draw):
-    whole = draw.choice((GOOD, b"POST /publish HTTP/1.1\r\nContent-Length: 200\r\n\r\n" + MAP))
-    peer.sendall(whole[:draw.randrange(1, len(whole))])
-    peer.shutdown(socket.SHUT_WR)
-    drain(peer)
-
-
-def oversized(peer, draw):
-    peer.sendall(draw.choice((
-        b"GET /" + b"x" * draw.choice((8_193, 1 << 20)) + b" HTTP/1.1\r\n\r\n",
-        b"GET /status HTTP/1.1\r\n" + b"a: b\r\n" * draw.choice((33, 2_000)) + b"\r\n",
-        b"GET /status HTTP/1.1\r\n" + b"a: " + b"b" * 9_000 + b"\r\n\r\n",
-        b"POST /publish HTTP/1.1\r\nContent-Length: 131073\r\n\r\n" + b" " * 131_073,
-        b"POST /publish HTTP/1.1\r\nContent-Length: 99999999999999999999\r\n\r\n" + b"MAP " * 50_000)))
-    peer.shutdown(socket.SHUT_WR)
-    drain(peer)
-
-
-def pipelined(peer, draw):
-    peer.sendall(GOOD * draw.choice((2, 100, 10_000)))
-    peer.shutdown(socket.SHUT_WR)
-    drain(peer)
-
-
-def resetting(peer, draw):
-    """The connection is reset: at once, in a request, or before its answer is read."""
-    peer.sendall(draw.choice((b"", GOOD[:9], GOOD, b"GET %s HTTP/1.1\r\n\r\n" % TILE.encode())))
-    peer.setsockopt(socket.SOL_SOCKET, socket.SO_LINGER, struct.pack("ii", 1, 0))
-
-
-def binary(peer, draw):
-    """Random bytes, or a request with some in it."""
-    noise = draw.randbytes(draw.choice((1, 100, 5_000, 200_000)))
-    peer.sendall(draw.choice((noise, GOOD[:4] + noise[:3_000] + GOOD[4:],
-                              b"POST /publish HTTP/1.1\r\nContent-Length: %d\r\n\r\n" % len(noise) + noise)))
-    peer.shutdown(socket.SHUT_WR)
-    drain(peer)
-
-
-def no_map(peer, draw):
-    """A publish of a whole body that is no map."""
-    body = MAP.replace(b"LAYER", draw.choice((b"LAYERS", b"INCLUDE", b"END", b"\xff", b'"')))
-    peer.sendall(b"POST /publish HTTP/1.1\r\nContent-Length: %d\r\n\r\n" % len(body) + body)
-    drain(peer)
-
-
-SLOW = {silent: 64, trickling: 64, staying: 32}
-FAST = (cut, oversized, pipelined, resetting, binary, no_map)
-
-
 def kinds(count, draw):
     """What each of the connections does, in a random order: one in 64 is silent, and so on."""
     chosen = [kind for kind, share in SLOW.items() for _ in range(count // share)]
-    chosen += [FAST[number % len(FAST)] for number in range(count - len(chosen))]
+    chosen += [CLIENTS[number % len(CLIENTS)] for number in range(count - len(chosen))]
     draw.shuffle(chosen)
     return chosen
 
@@ -147,12 +80,20 @@ def attack(address, kind, seed):
     return kind.__name__
 
 
-class Behaving(threading.Thread):
-    """A client that asks for /status and the tile in turn, and knows how long each took."""
+def attacked(rows, draw):
+    """Makes these connections, some at a time: addresses and kinds. How many there were of each kind."""
+    with concurrent.futures.ThreadPoolExecutor(AT_ONCE) as pool:
+        work = [pool.submit(attack, address, kind, draw.random()) for address, kind in rows]
+        ended = collections.Counter(it.result() for it in work)
+    return ", ".join(f"{count} {kind}" for kind, count in sorted(ended.items()))
 
-    def __init__(self, farm, tile):
+
+class Behaving(threading.Thread):
+    """A client that asks these addresses for /status and the tile in turn, and knows how long each took."""
+
+    def __init__(self, addresses, tile):
         super().__init__()
-        self.farm = farm
+        self.rows = [(address, path) for address in addresses for path in ("/status", TILE)]
         self.tile = tile
         self.over = threading.Event()
         self.waits = []
@@ -160,12 +101,21 @@ class Behaving(threading.Thread):
 
     def run(self):
         while not self.over.wait(0.05):
-            for path in ("/status", TILE):
+            for address, path in self.rows:
                 begun = time.monotonic()
-                answer = asked(self.farm, path)
+                answer = ask(address, path, None, PATIENCE)
                 self.waits.append(time.monotonic() - begun)
-                if answer[0] != 200 or (path == TILE and answer[1] != self.tile):
-                    self.wrong.append((path, answer[0], answer[1][:100]))
+                if answer.status != 200 or (path == TILE and answer.body != self.tile):
+                    self.wrong.append((address, path, answer.status, answer.body[:100]))
+
+    def end(self):
+        """Ends it, and prints what it saw; whether each answer was right."""
+        self.over.set()
+        self.join()
+        print(f"a client that behaves: {len(self.waits)} answers, the longest after {max(self.waits):.2f} s, "
+              f"the median after {1000 * statistics.median(self.waits):.1f} ms, {len(self.wrong)} wrong "
+              f"{self.wrong[:3] or ''}".rstrip())
+        return not self.wrong
 
 
 def asked(farm, path, body=None):
@@ -186,27 +136,134 @@ def sockets(program, count, draw):
         try:
             asked(farm, "/publish", MAP)
             before = state(farm, folder)
-            client = Behaving(farm, asked(farm, TILE)[1])
+            client = Behaving([farm.address], asked(farm, TILE)[1])
             begun = time.monotonic()
             client.start()
-            with concurrent.futures.ThreadPoolExecutor(AT_ONCE) as pool:
-                work = [pool.submit(attack, farm.address, kind, draw.random()) for kind in kinds(count, draw)]
-                ended = collections.Counter(it.result() for it in work)
-            client.over.set()
-            client.join()
-            took = time.monotonic() - begun
+            said = attacked([(farm.address, kind) for kind in kinds(count, draw)], draw)
+            print(f"{count} hostile connections in {time.monotonic() - begun:.0f} s, {AT_ONCE} at a time "
+                  f"({said})")
+            good = client.end()
             same = state(farm, folder) == before
             lives = farm.process.poll() is None
         finally:
             farm.kill()
-    print(f"{count} hostile connections in {took:.0f} s, {AT_ONCE} at a time "
-          f"({', '.join(f'{n} {kind}' for kind, n in sorted(ended.items()))})")
-    print(f"a client that behaves: {len(client.waits)} answers, the longest after {max(client.waits):.2f} s, "
-          f"the median after " f"{1000 * statistics.median(client.waits):.1f} ms, {len(client.wrong)} wrong "
-          f"{client.wrong[:3] or ''}".rstrip())
     print(f"the farm {'is what it was' if same and lives else 'IS NOT WHAT IT WAS'}: sequence, capabilities, "
           f"tile and tapes")
-    return same and lives and not client.wrong
+    return same and lives and good
+
+
+# Nodes and a replica.
+
+class Attacked:
+    """Three nodes, of which one doesn't run: a stranger listens in its place, and greets as it. And a replica
+    that asks a node, and a stranger."""
+
+    def __init__(self, program, folder, draw):
+        readers = loopback(free_ports(1)[0])
+        self.nodes = Nodes(program, folder)
+        self.nodes[0].words += ["--readers", readers]
+        self.nodes.begin()
+        self.nodes.publish_whole(0, MAP)
+        self.nodes.level()
+        own = greeting(self.nodes, 2)
+        self.nodes.kill(2)
+        self.impostors = [Impostor(self.nodes.peer[2], peer_answers(own, draw)),
+                          Impostor(0, source_answers(draw))]
+        self.replica = Replica(program, folder / "replica", "tried",
+                               f"{loopback(self.impostors[1].port)},{readers}")
+        self.replica.start()
+        until(lambda: self.replica.published() == 1)
+        self.running = [*self.nodes.each[:2], self.replica]
+        clients, operator, asks = (*CLIENTS, *SLOW), (*CLIENTS, *SLOW, operators), Readers("tried").kinds
+        # where a stranger connects, what it does there, and how many slots that port has
+        self.ports = [(loopback(self.nodes.peer[0]), (*Peers(own).kinds, silent), 128),
+                      (readers, (*asks, silent), 64), (self.replica.readers, (*asks, silent), 64)]
+        for each in (self.nodes[0], self.replica):
+            self.ports += [(each.clients, clients, 128), (each.operator, operator, 8)]
+
+    def rows(self, count, draw):
+        """So many connections, a third of them to the port for peers: where each goes, and what it does."""
+        ports = itertools.islice(itertools.cycle(2 * self.ports[:1] + self.ports), count)
+        return [(address, draw.choice(does)) for address, does, _ in ports]
+
+    def fill_slots(self):
+        """Fills all slots of each port with silent connections, and some more, for a while; how many."""
+        with contextlib.ExitStack() as held:
+            count = 0
+            for address, _, slots in self.ports:
+                for _ in range(slots + slots // 4):
+                    with contextlib.suppress(OSError):
+                        held.enter_context(connect(address, 5))
+                        count += 1
+            time.sleep(FILLED)
+        return count
+
+    def most_memory(self):
+        """The most megabytes that a process had."""
+        texts = [pathlib.Path(f"/proc/{each.running().pid}/status").read_text() for each in self.running]
+        return max(int(re.search(r"VmHWM:\s*(\d+)", text)[1]) for text in texts) >> 10
+
+    def end(self):
+        for impostor in self.impostors:
+            impostor.end()
+        self.replica.kill()
+        self.nodes.end()
+
+
+class Publisher(threading.Thread):
+    """Publishes at two nodes in turn, and knows how long it took until each map was published."""
+
+    def __init__(self, nodes):
+        super().__init__()
+        self.nodes, self.over, self.waits, self.wrong = nodes, threading.Event(), [], []
+
+    def run(self):
+        for number in itertools.count(1):
+            begun = time.monotonic()
+            try:
+                self.nodes.publish_whole(number % 2, map_of(number))
+            except Wrong as wrong:
+                self.wrong.append(str(wrong))
+            self.waits.append(time.monotonic() - begun)
+            if self.over.wait(0.5):
+                return
+
+
+def processes(program, count, draw):
+    """Whether nodes and a replica were served and published on while strangers came, and are level then."""
+    with tempfile.TemporaryDirectory() as folder:
+        farm = Attacked(program, pathlib.Path(folder), draw)
+        watch, publisher = Watch(farm.running, Ledger()), Publisher(farm.nodes)
+        client = Behaving([each.clients for each in farm.running], farm.nodes[0].ask(TILE).body)
+        try:
+            client.start()
+            publisher.start()
+            begun = time.monotonic()
+            said = attacked(farm.rows(count, draw), draw)
+            print(f"{count} hostile connections to nodes and a replica in {time.monotonic() - begun:.0f} s, "
+                  f"{AT_ONCE} at a time ({said}); {farm.impostors[0].count} connections of nodes to a "
+                  f"stranger, {farm.impostors[1].count} of the replica")
+            print(f"{farm.fill_slots()} silent connections at once for {FILLED} s")
+            good = client.end()
+            publisher.over.set()
+            publisher.join()
+            print(f"{len(publisher.waits)} maps published meanwhile, the longest after "
+                  f"{max(publisher.waits):.2f} s, {len(publisher.wrong)} not in time")
+            top = max(each.published() or 0 for each in farm.running)
+            is_level = is_so_within(lambda: {each.published() for each in farm.running} == {top}, 10)
+            watch.end()
+            ends = [each.last_line() for each in farm.running if each.ended() is not None]
+            memory = 0 if ends else farm.most_memory()
+        finally:
+            client.over.set()
+            publisher.over.set()
+            watch.over.set()
+            farm.end()
+    wrong = watch.ledger.violations
+    print(f"the farm is {'level' if is_level else 'NOT LEVEL'} at {top}, {watch.ledger.counts['answers']} "
+          f"answers compared, {len(wrong)} of them wrong {wrong[:3] or ''}; {len(ends)} processes ended "
+          f"{ends or ''}; at most {memory} MB")
+    return good and is_level and not (wrong or ends or publisher.wrong)
 
 
 # Mutations.
@@ -323,6 +380,8 @@ def words():
     asked_for = program_parser(__doc__)
     asked_for.add_argument("--sockets", type=int, default=1_000, metavar="N",
                            help="hostile connections (1,000)")
+    asked_for.add_argument("--processes", type=int, default=1_000, metavar="N",
+                           help="hostile connections to nodes and a replica (1,000)")
     asked_for.add_argument("--count", type=int, default=100_000, metavar="N",
                            help="mutated mapfiles (100,000)")
     asked_for.add_argument("--seed", type=int, default=1, metavar="S")
@@ -333,8 +392,8 @@ def words():
 def main():
     given = words()
     good = not given.count or mutations(given.program, given)
-    if given.sockets:
-        good = sockets(given.program, given.sockets, random.Random(given.seed)) and good
+    for part, count in ((sockets, given.sockets), (processes, given.processes)):
+        good = (not count or part(given.program, count, random.Random(given.seed))) and good
     return 0 if good else 1
 
 

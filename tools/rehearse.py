@@ -3,19 +3,21 @@
 and compares every answer. What links do is tried by `tools/cut_links.py`, and played, with all else that
 befalls nodes alone, by the cases of `crates/wf_test_simulation`.
 
-Hosts are network namespaces on a bridge (`farmkit.hosts`): three voters, each with a disk of its own, an
-ext4 on a device whose power can be cut (`farmkit.device`); and two replicas. All the while clients publish at
-every voter and ask every process for capabilities and pictures. Compared: no sequence has two pictures, two
-capabilities or two maps, whenever and from whichever process they come; no published sequence of a process
-goes back, but for a replica's that lost its folder; what a node reported as published stays and is the map
-that was sent; no process ends by itself.
+Hosts are network namespaces on a bridge (`farmkit.hosts`): three voters or as --voters says, each with a disk
+of its own, an ext4 on a device whose power can be cut (`farmkit.device`), and a service that starts it again
+where it ended with status 0; and two replicas. All the while clients publish at every voter and ask every
+process for capabilities and pictures. Compared: no sequence has two pictures, two capabilities or two maps,
+whenever and from whichever process they come; no published sequence of a process goes back, but for a
+replica's that lost its folder; what a node reported as published stays and is the map that was sent; no
+process ends by itself, but for a node that noted a replacement or begins to vote.
 
 Healing: after each full disk, after every 25th fault (or as --healing says) and after the last one the
 clients pause, and five seconds after the end of that fault (a disk that has room again, a program that was
 started) a publish was made at each node, none is running, and all processes have published equally many.
 
 500 faults by default, in T seconds (2,400) at most; fewer in that time is an error. A line per kind of fault,
-with how often and in which time all was healed after it, and per violation, and their number at the end;
+with how often and in which time all was healed after it, and how long it took until a lost voter's new folder
+voted, with the longest time in which no map was published meanwhile; a line per violation, and their number;
 status 1 where there is one. It ends at the twentieth violation. Two rehearsals may run at a time with another
 `--network`. Wants root, iproute2, nftables and FUSE.
 """
@@ -27,6 +29,7 @@ import random
 import re
 import shutil
 import signal
+import subprocess
 import sys
 import tempfile
 import threading
@@ -34,28 +37,43 @@ import time
 
 from farmkit import hosts
 from farmkit.command import listed, program_parser, tell_missing
+from farmkit.control import command, write_nodes
 from farmkit.device import Machine, fill, formatted, is_permitted, make_room
 from farmkit.hosts import CLIENTS, OPERATOR, READERS, HostedNode, addresses
 from farmkit.ledger import MOST_VIOLATIONS, Ledger, Watch
 from farmkit.mapfiles import PIXEL, map_of, picture_of
-from farmkit.processes import STATUS, Process
+from farmkit.processes import STATUS, Process, Service
 from farmkit.wanted import seconds_until
 
-VOTERS, REPLICAS, FARM, DISK = 3, 2, "rehearsal", 24 << 20
+REPLICAS, FARM, DISK = 2, "rehearsal", 24 << 20
 # the share of starts that are waited for; seconds from the end of a fault until all is healed
 READY, SETTLED = 0.6, 5
 PATIENCE = 60
+# seconds until a new folder votes, which learns up to 4,096 maps on a slow disk first
+REPLACED = 300
 OFTEN = ("kill", "kill", "replica")
+# the shares of replacements in which nodes are told not to wait for ten seconds, and in which a voter fails
+FORCED, DISTURBED = 0.5, 0.3
+# what a node's log tells before it ends with status 0
+RESTARTS = re.compile(" (replacement-noted|joined) ")
 LENGTHS = (0,) * 12 + (4_000,) * 3 + (29_000,)
 
 
 class Voter(HostedNode):
     def __init__(self, host, above, empty, program, voters):
-        self.above, self.filled = above / host.name, 0
+        self.above, self.empty, self.filled = above / host.name, empty, 0
         self.above.mkdir()
         self.machine = Machine(self.above, empty)
         super().__init__(host, self.machine.folder / "state", program, voters, FARM, True)
+        self.words.append("--replace-allowed")
         self.log = self.above / "log"
+
+    def lose_disk(self):
+        """Another disk takes its disk's place, with a folder that joins."""
+        self.kill()
+        self.machine.stop()
+        self.machine = Machine(self.above, self.empty)
+        self.init(FARM, "--replace")
 
     def cut_power(self, draw):
         """Cuts the power: the disk keeps of what wasn't flushed all, nothing, or some."""
@@ -101,21 +119,32 @@ class Replica(Process):
         self.kill()
 
 
+def is_back(process):
+    """Whether a process that was started answers clients, joins, or has ended."""
+    return (process.published(5) is not None or process.ended() is not None
+            or process.ask_operator("/healthz", 5).body.startswith(b"joins"))
+
+
 class Rehearsal:
     def __init__(self, options, above):
-        self.options, self.draw, above = options, random.Random(options.seed), pathlib.Path(above)
+        self.options, self.draw = options, random.Random(options.seed)
+        self.above = above = pathlib.Path(above)
         self.ledger = Ledger(lambda words: print(time.strftime("%H:%M:%S violation: ") + words, flush=True),
                              set())
         self.numbers, self.done = itertools.count(1), collections.Counter()
         self.over = threading.Event()
-        self.network = hosts.Network(options.network, VOTERS + REPLICAS)
-        voters, renderers = self.network.hosts[:VOTERS], self.network.hosts[VOTERS:]
+        self.network = hosts.Network(options.network, options.voters + options.replicas)
+        voters, renderers = self.network.hosts[:options.voters], self.network.hosts[options.voters:]
         empty = formatted(DISK, above)
         self.voters = [Voter(host, above, empty, options.program, voters) for host in voters]
         self.replicas = [Replica(host, above, options.program, addresses(voters, READERS))
                          for host in renderers]
-        self.processes = self.voters + self.replicas
+        self.processes, self.nodes = self.voters + self.replicas, above / "nodes"
+        write_nodes(self.nodes, self.processes)
         self.last_fault, self.last_end = "", time.monotonic()
+        # when nodes reported their maps as published; and of replacements, forced or not, the seconds that
+        # each took, and the most of these without such a report
+        self.reports, self.replacements = [], collections.defaultdict(list)
         # clients publish nothing while it is asked how soon all is healed
         self.pausing, self.healed = threading.Event(), collections.defaultdict(list)
 
@@ -144,6 +173,7 @@ class Rehearsal:
             line = STATUS.fullmatch(voter.ask("/status", seconds=5).body)
             if line and line[3] == b"published %d" % sequence:
                 self.ledger.counts["maps reported as published"] += 1
+                self.reports.append(time.monotonic())
                 self.ledger.same("the map published at", sequence, picture_of(number))
                 self.ledger.same("the picture at", sequence, picture_of(number))
             if line and line[3] != b"running":
@@ -153,7 +183,8 @@ class Rehearsal:
 
     def fault(self, kind):
         """Lets one fault happen, and ends it. After some all has to be healed soon."""
-        process = self.draw.choice(self.replicas if kind in OF_REPLICAS else self.voters)
+        among = {"alone": self.processes, "lost": [self.voters[self.done[kind] % len(self.voters)]]}
+        process = self.draw.choice(among.get(kind, self.replicas if kind in OF_REPLICAS else self.voters))
         self.last_fault = f"{kind} at {process.known_as}"
         ended = KINDS[kind](self, process, self.draw.uniform(0.05, 0.8))
         self.last_end = ended or time.monotonic()
@@ -194,8 +225,7 @@ class Rehearsal:
             each.start()
         started = time.monotonic()
         if self.draw.random() < READY:
-            seconds_until(lambda: all(each.published(5) is not None or each.ended() is not None
-                                      for each in ends), PATIENCE, 0.05)
+            seconds_until(lambda: all(map(is_back, ends)), PATIENCE, 0.05)
         time.sleep(pause / 2)
         return started
 
@@ -211,11 +241,50 @@ class Rehearsal:
         time.sleep(pause)
         voter.slow_down(0)
 
-    def alone(self, replica, pause):
-        """a replica is cut off from all voters"""
-        replica.host.cut([voter.host for voter in self.voters])
+    def alone(self, process, pause):
+        """a process is cut off from all voters"""
+        process.host.cut([voter.host for voter in self.voters if voter is not process])
         time.sleep(pause * 2)
-        replica.host.mend()
+        process.host.mend()
+
+    def lost(self, voter, pause):
+        """a voter's disk is lost, of each in turn: a new folder takes its place by `wfarmctl replace`, while
+        a voter may be killed or lose power; then as few voters run as can publish, and it is one of them"""
+        begun, force = time.monotonic(), ["--force"] if self.draw.random() < FORCED else []
+        voter.lose_disk()
+        time.sleep(pause)
+        voter.start()
+        if not self.is_replaced(voter, pause, force):
+            return None
+        moments = [begun, *(moment for moment in self.reports if moment > begun), time.monotonic()]
+        self.replacements[" ".join(["replaced", *force])].append(
+            (moments[-1] - begun, max(after - before for before, after in zip(moments, moments[1:]))))
+        others = self.draw.sample([other for other in self.voters if other is not voter],
+                                  (len(self.voters) - 1) // 2)
+        for other in others:
+            other.kill()
+        if seconds_until(lambda: self.is_taken(voter), SETTLED, 0.05) is None:
+            self.ledger.violation(f"no publish is taken at {voter.known_as}, whose disk was replaced, "
+                                  f"without {[other.known_as for other in others]}")
+        return self.restart(others, pause)
+
+    def is_replaced(self, voter, pause, force):
+        """Runs `wfarmctl replace` as often as an operator has to: whether the new folder votes."""
+        words = command(self.options.program, self.nodes, "replace", voter.number, "--yes", *force)
+        disturbed, until = self.draw.random() < DISTURBED, time.monotonic() + REPLACED
+        while time.monotonic() < until:
+            ran = subprocess.Popen(words, stdout=subprocess.PIPE, stderr=subprocess.STDOUT, text=True)
+            if disturbed:
+                time.sleep(pause)
+                self.draw.choice((self.kill, self.power))(self.draw.choice(self.voters), pause)
+                disturbed = False
+            told, _ = ran.communicate()
+            if ran.returncode == 0:
+                return True
+        self.ledger.violation(f"{voter.known_as} isn't replaced in {REPLACED} s: {told}")
+        # (no farm goes on that loses a second disk of three)
+        self.options.kinds = [kind for kind in self.options.kinds if kind != "lost"] or ["kill"]
+        return False
 
     # ---- what is judged
 
@@ -223,15 +292,18 @@ class Rehearsal:
         """Starts a program that ended by itself: a violation unless its disk was full while it started."""
         for process in self.processes:
             code = process.ended()
-            if code is None:
+            # (where it is 0 its service starts it again)
+            if code is None or code == 0:
                 continue
             # a voter that couldn't write to its folder while it started
             if (process in self.voters and process.answered < process.started < process.filled
                     and re.match("the (tape|folder)", process.last_line())):
                 self.ledger.counts["starts that a full disk ended"] += 1
             else:
+                kept = self.above / f"ended-{len(self.ledger.violations)}-{process.known_as}"
+                shutil.copytree(process.folder, kept)
                 self.ledger.violation(f"{process.known_as} ended by itself with {code} after "
-                                      f"{self.last_fault}: {process.last_line()}")
+                                      f"{self.last_fault}: {process.last_line()}; its folder is {kept}")
             process.kill()
             process.start()
             self.last_end = time.monotonic()
@@ -240,7 +312,7 @@ class Rehearsal:
         """All has to be healed soon after the last fault: publishes made, none running, one sequence."""
         self.watch()
         self.pausing.set()
-        waiting, is_healed = list(self.voters), False
+        waiting, running, told, is_healed = list(self.voters), [], [], False
         while not is_healed and (took := time.monotonic() - self.last_end) <= SETTLED:
             waiting = [voter for voter in waiting if not self.is_taken(voter)]
             told = [process.published(1) for process in self.processes]
@@ -267,7 +339,7 @@ class Rehearsal:
     def run(self):
         for process in self.processes:
             process.start()
-        readers = Watch(self.processes, self.ledger)
+        readers, service = Watch(self.processes, self.ledger), Service(self.processes)
         clients = [threading.Thread(target=self.publish, args=(voter,)) for voter in self.voters]
         for client in clients:
             client.start()
@@ -283,7 +355,13 @@ class Rehearsal:
             readers.end()
             for client in clients:
                 client.join()
+            service.end()
         self.watch()
+        self.ledger.counts["restarts by services"] = service.restarts
+        noted = sum(bool(RESTARTS.search(line)) for voter in self.voters for line in voter.log_lines())
+        if service.restarts > noted:
+            self.ledger.violation(f"processes ended {service.restarts} times with 0, and told {noted} "
+                                  "times why")
         self.look_again()
 
     def look_again(self):
@@ -307,6 +385,10 @@ class Rehearsal:
         for kind, times in sorted(self.healed.items()):
             print(f"{len(times):5} times healed after {kind}: {sum(times) / len(times):.1f} s, "
                   f"{max(times):.1f} at most")
+        for words, found in sorted(self.replacements.items()):
+            seconds, without = zip(*found)
+            print(f"{len(found):5} {words}: {sum(seconds) / len(found):.1f} s, {max(seconds):.1f} at most, "
+                  f"without a published map {max(without):.1f} at most")
         for what, count in sorted(self.ledger.counts.items()):
             print(f"{count:5} {what}")
         print(f"seed {self.options.seed}: {sum(self.done.values())} faults, "
@@ -314,10 +396,10 @@ class Rehearsal:
               f"{len(self.ledger.violations)} violations")
 
 
-OF_REPLICAS = ("replica", "anew", "alone")
+OF_REPLICAS = ("replica", "anew")
 KINDS = {each.__name__: each for each in (
     Rehearsal.kill, Rehearsal.power, Rehearsal.every, Rehearsal.full, Rehearsal.slow, Rehearsal.replica,
-    Rehearsal.anew, Rehearsal.alone)}
+    Rehearsal.anew, Rehearsal.alone, Rehearsal.lost)}
 
 
 def words():
@@ -330,7 +412,11 @@ def words():
     asked.add_argument("--kinds", type=lambda words: words.split(","), default=[*OFTEN, *KINDS],
                        help="which faults, with commas between them")
     asked.add_argument("--network", type=int, default=0, help="the number of the network, 0 to 255")
-    return asked.parse_args()
+    asked.add_argument("--voters", type=int, default=3)
+    asked.add_argument("--replicas", type=int, default=REPLICAS)
+    options = asked.parse_args()
+    options.kinds = [kind for kind in options.kinds if options.replicas or kind not in OF_REPLICAS]
+    return options
 
 
 def main():

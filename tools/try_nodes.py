@@ -19,6 +19,7 @@ import threading
 import time
 
 from farmkit.command import add_cases, listed, program_parser
+from farmkit.greetings import GREETING_BYTES, greeting, rejected_for
 from farmkit.ledger import Ledger, Watch
 from farmkit.mapfiles import a_map, canonical
 from farmkit.nodes import NODES, Nodes
@@ -29,11 +30,6 @@ from farmkit.wanted import PATIENCE, until, want, want_none
 from farmkit.web import connect, loopback, received
 from trials_of_nodes import differing_histories, halted_nodes, replaced_machines, returned_folders
 from trials_of_nodes.returned_folders import suspension
-
-# the lengths of a greeting, and of a rejection that says nothing of what is remembered or says it
-GREETING_BYTES, REJECTION_BYTES = 132, (12, 66)
-# the state of a node that votes and serves
-SERVES = 1
 
 
 def publish(nodes):
@@ -125,44 +121,6 @@ def clients(nodes):
     want("no 400 to a request that isn't whole", answer == b"HTTP/1.1 400" and 8 < seconds < 13)
     return (f"median {alone} ms alone, {beside_idle} with 200 idle, {beside_trickling} with 20 trickling, "
             f"400 after {seconds:.1f} s")
-
-
-def greeting(these, i, /, **changes):
-    """The bytes by which a node greets node 0, as its folder and node 0's have them, or changed."""
-    lines = these.farm(i)
-    file = these[0].folder / "heard"
-    until(lambda: file.exists()
-          and re.search("tried", file.read_text().splitlines()[1 + i]))  # written within a second
-    heard = file.read_text().splitlines()[1 + i]
-
-    def of(*words):
-        """The numbers behind these words of the line; zeros if they aren't there."""
-        found = re.search(" ".join(f"{word} ([0-9a-f]{{8}})" for word in words), heard)
-        return [int(number, 16) for number in found.groups()] if found else [0] * len(words)
-
-    published = these.published(0)
-    # (a vote at a sequence that is published needn't be there)
-    round_, node, sequence = of("voted", "of", "at")
-    vote = (round_, node, sequence) if sequence > published else (0, 0, 0)
-    fields = {"magic": b"wf-node\n", "version": 2, "farm": lines["farm"], "nodes": int(lines["nodes"], 16),
-              "node": i, "starts": int(lines["starts"], 16) + 1, "state": SERVES, **changes}
-    return (fields["magic"] + fields["version"].to_bytes(2, "big") + fields["farm"].encode().ljust(32, b"\0")
-            + bytes([fields["nodes"], fields["node"]]) + bytes.fromhex(lines["mark"])
-            + fields["starts"].to_bytes(4, "big") + b"forger of a life" + of("tried")[0].to_bytes(4, "big")
-            + in_bytes(of("promised", "of"), 4, 1) + in_bytes(vote, 4, 1, 2) + published.to_bytes(2, "big")
-            + these.digest() + bytes([fields["state"], 0]))
-
-
-def in_bytes(numbers, *sizes):
-    """The bytes of numbers, each of a size of its own."""
-    return b"".join(number.to_bytes(size, "big") for number, size in zip(numbers, sizes))
-
-
-def rejected_for(came):
-    """The number of the cause for which a greeting was rejected; None if these bytes are no rejection."""
-    has_memory = came[11:12] == b"\1"
-    is_one = came[:10] == b"wf-nope\n\0\2" and len(came) == REJECTION_BYTES[has_memory]
-    return came[10] if is_one else None
 
 
 def told_to(nodes, i, sent, source="127.0.0.1"):

@@ -25,7 +25,7 @@ from farmkit.measure import percentile
 from farmkit.processes import UNSIGNALLED, Replica, free_ports, limited, nodes_in
 from farmkit.tapes import MOST_MAPS, tape_of
 from farmkit.trial import chosen, go_through
-from farmkit.wanted import seconds_until, want, want_none
+from farmkit.wanted import is_so_within, want, want_none
 from farmkit.web import connect
 
 VOTERS = 3
@@ -33,7 +33,7 @@ PATIENCE = 60
 
 
 def until(is_so, seconds=PATIENCE):
-    return seconds_until(is_so, seconds)
+    return is_so_within(is_so, seconds, 0.01)
 
 
 class Farm:
@@ -61,7 +61,7 @@ class Farm:
     def await_answer(process):
         """Waits until a process answers."""
         is_there = until(lambda: process.published() is not None)
-        want(f"{process.folder.name} doesn't begin: {process.log.read_text()[-300:]}", is_there is not None)
+        want(f"{process.folder.name} doesn't begin: {process.log.read_text()[-300:]}", is_there)
 
     def replica(self, name, sources=None):
         made = Replica(self.options.program, self.folder / name, "tried", sources or self.readers)
@@ -84,7 +84,7 @@ class Farm:
         before = voter.published()
         if before is None or voter.ask("/publish", text, 5).status != 202:
             return False
-        return until(lambda: (voter.published() or 0) > before, seconds) is not None
+        return until(lambda: (voter.published() or 0) > before, seconds)
 
 
 def mislead(farm, other):
@@ -184,7 +184,7 @@ def follows(farm, replica, numbers, pause, is_enough=lambda: False):
         time.sleep(pause)
         wrong.update(differences(farm, replica))
     top = farm.top()
-    if not wrong and until(lambda: replica.published() == top, 10) is None:
+    if not wrong and not until(lambda: replica.published() == top, 10):
         wrong.add(f"ten seconds later it says published {replica.published()}, and the voters {top}")
     wrong.update(differences(farm, replica))
     return sorted(wrong)
@@ -235,7 +235,7 @@ def foreign(options, top):
 def beside(ours, foreign_farm, name):
     """What is wrong with a replica that has one source of another farm among three."""
     replica = ours.replica(name)
-    want("it doesn't begin", until(lambda: replica.published() == ours.top(), 20) is not None)
+    want("it doesn't begin", until(lambda: replica.published() == ours.top(), 20))
     replica.kill()
     own, place = ours.readers.split(","), replica.words.index("--peers") + 1
     source = foreign_farm.readers.split(",")[0]
@@ -318,7 +318,7 @@ def chain(options, top):
             until(lambda: links[-1].published() is not None)
             time.sleep(0.5)
         want("no publish", farm.publish(map_of(1), farm.voters[0]))
-        learned = [until(lambda: link.published() == 1, 5) is not None for link in links]
+        learned = [until(lambda: link.published() == 1, 5) for link in links]
         is_told = "too far" in links[-1].log.read_text()
     print(f"chain: of six replicas in a row learned {learned.count(True)}, the last says that it is too far: "
           f"{is_told}")

@@ -19,10 +19,11 @@ import time
 
 from farmkit import trial
 from farmkit.command import program_parser
+from farmkit.control import wfarmctl, write_nodes
 from farmkit.mapfiles import canonical
 from farmkit.processes import Replica, free_ports, nodes_in
+from farmkit.repository import EXAMPLES
 
-HERE = pathlib.Path(__file__).resolve().parent
 MAP = ('MAP NAME "{}" EXTENT 0 0 4 4 PROJECTION "init=epsg:3857" END '
        'WEB METADATA "wms_title" "{}" END END END\n')
 
@@ -38,8 +39,7 @@ class Trial(trial.Trial):
         self.readers = free_ports(3)
         nodes = nodes_in(self.program, self.folder / name, name, readers=self.readers)
         file = self.folder / f"{name}.nodes"
-        file.write_text("# clients operator\n" + "".join(f"{node.clients} {node.operator}\n"
-                                                         for node in nodes))
+        write_nodes(file, nodes)
         return nodes, file
 
     def map(self, name, title=""):
@@ -49,11 +49,7 @@ class Trial(trial.Trial):
 
     def call(self, *words, file=None, seconds=30, program=None):
         """What `wfarmctl` does: its status, what it writes, and what it writes on standard error."""
-        options = ["--farm", str(file or self.file), "--program", str(program or self.program), "--seconds",
-                   str(seconds)]
-        ended = subprocess.run([sys.executable, str(HERE / "wfarmctl"), *options, *map(str, words)],
-                               capture_output=True, text=True)
-        return ended.returncode, ended.stdout, ended.stderr
+        return wfarmctl(program or self.program, file or self.file, *words, seconds=seconds)
 
     def tells(self, what, *words, code=0, out=None, has=(), error="", **options):
         """What a call writes: all of it, parts of it, or a part of what comes on standard error."""
@@ -81,11 +77,11 @@ def try_well(trial):
     trial.see("publish: the sequence, and the node that took the map",
               (code, told) == (0, "published 1 at node 0\n"), (told, error))
     trial.wait("all nodes have it", lambda: trial.all_at(1))
-    code, told, error = trial.call("publish", HERE.parent / "examples" / "refused-include.map")
+    code, told, error = trial.call("publish", EXAMPLES / "refused-include.map")
     trial.see("publish: a map that isn't valid", code == 1 and error.endswith("400 M5 4\n"), error)
     trial.see("publish: what `wfarm check` finds in it", "line 1, column 5" in error
               and "Found INCLUDE" in error, error)
-    code, told, error = trial.call("publish", HERE.parent / "examples" / "refused-include.map",
+    code, told, error = trial.call("publish", EXAMPLES / "refused-include.map",
                                    program=trial.folder / "nothing")
     trial.see("publish: not where the program isn't there",
               (code, error) == (1, "wfarmctl: node 0: 400 M5 4\n"), error)
@@ -104,6 +100,9 @@ def try_well(trial):
     trial.see("rollback: the map again, under a new sequence", code == 0 and told.startswith("published 3 ")
               and trial.call("map", 3)[1] == trial.canonical(first), (told, error))
     trial.wait("all nodes have it", lambda: trial.all_at(3))
+    trial.tells("replace: a node that the farm hasn't", "replace", 7, code=1, error="the farm has no node 7")
+    trial.tells("replace: one that doesn't join", "replace", 2, code=1,
+                error="node 2 doesn't join: it serves")
     try_history(trial)
     try_file_of_nodes(trial)
 

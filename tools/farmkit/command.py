@@ -24,16 +24,15 @@ def parser(document: str | None, statuses: str = STATUSES) -> argparse.ArgumentP
 
 def add_program(to: argparse.ArgumentParser, default: pathlib.Path = PROGRAM,
                 name: str = "--program") -> None:
-    """The built program, by an option or (`program`) as a word of the command line that may be left out."""
-    words: dict[str, Any] = {"nargs": "?"} if name == "program" else {}
+    """The built program, by an option."""
     said = f"the built program ({default.relative_to(default.parents[3])})"
-    to.add_argument(name, type=program_at, default=str(default), metavar="PROGRAM", help=said, **words)
+    to.add_argument(name, type=program_at, default=str(default), metavar="PROGRAM", help=said)
 
 
-def program_parser(document: str | None, name: str = "--program") -> argparse.ArgumentParser:
+def program_parser(document: str | None) -> argparse.ArgumentParser:
     """A parser with the option for the program."""
     made = parser(document)
-    add_program(made, name=name)
+    add_program(made)
     return made
 
 

@@ -144,8 +144,12 @@ class Mounted:
                            4096, 0)
 
     def unmount(self) -> None:
+        """Takes it away. Where something else still has the device, as a container that began meanwhile,
+        its thread goes on: else it would read from what is opened next under the number of its channel."""
         LIBC.umount2(os.fsencode(self.folder), 2)
-        os.close(self.channel)
+        self.thread.join(1)
+        if not self.thread.is_alive():
+            os.close(self.channel)
 
 
 def run(*words: str) -> str:

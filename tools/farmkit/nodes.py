@@ -8,7 +8,7 @@ import subprocess
 from collections.abc import Sequence
 from typing import Any
 
-from farmkit.processes import UNSIGNALLED, Node, end, free_ports
+from farmkit.processes import UNSIGNALLED, Node, free_ports
 from farmkit.wanted import PATIENCE, Wrong, until, want
 from farmkit.web import Answer, ask, loopback
 
@@ -103,13 +103,14 @@ class Nodes:
 
     def kill(self, *those: int) -> None:
         for i in those:
-            end(self[i].running())
+            self[i].kill()
 
     def kill_all(self) -> None:
         for node in self.each:
-            node.running().kill()
+            if node.process is not None:
+                node.process.kill()
         for node in self.each:
-            node.running().wait()
+            node.kill()
 
     def ended(self, i: int) -> tuple[int | None, str]:
         until(lambda: self[i].ended() is not None)

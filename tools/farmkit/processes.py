@@ -8,6 +8,7 @@ import resource
 import signal
 import socket
 import subprocess
+import threading
 import time
 from collections.abc import Callable, Sequence
 from typing import Any
@@ -121,6 +122,7 @@ class Process:
         self.words, self.before = words, list(before)
         self.clients, self.operator = clients, operator
         self.process: subprocess.Popen[Any] | None = None
+        self.lock = threading.RLock()
         self.known_as, self.life = self.folder.name, 0
         # the file of its standard error, and when it was started, and answered last
         self.log = self.folder.parent / f"log-{self.folder.name}"
@@ -145,16 +147,17 @@ class Process:
               **settings: Any) -> None:
         """Starts it, with words before the program's and more behind; `settings` are those of Popen."""
         words = [*self.before, *before, *self.command(), *(["--log"] if logs else []), *more]
-        with self.log.open("ab") as log:
+        with self.lock, self.log.open("ab") as log:
             usual: dict[str, Any] = {"stdin": subprocess.DEVNULL, "stdout": log, "stderr": log}
             self.process = subprocess.Popen(words, start_new_session=bool(self.before),
                                             **{**usual, **settings})
         self.started = time.monotonic()
 
     def kill(self) -> None:
-        if self.process is not None:
-            end(self.process)
-            self.process = None
+        with self.lock:
+            if self.process is not None:
+                end(self.process)
+                self.process = None
 
     def running(self) -> "subprocess.Popen[Any]":
         """Its process, which was started and not killed."""
@@ -217,6 +220,33 @@ class Node(Process):
     @property
     def tape(self) -> pathlib.Path:
         return self.folder / f"node-{self.number}.tape"
+
+
+class Service:
+    """Starts each process again that ended with status 0, as the service of a machine does."""
+
+    def __init__(self, processes: Sequence[Process]) -> None:
+        self.processes, self.over, self.restarts = processes, threading.Event(), 0
+        self.thread = threading.Thread(target=self.watch)
+        self.thread.start()
+
+    def watch(self) -> None:
+        while not self.over.wait(0.05):
+            for process in self.processes:
+                with process.lock:
+                    if process.ended() == 0:
+                        process.start()
+                        self.restarts += 1
+
+    def end(self) -> None:
+        self.over.set()
+        self.thread.join()
+
+    def __enter__(self) -> "Service":
+        return self
+
+    def __exit__(self, *_: object) -> None:
+        self.end()
 
 
 class Replica(Process):

@@ -137,6 +137,16 @@ class Wfarmctl(unittest.TestCase):
             for file in [path] if path.is_file() else path.glob("**/*.py"):
                 self.assertNotIn("farmkit", file.read_text(encoding="utf-8"), str(file))
 
+    def test_the_count_of_a_replacement(self) -> None:
+        def count(own: int, *known: tuple[int, str]) -> int:
+            joiner = types.SimpleNamespace(node=types.SimpleNamespace(number=1), count=own, mark="ours")
+            return wfarmctl().next_count(joiner, [types.SimpleNamespace(known={1: each}) for each in known])
+
+        self.assertEqual([count(0), count(0, (4, "other")), count(1), count(2, (1, "other"), (2, "ours"))],
+                         [1, 5, 1, 2])
+        # where each other node agreed to another folder first, and where an older one was agreed to
+        self.assertEqual([count(1, (1, "ours"), (1, "other")), count(1, (2, "other"))], [2, 3])
+
     def test_the_digest_of_a_history(self) -> None:
         texts = [b"one", b"two", b"three"]
         digests = wfarmctl().digests_of(texts)
