@@ -155,6 +155,13 @@ def put_build(root, program, version, maintainer):
     put_manuals(root, day)
 
 
+def put_sums(root):
+    """The sums of all files, for `dpkg --verify`."""
+    files = sorted(path for path in root.rglob("*") if path.is_file() and not path.is_symlink())
+    sums = [f"{hashlib.md5(path.read_bytes()).hexdigest()}  {path.relative_to(root)}\n" for path in files]
+    place("".join(sums), root / "DEBIAN/md5sums", 0o644)
+
+
 def fill(root, program, version, maintainer):
     """Puts everything where it is installed."""
     put_binaries(root, program)
@@ -162,6 +169,7 @@ def fill(root, program, version, maintainer):
         place(installed(unit), root / "lib/systemd/system" / pathlib.Path(unit).name, 0o644)
     put_shared(root)
     put_build(root, program, version, maintainer)
+    put_sums(root)
     place(form("control", version=version, maintainer=maintainer, depends=depends(program)),
           root / "DEBIAN/control", 0o644)
     for name in ("postinst", "prerm", "postrm"):

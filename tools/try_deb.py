@@ -49,14 +49,22 @@ def lost_links(documents):
             if said.endswith(".md") and not (page.parent / said).exists()]
 
 
+def manual(root, name):
+    """What a page for `man` has."""
+    page = root.path / f"usr/share/man/man1/{name}.1.gz"
+    return gzip.decompress(page.read_bytes()).decode().replace("\\-", "-")
+
+
 def look_inside(root, package):
     documents, share = root.path / "usr/share/doc/wfarm", root.path / "usr/share/wfarm"
-    told = gzip.decompress((root.path / "usr/share/man/man1/wfarm.1.gz").read_bytes()).decode()
+    told = manual(root, "wfarm")
     root.see("man wfarm has each command",
              all(f".SH WFARM {command.upper()}\n" in told for command in make_deb.COMMANDS))
-    told = gzip.decompress((root.path / "usr/share/man/man1/wfarmctl.1.gz").read_bytes()).decode()
-    root.see("man wfarmctl has its commands", "wfarmctl rollback SEQ" in told
-             and "wfarmctl export DIR" in told)
+    root.see("and init --replace, and node --replace-allowed",
+             all(re.search(rf"(?m)^\W*--{option} ", told) for option in ("replace", "replace-allowed")))
+    told = manual(root, "wfarmctl")
+    root.see("man wfarmctl has its commands",
+             all(f"wfarmctl {command}" in told for command in ("rollback SEQ", "export DIR", "replace NODE")))
     lost = lost_links(documents)
     root.see("each document that a document names is there" + "".join(f"; {it}" for it in lost), not lost)
     root.see("the tools that make maps are there", (share / "tools/make_map.py").exists()
@@ -75,8 +83,9 @@ def look_inside(root, package):
 def lint(root, package):
     if shutil.which("lintian") is None:
         return print("lintian: left out, it isn't here")
-    told = subprocess.run(["lintian", "--allow-root", str(package)], capture_output=True, text=True).stdout
-    tags = [line for line in told.splitlines() if line[:2] in ("E:", "W:")]
+    told = subprocess.run(["lintian", "--allow-root", "--display-info", "--pedantic", str(package)],
+                          capture_output=True, text=True).stdout
+    tags = [line for line in told.splitlines() if re.match("[EWIP]:", line)]
     root.see("lintian has no complaint" + "".join(f"; {tag}" for tag in tags), not tags)
 
 
@@ -88,6 +97,7 @@ def attempt(root, program, folder):
     told = root.inside("wfarm", "--version").stdout
     root.see(f"the program prints its version and revision: {told.strip()}",
              told == f"wfarm 0.1.0 (revision {root.revision})\n")
+    root.see("dpkg finds each file as it was packed", root.inside("dpkg", "--verify", "wfarm").stdout == "")
     root.see("the user's folder is there",
              root.inside("stat", "--format=%U", "/var/lib/wfarm").stdout == "wfarm\n")
     root.see("it is purged", root.inside("dpkg", "--purge", "wfarm").returncode == 0)

@@ -1,7 +1,8 @@
 #!/usr/bin/env python3
 """Walks through docs/MACHINES.md on three hosts made anew and a fourth one, with the commands that stand
-there: the beginning, maps, a renderer without a vote, an upgrade while clients ask, a second farm on the same
-machines, and beginning anew behind the same nginx.
+there: the beginning, maps, nginx with the page, a renderer without a vote, an upgrade, a machine that is lost
+and one whose node moves, all three while clients ask, a second farm on the same machines, and beginning anew
+behind the same nginx.
 
 Each host is a Debian of its own that `systemd-nspawn` boots, with the address that the page gives it. DIR is
 a Debian made before (debootstrap with the packages of INCLUDED), copied from; else one is made. The upgrade
@@ -17,6 +18,7 @@ import subprocess
 import sys
 import tempfile
 import threading
+import time
 
 import make_deb
 from farmkit.command import tell_missing
@@ -25,11 +27,11 @@ from try_deb import debian, missing, package, words
 from try_units import Container
 
 INCLUDED = ("systemd,systemd-sysv,dbus,python3,python3-minimal,adduser,procps,iproute2,nginx-light,curl,sudo,"
-            "openssl")
+            "openssl,libjs-leaflet")
 PAGE = TOP / "docs" / "MACHINES.md"
 BRIDGE = "wfarmpages"
 NODES = ("10.0.0.1", "10.0.0.2", "10.0.0.3")
-RENDERER = "10.0.0.11"
+RENDERER, MOVED = "10.0.0.11", "10.0.0.4"
 SITE = "https://maps.county.example"
 OTHER_SITE = "https://roads.county.example"
 SIZE = "&STYLES=&CRS=EPSG:4326&WIDTH=64&HEIGHT=64&FORMAT=image/x-portable-pixmap"
@@ -37,6 +39,8 @@ ROADS = "wms?VERSION=1.3.0&REQUEST=GetMap&LAYERS=roads&BBOX=51.5,-3.25,52,-2.75"
 LAKES = "wms?VERSION=1.3.0&REQUEST=GetMap&LAYERS=lakes&BBOX=46,8,48,10" + SIZE
 # where a line of `wfarmctl status` says how a process is
 STATE_COLUMN = 65
+# seconds after its start after which a node certainly agrees to a replacement
+AGREES_AFTER = 15
 EXAMPLES = "/usr/share/wfarm/examples"
 
 
@@ -53,8 +57,8 @@ class Machine(Container):
         return self.inside("ip", "link", "set", "host0", "up").returncode == 0
 
     def do(self, command):
-        """Does a command of the page, as a shell's line."""
-        ran = self.inside("bash", "-c", command)
+        """Does a command of the page, as a shell's line, in root's folder."""
+        ran = self.inside("bash", "-c", f"cd /root; {command}")
         self.see(f"{self.address}: {command}", ran.returncode == 0, ran.stderr.strip()[-300:])
         return ran.stdout
 
@@ -87,50 +91,65 @@ class Page:
 
 class Walk:
     def __init__(self, folder, root, program, older):
-        self.folder, self.page = pathlib.Path(folder), Page()
+        self.folder, self.root, self.page = pathlib.Path(folder), root, Page()
         self.old, self.new = package(older, "0.0.9", folder), package(program, make_deb.version_now(), folder)
-        self.machines = []
-        for number, address in enumerate((*NODES, RENDERER)):
-            path = self.folder / f"host-{number}" / "root"
-            path.parent.mkdir()
-            subprocess.run(["cp", "-a", str(root), str(path)], check=True)
-            (path / "etc/hostname").write_text(f"host-{number}\n")
-            for each in (self.old, self.new):
-                shutil.copy(each, path / "root")
-            self.machines.append(Machine(path, address))
-        self.nodes, self.renderer = self.machines[:3], self.machines[3]
+        self.machines, self.nodes = [], []
+
+    def boot(self):
+        """Whether all hosts are up."""
+        self.nodes, self.renderer = [self.host(address) for address in NODES], self.host(RENDERER)
         self.first = self.nodes[0]
+        return not self.wrong()
+
+    def host(self, address):
+        """A host made anew at an address, with the packages on its disk."""
+        path = self.folder / f"host-{len(self.machines)}" / "root"
+        path.parent.mkdir()
+        subprocess.run(["cp", "-a", str(self.root), str(path)], check=True)
+        (path / "etc/hostname").write_text(f"{path.parent.name}\n")
+        for each in (self.old, self.new):
+            shutil.copy(each, path / "root")
+        machine = Machine(path, address)
+        self.machines.append(machine)
+        machine.see(f"the host {address} is up", machine.begin())
+        return machine
 
     def wrong(self):
         return sum(machine.wrong for machine in self.machines)
 
     def as_node(self, command, number):
         """A command for the first node, as another one's."""
-        for word in ("node-0", "--id 0", "wfarm-node@0"):
+        for word in ("node-0", "--id 0", "wfarm-node@0", "roads-0", "second-0"):
             command = command.replace(word, f"{word[:-1]}{number}")
         return command
 
-    def install(self, machine, command, package_file):
+    def follow(self, machine, heading, block=0, number=0):
+        """Does the commands of a block, as those of a node: what the last one writes."""
+        return [machine.do(self.as_node(command, number)) for command in self.page.block(heading, block)][-1]
+
+    def install(self, machine, package_file):
         """The page's installation, of this package."""
-        machine.do(re.sub(r"\./wfarm_\S+\.deb", f"/root/{package_file.name}", command))
+        machine.do(re.sub(r"wfarm_\S+\.deb", package_file.name, self.page.block("Begin")[0]))
 
     def status_is_well(self, farm="/etc/wfarm/nodes"):
         return lambda: self.first.inside("wfarmctl", "--farm", farm, "status").returncode == 0
 
+    def prepare(self, machine, number, package_file, makes_folder=True):
+        """"Begin" up to the start of the node, perhaps without its folder."""
+        self.install(machine, package_file)
+        for command in self.page.block("Begin")[1:-1]:
+            if makes_folder or "/var/lib" not in command:
+                machine.do(self.as_node(command, number))
+        machine.edit(f"/etc/wfarm/node-{number}.conf",
+                     (r"(?m)^(HTTP|ADMIN|MORE)=(.*)10\.0\.0\.1:", rf"\1=\g<2>{machine.address}:"))
+        machine.edit("/etc/wfarm/nodes", (r"(?m)^replica.*\n", ""))
+
     def begin(self):
         """"Begin", on each machine."""
-        lines = self.page.block("Begin")
         for number, machine in enumerate(self.nodes):
-            for command in lines:
-                if command.startswith("apt-get"):
-                    self.install(machine, command, self.old)
-                elif not command.startswith("systemctl"):
-                    machine.do(self.as_node(command, number))
-            machine.edit(f"/etc/wfarm/node-{number}.conf",
-                         (r"(?m)^(HTTP|ADMIN|MORE)=(.*)10\.0\.0\.1:", rf"\1=\g<2>{machine.address}:"))
-            machine.edit("/etc/wfarm/nodes", (r"(?m)^replica.*\n", ""))
+            self.prepare(machine, number, self.old)
         for number, machine in enumerate(self.nodes):
-            machine.do(self.as_node(lines[-1], number))
+            machine.do(self.as_node(self.page.block("Begin")[-1], number))
         self.first.wait("wfarmctl status finds all well", self.status_is_well())
 
     def publish(self):
@@ -138,15 +157,16 @@ class Walk:
         publish, history, get, diff, rollback = self.page.block("Publish, and go back")
         for name in ("county", "roads"):
             self.first.do(f"cp {EXAMPLES}/{name}.map /root/county.map")
-            told = self.first.do("cd /root; " + publish)
+            told = self.first.do(publish)
             self.first.see(f"it is told what was published: {told.strip()}", told.startswith("published "))
         told = self.first.do(history)
         self.first.see(f"how many are left: {told.splitlines()[-1]}", told.endswith("4,094 of 4,096 left\n"))
-        self.first.do("cd /root; " + get.replace("41", "1"))
+        self.first.do(get.replace("41", "1"))
         self.first.do(diff.replace("41 42", "1 2"))
         told = self.first.do(rollback.replace("41", "1"))
         self.first.see(f"the map is published again: {told.strip()}", told.startswith("published 3"))
         self.publish_roads("again")
+        self.first.do("wfarmctl export /root/export && wfarmctl verify /root/export")
 
     def publish_roads(self, title):
         self.first.do(f"sed 's/\"wms_title\".*/\"wms_title\" \"Roads {title}\"/' {EXAMPLES}/roads.map > "
@@ -155,28 +175,32 @@ class Walk:
     def serve_behind_nginx(self):
         """nginx of the example, on the renderer's host, with a certificate of its own."""
         machine = self.renderer
-        self.install(machine, self.page.block("Begin")[0], self.old)
+        self.install(machine, self.old)
         made = ("openssl req -x509 -newkey rsa:2048 -nodes -days 2 -subj /CN=maps.county.example -keyout "
                 "/etc/ssl/maps.county.example.key -out")
         machine.do(f"{made} /etc/ssl/maps.county.example.pem 2>&1 && cp /etc/ssl/maps.county.example.pem "
                    f"/etc/ssl/county-publishers.pem")
-        for command in self.page.block("Begin", 1):
-            machine.do(command)
+        self.follow(machine, "Begin", 1)
         machine.wait("clients get pictures by nginx", self.has_picture)
+        parts = [self.fetched(part) for part in ("", "viewer.js", "leaflet/leaflet.js", "node/2/status")]
+        machine.see("and the page, with what it needs", all(parts) and parts[3].startswith(b"node 2 "))
 
     def has_picture(self, query=ROADS, site=SITE):
+        return self.fetched(query, site).startswith(b"P6")
+
+    def fetched(self, path, site=SITE):
+        """What a client gets by nginx; nothing where that fails."""
         host = site.removeprefix("https://")
         asked = ["curl", "--silent", "--insecure", "--fail", "--max-time", "20", "--resolve",
-                 f"{host}:443:{RENDERER}", f"{site}/{query}"]
+                 f"{host}:443:{RENDERER}", f"{site}/{path}"]
         entering = ["nsenter", "--target", self.renderer.leader, "--net"]
-        return subprocess.run([*entering, *asked], capture_output=True, check=False).stdout.startswith(b"P6")
+        return subprocess.run([*entering, *asked], capture_output=True, check=False).stdout
 
     def add_renderer(self):
         """"Renderers without a vote": one is added, dropped, and added again."""
         machine, heading = self.renderer, "Renderers without a vote"
         for number in (0, 1, 0):
-            for command in self.page.block(heading, number):
-                machine.do(command)
+            self.follow(machine, heading, number)
             if number == 0:
                 self.first.inside("bash", "-c",
                                   "grep -q replica /etc/wfarm/nodes || echo 'replica 10.0.0.11:8080 "
@@ -188,11 +212,10 @@ class Walk:
 
     def upgrade(self):
         """"Upgrade": one machine after the other, while clients ask; what status shows meanwhile."""
-        clients = Meanwhile(lambda: [self.has_picture()])
         for number, machine in enumerate((*self.nodes, self.renderer)):
             states = Meanwhile(lambda: [line[STATE_COLUMN:].strip() for line in self.first.inside(
                 "wfarmctl", "status").stdout.splitlines()[1:]])
-            self.install(machine, self.page.block("Begin")[0], self.new)
+            self.install(machine, self.new)
             machine.wait("all are well", self.status_is_well())
             seen = states.stop()
             told = machine.inside("wfarm", "--version").stdout.strip()
@@ -200,22 +223,70 @@ class Walk:
                         f"({told}); status showed {', '.join(sorted(seen))}",
                         all(re.match("ok|unreachable|behind by|no majority|halted", state) for state in seen))
             self.publish_roads(number)
-        self.judge(clients.stop())
 
-    def judge(self, answers):
+    def while_clients_ask(self, step):
+        """Goes a step, in which no client may get an error."""
+        clients = Meanwhile(lambda: [self.has_picture()])
+        step()
+        answers = clients.stop()
         self.renderer.see(f"clients got {answers[True]} pictures meanwhile, and {answers[False]} errors",
                           answers[True] and not answers[False])
+
+    def lose_machine(self):
+        """"A machine is lost": the second one, with its disk."""
+        heading = "A machine is lost"
+        self.nodes[1].stop()
+        new = self.nodes[1] = self.host(NODES[1])
+        self.prepare(new, 1, self.new, makes_folder=False)
+        for number, machine in enumerate(self.nodes):
+            machine.edit(f"/etc/wfarm/node-{number}.conf", (r"(?m)^MORE=.*", r"\g<0> --replace-allowed"))
+        for number in (0, 2):
+            self.nodes[number].do(f"systemctl restart wfarm-node@{number}")
+        self.follow(new, heading)
+        health = ["curl", "--silent", f"{NODES[1]}:9090/healthz"]
+        new.wait("it joins", lambda: new.inside(*health).stdout.startswith("joins, "))
+        time.sleep(AGREES_AFTER)
+        self.first.do(f"echo node 1 | {self.page.block(heading, 1)[0]} --publish")
+        self.first.wait("all are well", self.status_is_well())
+        counts = [machine.property(f"wfarm-node@{number}", "NRestarts")
+                  for number, machine in enumerate(self.nodes)]
+        self.first.see(f"each node ended and was started again: {', '.join(counts)} times", "0" not in counts)
+        self.publish_roads("of a replaced node")
+
+    def move(self):
+        """"A node moves": the third one, to another machine."""
+        heading, old = "A node moves", self.nodes[2]
+        new = self.nodes[2] = self.host(MOVED)
+        self.install(new, self.new)
+        self.follow(old, heading)
+        old.file("root/node-2.tar").rename(new.file("root/node-2.tar"))
+        self.follow(new, heading, 1)
+        for machine in (*self.nodes, self.renderer):
+            self.follow(machine, heading, 2)
+        self.follow(self.renderer, heading, 3)
+        begin, restart, restart_replica = self.page.block(heading, 4)
+        new.do(begin)
+        for number in (0, 1):
+            self.nodes[number].do(self.as_node(restart, number))
+            self.first.wait(f"node {number} answers", lambda: self.answers(number))
+        self.renderer.do(restart_replica)
+        self.first.wait("all are well", self.status_is_well())
+        old.stop()
+        self.publish_roads("of a moved node")
+
+    def answers(self, number):
+        """Whether `wfarmctl status` reaches a node."""
+        lines = self.first.inside("wfarmctl", "status").stdout.splitlines()
+        return any(line.startswith(f"node {number} ") and "unreachable" not in line for line in lines)
 
     def second_farm(self):
         """"Two farms"."""
         for number, machine in enumerate(self.nodes):
-            for command in self.page.block("Two farms"):
-                machine.do(self.as_node(command, number).replace("roads-0", f"roads-{number}"))
+            self.follow(machine, "Two farms", number=number)
         self.first.wait("the second farm is well", self.status_is_well("/etc/wfarm/roads"))
         self.first.do(f"wfarmctl --farm /etc/wfarm/roads publish {EXAMPLES}/lakes.map")
         self.first.see("the first farm is as it was", self.status_is_well()())
-        for command in self.page.block("Two farms", 1):
-            self.renderer.do(command)
+        self.follow(self.renderer, "Two farms", 1)
         self.renderer.wait("each has its own pictures by nginx", lambda: self.has_picture()
                            and self.has_picture(LAKES, OTHER_SITE))
         self.renderer.see("and not the other's", not self.has_picture(LAKES)
@@ -244,32 +315,28 @@ class Meanwhile(threading.Thread):
 
 def begin_anew(walk):
     """"Begin anew", after the disk of the third node was lost, while clients go on asking."""
-    heading, page, first = "Begin anew", walk.page, walk.first
-    lost = walk.nodes[2]
-    lost.do("systemctl disable --now wfarm-node@2 && rm -r /var/lib/wfarm/node-2")
+    heading, first = "Begin anew", walk.first
+    walk.nodes[2].do("systemctl disable --now wfarm-node@2 && rm -r /var/lib/wfarm/node-2")
     walk.publish_roads("of two nodes")
     before = [first.inside("wfarmctl", "map", str(number)).stdout for number in range(1, 10)]
+    for number, machine in enumerate(walk.nodes[:2]):
+        told = walk.follow(machine, heading, number=number)
+        first.see(f"how far the tape goes: {told.strip()}", "whole" in told)
     for number, machine in enumerate(walk.nodes):
-        for command in page.block(heading):
-            if number < 2:
-                told = machine.do(walk.as_node(command, number))
-    first.see(f"how far the tape goes: {told.strip()}", "whole" in told)
-    for number, machine in enumerate(walk.nodes):
-        for command in page.block(heading, 1):
-            machine.do(walk.as_node(command, number).replace("second-0", f"second-{number}"))
+        walk.follow(machine, heading, 1, number)
     first.edit("/etc/wfarm/nodes", (r"(?m)^replica.*\n", ""))
     first.wait("the new farm is well", walk.status_is_well())
-    for command in page.block(heading, 2):
-        first.do(command)
+    walk.follow(first, heading, 2)
     after = [first.inside("wfarmctl", "map", str(number)).stdout for number in range(1, 10)]
     first.see("it has the same maps under the same sequences", before == after and before[0])
-    clients = Meanwhile(lambda: [walk.has_picture()])
-    for number in (3, 4):
-        for command in page.block(heading, number):
-            walk.renderer.do(command)
-    first.inside("bash", "-c", "echo 'replica 10.0.0.11:8080 10.0.0.11:9090' >> /etc/wfarm/nodes")
-    first.wait("all are well, the replica too", walk.status_is_well())
-    walk.judge(clients.stop())
+
+    def empty():
+        for block in (3, 4):
+            walk.follow(walk.renderer, heading, block)
+        first.inside("bash", "-c", "echo 'replica 10.0.0.11:8080 10.0.0.11:9090' >> /etc/wfarm/nodes")
+        first.wait("all are well, the replica too", walk.status_is_well())
+
+    walk.while_clients_ask(empty)
 
 
 def attempt(walk):
@@ -277,7 +344,8 @@ def attempt(walk):
     walk.publish()
     walk.serve_behind_nginx()
     walk.add_renderer()
-    walk.upgrade()
+    for step in (walk.upgrade, walk.lose_machine, walk.move):
+        walk.while_clients_ask(step)
     walk.second_farm()
     begin_anew(walk)
 
@@ -300,9 +368,7 @@ def walk_through(options, folder):
     walk = Walk(folder, root, options.program, options.older or options.program)
     bridge(True)
     try:
-        for machine in walk.machines:
-            machine.see(f"the host {machine.address} is up", machine.begin())
-        if not walk.wrong():
+        if walk.boot():
             attempt(walk)
     finally:
         for machine in walk.machines:

@@ -170,7 +170,7 @@ def files_that_cannot_grow(program, folder):
 
 
 def main():
-    program = program_parser(__doc__, "program").parse_args().program
+    program = program_parser(__doc__).parse_args().program
     with tempfile.TemporaryDirectory() as folder:
         done = list(three_nodes(program, pathlib.Path(folder)))
     with tempfile.TemporaryDirectory() as place:

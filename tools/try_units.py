@@ -1,8 +1,8 @@
 #!/usr/bin/env python3
 """Tries the units of systemd under a systemd of their own: the package (`tools/make_deb.py`) in a Debian that
 `systemd-nspawn` boots, with three nodes, a replica and both kinds of `wfarm serve` as services; what becomes
-of each, of one that is stopped and of one that failed at an upgrade, a removal, an installation anew and a
-purge.
+of each at a signal, and of each, of one that is stopped and of one that failed at an upgrade, a removal, an
+installation anew and a purge.
 
 DIR is a Debian made before (debootstrap with the packages of INCLUDED), copied from; else one is made. A line
 for each thing that was seen; status 1 where one is not as it should be. Wants root, debootstrap,
@@ -24,10 +24,11 @@ from try_deb import debian, missing, package, words
 
 INCLUDED = "systemd,systemd-sysv,dbus,python3,python3-minimal,adduser,procps"
 NODES = 3
+FIRST_PORT = 8180  # of the nodes' clients; wfarm.service has 8080
 PATIENCE = 180
 NODE_CONF = ("PEERS={peers}\nHTTP=127.0.0.1:{http}\nADMIN=127.0.0.1:{admin}\n"
              "MORE=--readers 127.0.0.1:{readers}\n")
-SERVE_CONF = "PORT=8391\nNODES=3\n"
+SERVE_CONF = "PORT={}\nNODES=3\n"
 REPLICA_CONF = "FARM=county\nPEERS={readers}\nHTTP=127.0.0.1:8090\nADMIN=127.0.0.1:9190\n"
 
 
@@ -62,7 +63,7 @@ class Container(Trial):
 
     def inside(self, *words):
         entering = ["nsenter", "--target", self.leader, "--mount", "--uts", "--ipc", "--net", "--pid",
-                    "--root", "--wd=/"]
+                    "--root", "--wdns=/"]
         return subprocess.run([*entering, *words], capture_output=True, text=True)
 
     def property(self, unit, name):
@@ -100,26 +101,35 @@ def prepare(container, program, folder):
                                      str(number), "--nodes", str(NODES))
         container.see(f"init of node {number}", made.returncode == 0, made.stderr)
         peers = ",".join(f"127.0.0.1:{7000 + each}" for each in range(NODES))
-        conf = NODE_CONF.format(peers=peers, http=8080 + number, admin=9090 + number, readers=7010 + number)
+        conf = NODE_CONF.format(peers=peers, http=FIRST_PORT + number, admin=9090 + number,
+                                readers=7010 + number)
         (settings / f"node-{number}.conf").write_text(conf)
-        lines.append(f"127.0.0.1:{8080 + number} 127.0.0.1:{9090 + number}\n")
-    (settings / "county.conf").write_text(SERVE_CONF)
+        lines.append(f"127.0.0.1:{FIRST_PORT + number} 127.0.0.1:{9090 + number}\n")
+    for name, port in (("county", 8391), ("stopped", 8392)):
+        (settings / f"{name}.conf").write_text(SERVE_CONF.format(port))
     readers = ",".join(f"127.0.0.1:{7010 + each}" for each in range(NODES))
     (settings / "replica-0.conf").write_text(REPLICA_CONF.format(readers=readers))
     (settings / "nodes").write_text("".join(lines) + "replica 127.0.0.1:8090 127.0.0.1:9190\n")
 
 
-def kill(container, unit):
-    """Ends a unit's program by SIGKILL: systemd starts it again."""
+def end_by(container, unit, name):
+    """Ends a unit's program by a signal: systemd starts it again. SIGTERM is to it as status 0."""
     number = container.property(unit, "MainPID")
-    container.inside("kill", "-9", number)
-    container.wait(f"{unit} is started again after kill -9", lambda: container.is_active(unit)
+    container.inside("kill", name, number)
+    container.wait(f"{unit} is started again after kill {name}", lambda: container.is_active(unit)
                    and container.property(unit, "MainPID") not in ("0", number))
     container.see(f"{unit} counts one restart", container.property(unit, "NRestarts") == "1")
 
 
+def answers(container):
+    """Whether all nodes of a farm in one process answer."""
+    ask = ["python3", "-c", "import urllib.request; "
+           "print(urllib.request.urlopen('http://127.0.0.1:8080/status').read().decode())"]
+    return container.inside(*ask).stdout.startswith("node ")
+
+
 def attempt(container, program, folder):
-    units = [f"wfarm-node@{number}" for number in range(NODES)] + ["wfarm-replica@0", "wfarm@county"]
+    units = [f"wfarm-node@{number}" for number in range(NODES)] + ["wfarm-replica@0", "wfarm@county", "wfarm"]
     started = container.inside("systemctl", "start", *units)
     container.see("the units are started", started.returncode == 0, started.stderr)
     container.wait("all are active", lambda: container.is_active(*units))
@@ -127,16 +137,16 @@ def attempt(container, program, folder):
     told = container.inside("wfarmctl", "publish", "/usr/share/wfarm/examples/county.map")
     container.see("a map is published", told.stdout.startswith("published 1"), told.stderr)
     container.wait("the replica has it", container.is_well)
-    for unit in (units[1], units[3]):
-        kill(container, unit)
-    container.wait("all are well again", container.is_well)
+    container.wait("wfarm.service answers", lambda: answers(container))
+    for number, unit in enumerate(units):
+        end_by(container, unit, ("-KILL", "-TERM")[number % 2])
+    container.wait("all are well again", lambda: container.is_well() and answers(container))
     wear_out(container, units[2])
     newer = upgrade(container, program, folder, units)
     stopped = container.inside("systemctl", "stop", *units)
     container.see("the units are stopped", stopped.returncode == 0
                   and not any(container.is_active(unit) for unit in units))
     container.see("no program is left", container.inside("pgrep", "-x", "wfarm").returncode == 1)
-    serve(container)
     remove(container, newer, units)
 
 
@@ -154,7 +164,7 @@ def remove(container, package_name, units):
     container.see("units that were enabled are still, and aren't started",
                   container.property("wfarm-node@0", "UnitFileState") == "enabled"
                   and not container.is_active("wfarm-node@0"))
-    container.inside("systemctl", "start", *units[:NODES], "wfarm-replica@0")
+    container.inside("systemctl", "start", *units)
     container.wait("the nodes go on", container.is_well)
     purged = container.inside("dpkg", "--purge", "wfarm")
     container.see("it is purged", purged.returncode == 0
@@ -162,18 +172,6 @@ def remove(container, package_name, units):
     left = [link.name for link in wants.glob("wfarm*")] if wants.exists() else []
     container.see("no unit is enabled any more", not left, left)
     container.see("the nodes' folders stay", (container.path / "var/lib/wfarm/node-0/farm").exists())
-
-
-def serve(container):
-    """All nodes of a farm in one process."""
-    container.inside("systemctl", "start", "wfarm")
-    ask = ["python3", "-c", "import urllib.request; "
-           "print(urllib.request.urlopen('http://127.0.0.1:8080/status').read().decode())"]
-    container.wait("wfarm.service answers", lambda: container.inside(*ask).stdout.startswith("node "))
-    kill(container, "wfarm")
-    container.wait("it answers again", lambda: container.inside(*ask).stdout.startswith("node "))
-    container.inside("systemctl", "stop", "wfarm")
-    container.see("it is stopped", not container.is_active("wfarm"))
 
 
 def wear_out(container, unit):
@@ -201,7 +199,8 @@ def upgrade(container, program, folder, units):
     new = package(program, make_deb.version_now(), folder)
     shutil.copy(new, container.path / "root")
     (container.path / "etc/wfarm/node-8.conf").write_text("PEERS=\nHTTP=\nADMIN=\nMORE=\n")
-    container.inside("systemctl", "start", "wfarm-node@8")
+    container.inside("systemctl", "start", "wfarm-node@8", "wfarm@stopped")
+    container.inside("systemctl", "stop", "wfarm@stopped")
     container.wait("a unit that can't run has failed",
                    lambda: container.property("wfarm-node@8", "ActiveState") == "failed")
     before = [container.property(unit, "MainPID") for unit in units]
@@ -211,8 +210,8 @@ def upgrade(container, program, folder, units):
     container.see("each service runs the new program", not set(before) & set(after))
     container.see("one that failed stays so, and one that was stopped too",
                   container.property("wfarm-node@8", "ActiveState") == "failed"
-                  and not container.is_active("wfarm"))
-    container.wait("all are well", container.is_well)
+                  and not container.is_active("wfarm@stopped"))
+    container.wait("all are well", lambda: container.is_well() and answers(container))
     return new.name
 
 

@@ -613,7 +613,7 @@ def try_farm(page, look, folder, given):
 
 
 def main():
-    words = program_parser(__doc__, "program")
+    words = program_parser(__doc__)
     words.add_argument("--nodes", action="store_true", help="looks at nodes in processes of their own alone")
     words.add_argument("--shots", type=pathlib.Path, metavar="FOLDER", help="where screenshots go")
     words.add_argument("--wms", metavar="ADDRESS", help="another WMS")
