@@ -1,16 +1,16 @@
 #!/usr/bin/env python3
-"""Writes docs/DEFINITIONS.md, the crates with an index of their specs/, from the comments that stand there:
-each definition is said once.
+"""Prints an index of the words that contracts cite: each crate, lowest first, with the first sentence of its
+first page, and each file of its `specs/`, with what that is about and the words that it defines.
 
-    python3 tools/definitions.py              writes the index
-    python3 tools/definitions.py --check      says whether the index is what the comments say, which words of
-                                              public clauses no comment explains, and which names in
-                                              docs/PROVED.md, ARCHITECTURE.md and CHANGES.md aren't there
+    python3 tools/definitions.py              prints the index
     python3 tools/definitions.py --all [WORD] prints each definition with its comment, or those whose name
                                               holds WORD
+    python3 tools/definitions.py --check      says which words of public clauses no comment explains, and
+                                              which names in docs/PROVED.md, ARCHITECTURE.md and CHANGES.md
+                                              aren't there
 
-A comment line `-- ..` above a definition says what it is; the comment at the top of a file says what the file
-is about, and the first sentence of src/lib.rt what the crate is.
+All of it is in comments, so each definition is said once: the one at the top of a file says what the file is
+about, a line `-- ..` above a definition what that is.
 """
 
 import re
@@ -20,18 +20,6 @@ from farmkit.command import parser
 from farmkit.names import missing
 from farmkit.repository import TOP, dependencies
 
-DOCUMENT = TOP / "docs" / "DEFINITIONS.md"
-HEAD = """# Definitions
-
-Each crate, lowest first: what it is, by the first sentence of its first page, and an index of the \
-words that contracts cite: each file of its `specs/`, what it is about, and the words that it \
-defines. What each word means stands above it in its file; `python3 tools/definitions.py --all` \
-prints all of them. This page is made by that tool: change the comment, not the page. Definitions \
-share nothing with the code's loops, except that a block of a mapfile is defined by a table of its \
-keywords, which has the shape of the reader's step ([DECISIONS.md](DECISIONS.md)). They are meant to \
-be read beside the standard (OGC 06-042, the MapServer mapfile reference, Netpbm's P6) or a textbook \
-on Paxos. What files named `..Theorems` state is proved.
-"""
 DEFINED = re.compile(r"(?:(?:unfoldable|abbrev|opaque) )?pub (?!use )(?:(?:record|data) )?(\S+)")
 
 IMPORT = re.compile(r"ghost use Rattle\.(wf\w*)\.specs\.((?:\w+\.)*\w+)\.\{([^}]*)\}")
@@ -109,12 +97,12 @@ def sentence(crate):
 
 
 def section(crate):
-    lines = [f"{sentence(crate)}\n"]
+    lines = [f"{crate}: {sentence(crate)}"]
     for file, text in files_of(crate):
-        top, words = about(text), ", ".join(f"`{word}`" for word, _ in words_of(text))
-        name = f"[{file.stem}](../{file.relative_to(TOP)})"
-        lines.append(f"- {name}: {top[:1].upper() + top[1:]} {words}".rstrip() + "\n")
-    return f"\n## {crate}\n\n" + "\n".join([lines[0], "".join(lines[1:])]).rstrip("\n") + "\n"
+        top, words = about(text), ", ".join(word for word, _ in words_of(text))
+        lines.append(f"  {file.relative_to(TOP)}: {top[:1].upper() + top[1:]}".rstrip())
+        lines += [f"    {words}"] if words else []
+    return "\n".join(lines) + "\n"
 
 
 def print_all(part):
@@ -158,25 +146,24 @@ def unexplained():
 
 def main() -> int:
     words = parser(__doc__)
-    words.add_argument("--check", action="store_true", help="writes nothing")
-    words.add_argument("--all", nargs="?", const="", metavar="WORD", help="prints the definitions")
+    asked = words.add_mutually_exclusive_group()
+    asked.add_argument("--all", nargs="?", const="", metavar="WORD", help="prints the definitions")
+    asked.add_argument("--check", action="store_true", help="prints what is missing, and no index")
     given = words.parse_args()
     if given.all is not None:
         print_all(given.all)
         return 0
-    text = HEAD + "".join(section(it) for it in in_order())
     if not given.check:
-        DOCUMENT.write_text(text, encoding="utf-8")
-    is_same = DOCUMENT.read_text(encoding="utf-8") == text
-    state = "what the comments say" if is_same else "out of date: run tools/definitions.py"
-    print(f"docs/DEFINITIONS.md is {state}")
+        print("\n".join(section(it) for it in in_order()), end="")
+        return 0
     bare = unexplained()
     for (file, word), cited in sorted(bare.items()):
         print(f"crates/{file}: no comment explains {word}, which {cited} cites")
     gone = list(missing())
     for document, line, name, why in gone:
         print(f"docs/{document}.md{f', line {line}' if line else ''}: {name} {why}")
-    return 0 if is_same and not bare and not gone else 1
+    print(f"{len(bare)} words without a comment, {len(gone)} names missing")
+    return 1 if bare or gone else 0
 
 
 if __name__ == "__main__":

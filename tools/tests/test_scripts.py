@@ -16,6 +16,7 @@ import unittest
 
 import check_python
 import ci
+import definitions
 from farmkit import tapes
 from farmkit.processes import PUBLISHED
 
@@ -108,6 +109,19 @@ class Gate(unittest.TestCase):
     def test_a_linter_that_is_not_there(self) -> None:
         self.assertEqual(check_python.why_not("no-such-linter", "1.0"), "no-such-linter is missing")
         self.assertRegex(check_python.why_not(sys.executable, "0.1"), "0.1 is wanted, and this is 3")
+
+
+class Definitions(unittest.TestCase):
+    def test_a_crate_in_the_index(self) -> None:
+        crate, *files = definitions.section("wf_digest").splitlines()
+        self.assertRegex(crate, r"^wf_digest: A running digest .*\.$")
+        at = files.index("  crates/wf_digest/specs/Digest.antt: The running digest of a history.")
+        self.assertIn("digest_at", files[at + 1].strip().split(", "))
+
+    def test_lower_crates_come_first(self) -> None:
+        found = definitions.in_order()
+        self.assertLess(found.index("wf_text"), found.index("wf_def"))
+        self.assertEqual(len(found), len(set(found)))
 
 
 def wfarmctl() -> types.ModuleType:
