@@ -68,6 +68,13 @@ impl Outgoing {
         self.done += count;
     }
 
+    /// Nothing of it is taken yet.
+    pub fn restart(&mut self)
+        ensures { self.new ≡ record self.old { done = 0 } }
+    {
+        self.done = 0;
+    }
+
     /// Whether all of it was taken.
     pub fn is_taken(&self) -> bool
         ensures { IsTrue result ↔ (length (rest_of self.now) ≡ 0) }

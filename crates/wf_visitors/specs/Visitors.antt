@@ -23,9 +23,11 @@ module _ {S : Type 0} (servers : Server S) where
   AnswersOne before responses true after responses_after = (client : Client) × (responses_after ≡ responses ++ (client, 0) ∷ []) × IsAnswered before client after
   AnswersOne before responses false after responses_after = (responses_after ≡ responses) × ((after ≡ before) ⊎ servers.stays before after)
 
-  -- a client was answered, or its request isn't whole; then nothing is to be written to it
+  -- A client was answered, or its request isn't whole; then nothing is to be written to it. In any
+  -- case nothing of it was taken.
   pub record IsResponding (before : S) (old : Client) (reply : ServerReply) (after : S) (new : Client) : Type 0 where
     pub is_reply : IsServerReply (servers.stays before after) (servers.responds before old.incoming.bytes old.incoming.is_closed new.outgoing.bytes after) reply nothing new.outgoing
+    pub done : new.outgoing.done ≡ 0
     pub phase : new.phase ≡ old.phase
     pub since : new.since ≡ old.since
     pub incoming : new.incoming ≡ old.incoming

@@ -6,11 +6,13 @@
 //! - [`Log`] writes each [`LogEntry`] as a line on standard error; a [`Visit`] is one of a client.
 //! - [`Counts`] counts requests by path and status.
 //!
-//! **Promises.** What is written to a client is what the server responded to the bytes that had
-//! come from it ([`Visitors::always_responded`], [`Visitors::serve`]).
+//! **Promises.** What was sent on a client's connection is a beginning of what the server responded
+//! to the bytes that had come on it, and nothing is sent before
+//! ([`Visitors::always_responded`], [`Visitors::serve`]).
 //!
-//! **Doesn't.** No clause says which sockets are ready, or what a clock shows. The network is any
-//! ([`wf_sockets`]); where none is named it is the system's.
+//! **Doesn't.** That is of the clients that are there: no clause says what a call sent on a
+//! connection that the same call closed. Nor does one say which sockets are ready, or what a clock
+//! shows. The network is any ([`wf_sockets`]); where none is named it is the system's.
 #![tactic(auto)]
 
 mod clock;

@@ -1,7 +1,8 @@
 //! How clients come, ask, are answered and go.
 ghost use Rattle.std.specs.Prelude.{◌≡◌, ℕ, List, [], IfOk, IfSome};
 ghost use Rattle.wf_client.specs.Client.{Client as ClientValue};
-ghost use Rattle.wf_visitors.specs.Responses.{AreResponses, MayRespond};
+ghost use Rattle.wf_visitors.specs.Responses.{AreResponses, GoesOnFrom, MayRespondOn};
+ghost use Rattle.wf_visitors.specs.Turn.{IfHere};
 ghost use Rattle.wf_visitors.specs.Visitors.{responses_of, AnswersOne, IsResponding};
 
 use crate::clock::micros;
@@ -27,21 +28,10 @@ const MOST_ACCEPTED: usize = 64;
 /// The least status of a rejection.
 const LEAST_REJECTION: u16 = 400;
 
-/// That many connections, none of which is there.
-fn no_connections<C: Connection + Drop>(
-    alloc: Global,
-    count: usize,
-) -> Result<Vec<Option<ClientConnection<C>>>, AllocError> {
-    let mut connections = Vec::new(alloc);
-    for _ in 0..count {
-        connections.push(None)?;
-    }
-    Ok(connections)
-}
-
 impl<N: Network> Visitors<N> {
     /// That many free slots, with the tokens from the first one on. The only error is allocation
     /// failure.
+    #[tactic(auto, using(crate::proofs::Answered::none_responses))]
     pub fn new(
         alloc: Global,
         count: usize,
@@ -50,7 +40,7 @@ impl<N: Network> Visitors<N> {
     ) -> Result<Self, AllocError>
         ensures { IfOk result (λ visitors. responses_of visitors ≡ []) }
     {
-        let connections = no_connections(alloc, count)?;
+        let connections = free_slots(alloc, count)?;
         let slots = free_slots(alloc, count)?;
         let piece = vec![in alloc; 0u8; PIECE_BYTES]?;
         let responses = Past::new();
@@ -89,10 +79,14 @@ impl<N: Network> Visitors<N> {
         &self.counts
     }
 
-    /// Always: what is still written to a client, or was, is the response that one of the answered
-    /// clients was sent. The call does nothing.
+    /// Always, of each client with its connection: as long as its request isn't whole, that is all
+    /// that came on the connection, and nothing was sent on it. From then on what was sent is a
+    /// beginning of the client's response, as long as what is noted as taken. It is the response
+    /// that one of the answered clients was sent, and what came begins with what had come of that
+    /// client's request. The call does nothing.
     pub fn always_responded(&self)
-        ensures { ∥ AreResponses (responses_of self.now) self.now.slots.items ∥₁ }
+        ensures { AreResponses N.Connection.Connection (responses_of self.now)
+            self.now.connections.items self.now.slots.items }
     {
         let _ = &self.responses;
     }
@@ -135,7 +129,9 @@ impl<N: Network> Visitors<N> {
 
     /// The next connection, if there is one.
     fn accept_one(&mut self, network: &N) -> Option<ClientConnection<N::Connection>>
-        ensures { responses_of self.new ≡ responses_of self.old }
+        ensures responses { responses_of self.new ≡ responses_of self.old }
+        ensures came { IfSome result (λ found. N.Connection.came found.connection ≡ []) }
+        ensures sent { IfSome result (λ found. N.Connection.sent found.connection ≡ []) }
     {
         match &mut self.listener {
             Some(listener) => match network.accept(listener) {
@@ -148,13 +144,15 @@ impl<N: Network> Visitors<N> {
 
     /// Puts a newcomer into a slot, in the place of the client there, and reads what has come of
     /// its request.
-    #[tactic(auto, using(crate::proofs::Answered::may_respond_new))]
+    #[tactic(auto, using(crate::proofs::Answered::may_new))]
     fn admit<R: Clock + Eprint + AllocGlobal>(
         &mut self,
         context: &Context<'_, '_, R, N>,
         connection: ClientConnection<N::Connection>,
         index: usize,
     )
+        requires came { N.Connection.came connection.connection ≡ [] }
+        requires sent { N.Connection.sent connection.connection ≡ [] }
         ensures { responses_of self.new ≡ responses_of self.old }
     {
         if let Some((older, client)) = self.take(index) {
@@ -177,25 +175,24 @@ impl<N: Network> Visitors<N> {
     /// Takes the client and its connection out of a slot.
     fn take(&mut self, index: usize) -> Option<(ClientConnection<N::Connection>, Client)>
         ensures responses { responses_of self.new ≡ responses_of self.old }
-        ensures may { IfSome result (λ found. MayRespond (responses_of self.old) found.1) }
+        ensures may { IfSome result (λ found.
+            MayRespondOn N.Connection.Connection (responses_of self.old) found.0 found.1) }
     {
-        let connection = take_connection(&mut self.connections, index);
-        let client = take_out(&mut self.slots, index);
-        match (connection, client) {
-            (Some(connection), Some(client)) => Some((connection, client)),
-            _ => None,
-        }
+        take_out(&mut self.connections, &mut self.slots, index)
     }
 
     /// Puts a client and its connection into a slot.
     fn put(&mut self, index: usize, connection: ClientConnection<N::Connection>, client: Client)
-        requires { MayRespond (responses_of self.old) client }
+        requires { MayRespondOn N.Connection.Connection (responses_of self.old) connection client }
         ensures { responses_of self.new ≡ responses_of self.old }
     {
-        if let Some(free) = self.connections.get_mut(index) {
-            *free = Some(connection);
-        }
-        put_in(&mut self.slots, index, client);
+        put_in(
+            &mut self.connections,
+            &mut self.slots,
+            index,
+            connection,
+            client,
+        );
     }
 
     /// What came for the client in a slot, or was taken by it.
@@ -226,7 +223,7 @@ impl<N: Network> Visitors<N> {
         client: Client,
         index: usize,
     )
-        requires { MayRespond (responses_of self.old) client }
+        requires { MayRespondOn N.Connection.Connection (responses_of self.old) connection client }
         ensures { responses_of self.new ≡ responses_of self.old }
     {
         match client.phase() {
@@ -245,6 +242,7 @@ impl<N: Network> Visitors<N> {
 
     /// Puts a client back into its slot. Unless its request is to be answered, an event of it is
     /// waited for; where the system doesn't let it be registered, it is closed.
+    #[tactic(auto, using(crate::proofs::Answered::may_same))]
     fn keep<R>(
         &mut self,
         context: &Context<'_, '_, R, N>,
@@ -252,7 +250,7 @@ impl<N: Network> Visitors<N> {
         client: Client,
         index: usize,
     )
-        requires { MayRespond (responses_of self.old) client }
+        requires { MayRespondOn N.Connection.Connection (responses_of self.old) connection client }
         ensures { responses_of self.new ≡ responses_of self.old }
     {
         if waits(&client) || connection.watch(context.network, self.token(index)) {
@@ -266,7 +264,7 @@ impl<N: Network> Visitors<N> {
     /// from its client: it is closed at once, after what came meanwhile is read. One that was
     /// rejected may still be on its way: the writing direction is ended, and what comes is dropped
     /// until the client closes or its time is over.
-    #[tactic(auto, using(crate::proofs::Answered::may_respond_parted))]
+    #[tactic(auto, using(crate::proofs::Answered::may_same, crate::proofs::Answered::may_drop))]
     fn part<R: AllocGlobal>(
         &mut self,
         context: &Context<'_, '_, R, N>,
@@ -274,7 +272,8 @@ impl<N: Network> Visitors<N> {
         mut client: Client,
         index: usize,
     )
-        requires may { MayRespond (responses_of self.old) client }
+        requires may { MayRespondOn N.Connection.Connection
+            (responses_of self.old) connection client }
         requires takes { client.phase ≡ ClientPhase.Taking }
         ensures { responses_of self.new ≡ responses_of self.old }
     {
@@ -356,7 +355,8 @@ impl<N: Network> Visitors<N> {
         server: &mut S,
         index: usize,
     ) -> bool
-        ensures { AnswersOne S.Server server.old (responses_of self.old) result server.new (responses_of self.new) }
+        ensures { AnswersOne S.Server
+            server.old (responses_of self.old) result server.new (responses_of self.new) }
     {
         let is_answered = self.answer(context, server, index);
         self.turn(context, index);
@@ -368,14 +368,15 @@ impl<N: Network> Visitors<N> {
     /// Lets a server answer the request in a slot, if it is whole; the next
     /// [`turn`](Visitors::turn) of the client writes what it takes of the response. Returns whether
     /// a response was given.
-    #[tactic(auto, using(crate::proofs::Answered::asks_yet))]
+    #[tactic(auto, using(crate::proofs::Answered::may_ask))]
     pub fn answer<R: Clock + Eprint + AllocGlobal, S: Server>(
         &mut self,
         context: &Context<'_, '_, R, N>,
         server: &mut S,
         index: usize,
     ) -> bool
-        ensures { AnswersOne S.Server server.old (responses_of self.old) result server.new (responses_of self.new) }
+        ensures { AnswersOne S.Server
+            server.old (responses_of self.old) result server.new (responses_of self.new) }
     {
         let Some((connection, mut client)) = self.take(index) else {
             return false;
@@ -453,7 +454,7 @@ impl<N: Network> Visitors<N> {
     }
 
     /// Ends the phase of the client in a slot if its time is over.
-    #[tactic(auto, using(crate::proofs::Answered::asks_yet))]
+    #[tactic(auto, using(crate::proofs::Answered::may_ask))]
     fn end_phase(&mut self, index: usize, time: u64)
         ensures { responses_of self.new ≡ responses_of self.old }
     {
@@ -486,24 +487,13 @@ struct Sent {
     begun: u64,
 }
 
-/// Takes the connection out of a slot.
-fn take_connection<C: Connection + Drop>(
-    connections: &mut Vec<Option<ClientConnection<C>>>,
-    index: usize,
-) -> Option<ClientConnection<C>> {
-    match connections.get_mut(index) {
-        Some(connection) => connection.take(),
-        None => None,
-    }
-}
-
 /// Whether the request of a client waits for its answer.
 fn waits(client: &Client) -> bool {
     client.is_asking() && client.incoming.may_be_whole()
 }
 
 /// Lets the connection of a client go on in its phase.
-#[tactic(auto, using(crate::proofs::Answered::may_respond_still))]
+#[tactic(auto, using(crate::proofs::Answered::may_receive, crate::proofs::Answered::may_give, crate::proofs::Answered::may_drop))]
 fn go_on<R, N: Network>(
     context: &Context<'_, '_, R, N>,
     connection: &mut ClientConnection<N::Connection>,
@@ -511,7 +501,9 @@ fn go_on<R, N: Network>(
     piece: &mut [u8],
     token: usize,
 ) -> ClientTurn
-    ensures { (responses : List (ClientValue × ℕ)) → MayRespond responses client.old → MayRespond responses client.new }
+    ensures { IfHere result ((responses : List (ClientValue × ℕ))
+        → MayRespondOn N.Connection.Connection responses connection.old client.old
+        → MayRespondOn N.Connection.Connection responses connection.new client.new) }
 {
     match client.phase() {
         ClientPhase::Asking => {
@@ -532,6 +524,8 @@ fn respond<S: Server>(alloc: Global, server: &mut S, client: &mut Client) -> Ser
 {
     let mut outgoing = Outgoing::new(alloc);
     let reply = server.answer(alloc, &client.incoming, &mut outgoing);
+    // a server can have advanced it, and nothing was sent
+    outgoing.restart();
     client.outgoing = outgoing;
     reply
 }
@@ -539,7 +533,8 @@ fn respond<S: Server>(alloc: Global, server: &mut S, client: &mut Client) -> Ser
 /// A client that was answered is to take the response. What it asked for is kept only where the
 /// response is a rejection, after which it may still send.
 fn settle<R: AllocGlobal, N>(context: &Context<'_, '_, R, N>, client: &mut Client, status: u16)
-    ensures { client.new.outgoing ≡ client.old.outgoing }
+    ensures phase { client.new.phase ≡ ClientPhase.Taking }
+    ensures outgoing { client.new.outgoing ≡ client.old.outgoing }
 {
     if status < LEAST_REJECTION {
         client.incoming.clear(context.alloc());
@@ -549,7 +544,8 @@ fn settle<R: AllocGlobal, N>(context: &Context<'_, '_, R, N>, client: &mut Clien
 
 /// A client that has taken its response parts.
 fn part<R: AllocGlobal, N>(context: &Context<'_, '_, R, N>, client: &mut Client)
-    ensures { client.new.outgoing ≡ client.old.outgoing }
+    ensures phase { client.new.phase ≡ ClientPhase.Lingering }
+    ensures outgoing { client.new.outgoing ≡ client.old.outgoing }
 {
     client.incoming.clear(context.alloc());
     client.begin(ClientPhase::Lingering, context.time);

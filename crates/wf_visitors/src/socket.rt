@@ -1,4 +1,5 @@
 //! The connections of clients.
+ghost use Rattle.std.specs.Prelude.{◌≡◌};
 
 use std::net::SocketAddr;
 use wf_sockets::{Connection, Network};
@@ -14,7 +15,9 @@ pub(crate) struct ClientConnection<C: Connection> {
 
 impl<C: Connection> ClientConnection<C> {
     /// A connection that was accepted now, from this address.
-    pub(crate) fn new(connection: C, address: SocketAddr) -> Self {
+    pub(crate) fn new(connection: C, address: SocketAddr) -> Self
+        ensures { result.connection ≡ connection }
+    {
         ClientConnection {
             connection,
             address,
@@ -28,7 +31,10 @@ impl<C: Connection> ClientConnection<C> {
     }
 
     /// Watches it, unless it is watched. Returns whether it is now.
-    pub(crate) fn watch<N: Network<Connection = C>>(&mut self, network: &N, token: usize) -> bool {
+    pub(crate) fn watch<N: Network<Connection = C>>(&mut self, network: &N, token: usize) -> bool
+        ensures came { C.came self.new.connection ≡ C.came self.old.connection }
+        ensures sent { C.sent self.new.connection ≡ C.sent self.old.connection }
+    {
         self.is_watched || self.watch_again(network, token)
     }
 
@@ -38,7 +44,10 @@ impl<C: Connection> ClientConnection<C> {
         &mut self,
         network: &N,
         token: usize,
-    ) -> bool {
+    ) -> bool
+        ensures came { C.came self.new.connection ≡ C.came self.old.connection }
+        ensures sent { C.sent self.new.connection ≡ C.sent self.old.connection }
+    {
         self.is_watched = network.watch(&mut self.connection, token);
         self.is_watched
     }

@@ -1,5 +1,7 @@
 //! What a client's turn reads and writes.
-ghost use Rattle.wf_visitors.specs.Turn.{IsGiving, IsReceiving};
+ghost use Rattle.std.specs.Prelude.{◌≡◌};
+ghost use Rattle.wf_visitors.specs.Responses.{GoesOnFrom};
+ghost use Rattle.wf_visitors.specs.Turn.{IfGoesOn, IfHere, IsGiving, IsReceiving};
 
 use crate::socket::ClientConnection;
 use wf_client::Client;
@@ -20,8 +22,9 @@ pub(crate) enum ClientTurn {
     Gone,
 }
 
-/// Reads what came of a request, a bounded part of it.
-#[tactic(auto, using(crate::proofs::Answered::receiving_twice))]
+/// Reads what came of a request, a bounded part of it, and puts it behind what had come. Nothing is
+/// promised of a client that has gone.
+#[tactic(auto, using(crate::proofs::Answered::received_nothing, crate::proofs::Answered::receiving_twice, crate::proofs::Answered::receiving_watched))]
 pub(crate) fn receive<N: Network>(
     network: &N,
     connection: &mut ClientConnection<N::Connection>,
@@ -29,7 +32,11 @@ pub(crate) fn receive<N: Network>(
     piece: &mut [u8],
     token: usize,
 ) -> ClientTurn
-    ensures { IsReceiving client.old client.new }
+    ensures { IfHere result (IsReceiving
+        (N.Connection.came connection.old.connection) (N.Connection.sent connection.old.connection)
+        client.old
+        (N.Connection.came connection.new.connection) (N.Connection.sent connection.new.connection)
+        client.new) }
 {
     for _ in 0..MOST_PIECES {
         match receive_piece(&mut connection.connection, client, piece) {
@@ -53,8 +60,11 @@ enum Step {
 
 /// Reads a piece of a request. No more is read where all that has come was, and may be the whole
 /// request: if it isn't, its client's next turn reads on.
+#[tactic(auto, using(crate::proofs::Answered::received, crate::proofs::Answered::received_none))]
 fn receive_piece<C: Connection>(connection: &mut C, client: &mut Client, piece: &mut [u8]) -> Step
-    ensures { IsReceiving client.old client.new }
+    ensures { IfGoesOn result (IsReceiving
+        (C.came connection.old) (C.sent connection.old) client.old
+        (C.came connection.new) (C.sent connection.new) client.new) }
 {
     match connection.read(piece) {
         Moved::Bytes(count) => {
@@ -76,10 +86,12 @@ fn receive_piece<C: Connection>(connection: &mut C, client: &mut Client, piece: 
     }
 }
 
-/// Writes what a client takes of its answer.
-#[tactic(auto, using(crate::proofs::Answered::giving_twice))]
+/// Writes what a client takes of its answer. Nothing is promised of a client that has gone.
+#[tactic(auto, using(crate::proofs::Answered::given_nothing, crate::proofs::Answered::giving_twice, crate::proofs::Answered::giving_before))]
 pub(crate) fn give<C: Connection>(connection: &mut C, client: &mut Client) -> ClientTurn
-    ensures { IsGiving client.old client.new }
+    ensures { IfHere result (IsGiving
+        (C.came connection.old) (C.sent connection.old) client.old
+        (C.came connection.new) (C.sent connection.new) client.new) }
 {
     for _ in 0..u64::MAX {
         match give_piece(connection, client) {
@@ -91,8 +103,11 @@ pub(crate) fn give<C: Connection>(connection: &mut C, client: &mut Client) -> Cl
 }
 
 /// Writes once what a client takes of its answer.
+#[tactic(auto, using(crate::proofs::Answered::given, crate::proofs::Answered::given_none, crate::proofs::Answered::given_nothing))]
 fn give_piece<C: Connection>(connection: &mut C, client: &mut Client) -> Step
-    ensures { IsGiving client.old client.new }
+    ensures { IfGoesOn result (IsGiving
+        (C.came connection.old) (C.sent connection.old) client.old
+        (C.came connection.new) (C.sent connection.new) client.new) }
 {
     if client.outgoing.is_taken() {
         return Step::Done(ClientTurn::Here);
@@ -107,8 +122,12 @@ fn give_piece<C: Connection>(connection: &mut C, client: &mut Client) -> Step
     }
 }
 
-/// Drops what a client still sends.
-pub(crate) fn drop_rest<C: Connection>(connection: &mut C, piece: &mut [u8]) -> ClientTurn {
+/// Drops what a client still sends; nothing is sent.
+#[tactic(auto, using(crate::proofs::Answered::goes_on_from_itself, crate::proofs::Answered::goes_on_from_read))]
+pub(crate) fn drop_rest<C: Connection>(connection: &mut C, piece: &mut [u8]) -> ClientTurn
+    ensures came { GoesOnFrom (C.came connection.new) (C.came connection.old) }
+    ensures sent { C.sent connection.new ≡ C.sent connection.old }
+{
     for _ in 0..MOST_PIECES {
         match connection.read(piece) {
             Moved::Bytes(_) => {}

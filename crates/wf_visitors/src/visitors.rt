@@ -1,4 +1,5 @@
 ghost use Rattle.wf_visitors.specs.Responses.{AreResponses};
+ghost use Rattle.wf_visitors.specs.ResponsesTheorems.{are_responses_prop};
 
 use crate::counts::Counts;
 use crate::socket::ClientConnection;
@@ -8,7 +9,8 @@ use wf_sockets::{Network, SystemNetwork};
 
 /// Clients with their connections: that of slot i at index i. A clause sees a log that only proofs
 /// read: each client that was answered, as it was then, with what had come of its request and with
-/// the whole response.
+/// the whole response. What comes and is sent on a client's connection is what its request and its
+/// response say.
 #[derive(Drop)]
 pub struct Visitors<N: Network = SystemNetwork> {
     pub(crate) listener: Option<N::Listener>,
@@ -22,5 +24,7 @@ pub struct Visitors<N: Network = SystemNetwork> {
     pub(crate) piece: Vec<u8>,
     pub(crate) counts: Counts,
     pub(crate) responses: Past<Client, usize>,
-    ghost answered: { ∥ AreResponses responses.items slots.items ∥₁ },
+    ghost answered: { AreResponses N.Connection.Connection
+        responses.items connections.items slots.items } by { are_responses_prop
+            N.Connection.Connection responses.items connections.items slots.items },
 }
