@@ -1,0 +1,2 @@
+pub mod Exchanged
+pub mod Replied

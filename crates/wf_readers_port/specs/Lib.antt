@@ -1,1 +1,5 @@
 pub mod QuestionReplies
+pub mod Exchanges
+pub mod Readers
+pub mod ReadersTheorems
+pub mod ReadersPort

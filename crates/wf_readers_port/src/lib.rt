@@ -8,17 +8,26 @@
 //! A newcomer takes a free slot, else that of the reader that has waited longest since its last
 //! question, which is closed. A reader that asks nothing for five seconds is closed too.
 //!
-//! **Promises.** What is written in reply to bytes is the encoding of the reply that the question
-//! at their front has by that history, if the digests are the history's
-//! (`specs/QuestionReplies.antt`).
+//! **Model.** A [`ReadersPort`] has a log that only proofs read: each question that a reader asked,
+//! with its reply, as bytes (`specs/Exchanges.antt`).
 //!
-//! **Doesn't.** No clause says which sockets are ready. The network is any ([`wf_sockets`]); where
-//! none is named it is the system's.
+//! **Promises.** What came on a reader's connection is questions of the log, one after the other,
+//! and a part of the next one; what was sent on it, with what is still to be taken, is the replies
+//! to them, one after the other ([`ReadersPort::always_replied`]). The exchanges that a turn makes
+//! are each a question with the encoding of the reply that it has by the history of that turn, if
+//! the digests are the history's ([`ReadersPort::turn`], `specs/QuestionReplies.antt`); no other
+//! call makes one.
+//!
+//! **Doesn't.** No clause says which sockets are ready, or what became of a connection after its
+//! last turn. The network is any ([`wf_sockets`]); where none is named it is the system's.
 #![tactic(auto)]
 
 mod event;
 mod port;
 mod reader;
 mod replies;
+mod service;
+mod slots;
+mod turn;
 
 pub use port::{PortView, ReadersPort};

@@ -1,0 +1,56 @@
+-- What readers asked and what they were replied.
+use Rattle.std.specs.Prelude.{◌≡◌, ◌⊎◌, ℕ, ⊤, List, [], ◌∷◌, ◌++◌, Vec, length}
+use Rattle.std.specs.declared.alloc.Global.{Global}
+use Rattle.wf_def.specs.Definition.{Definition}
+use Rattle.wf_digest.specs.Digest.{AreDigestsOf}
+use Rattle.wf_reader.specs.Question.{question_length}
+use Rattle.wf_reader.specs.declared.answerer.Answerer.{Answerer}
+use Rattle.wf_readers_port.specs.QuestionReplies.{RepliesTo}
+
+-- the bytes of a question, and those of its reply
+abbrev pub Exchange : Type 0
+Exchange = Vec ℕ Global × Vec ℕ Global
+
+-- the bytes of the questions, one after the other
+unfoldable pub questions_of : List Exchange → List ℕ
+questions_of [] = []
+questions_of (exchange ∷ exchanges) = exchange.0.items ++ questions_of exchanges
+
+-- the bytes of the replies, one after the other
+unfoldable pub replies_of : List Exchange → List ℕ
+replies_of [] = []
+replies_of (exchange ∷ exchanges) = exchange.1.items ++ replies_of exchanges
+
+-- this exchange is one of those
+unfoldable pub HasExchange : List Exchange → Exchange → Type 0
+HasExchange [] exchange = ⊥
+HasExchange (one ∷ exchanges) exchange = (one ≡ exchange) ⊎ HasExchange exchanges exchange
+
+-- each of some exchanges is one of all
+unfoldable pub AreAmong : List Exchange → List Exchange → Type 0
+AreAmong all [] = ⊤
+AreAmong all (exchange ∷ exchanges) = ∥ HasExchange all exchange ∥₁ × AreAmong all exchanges
+
+-- one whole question, with the reply that it has by that history
+pub record IsRepliedBy (own : Answerer) (history : List Definition) (exchange : Exchange) : Type 0 where
+  pub whole : length exchange.0.items ≡ question_length
+  pub reply : RepliesTo own history exchange.0.items [] exchange.1.items
+
+-- so is each
+unfoldable pub AreRepliedBy : Answerer → List Definition → List Exchange → Type 0
+AreRepliedBy own history [] = ⊤
+AreRepliedBy own history (exchange ∷ exchanges) = IsRepliedBy own history exchange × AreRepliedBy own history exchanges
+
+-- Some exchanges came behind those before. Each is a question with its reply, if the digests are
+-- the history's.
+pub record HasReplied (own : Answerer) (history : List Definition) (digests : List (List ℕ)) (before after : List Exchange) : Type 0 where
+  pub more : List Exchange
+  pub logged : after ≡ before ++ more
+  pub replied : AreDigestsOf history digests → AreRepliedBy own history more
+
+-- So of a reader's exchanges and of all, which were the same.
+pub record HasConversed (own : Answerer) (history : List Definition) (digests : List (List ℕ)) (asked all asked_after all_after : List Exchange) : Type 0 where
+  pub more : List Exchange
+  pub asked_more : asked_after ≡ asked ++ more
+  pub logged : all_after ≡ all ++ more
+  pub replied : AreDigestsOf history digests → AreRepliedBy own history more
