@@ -1,19 +1,15 @@
 -- What an answer leaves.
-use Rattle.std.proofs.Common.{◌≡◌, ◌∙◌, ℕ, ◌≤◌, List, [], ◌++◌, length, take, Option, Some, sym, ap, append-nil}
+use Rattle.std.proofs.Common.{◌≡◌, ◌∙◌, ℕ, ◌≤◌, List, ◌++◌, length, take, Option, Some, sym, ap}
 use Rattle.std.specs.Prelude.{◌≢◌}
 use Rattle.wf_ballot.specs.Sequence.{last_sequence}
 use Rattle.wf_def.specs.Definition.{Definition}
 use Rattle.wf_digest.specs.Digest.{digest_at}
-use Rattle.wf_learner.specs.History.{next_of}
-use Rattle.wf_model.specs.Message.{Message}
 use Rattle.wf_reader.specs.ReaderAnswer.{ReaderAnswer}
 use Rattle.wf_reader.specs.declared.question.Question.{Question}
 use Rattle.wf_replica.proofs.Digested.{digest_within}
 use Rattle.wf_replica.specs.Fit.{FitsQuestion, IsLearnedInPart, IsOtherHistory}
-use Rattle.wf_replica.specs.Follower.{Learns, list_of, received_by}
-use Rattle.wf_replica.specs.LearnedList.{numbered}
-use Rattle.wf_replica.specs.declared.follower.Follower.{Follower}
-use Rattle.wf_tape.specs.declared.tape.Tape.{Ghosts as Tape}
+use Rattle.wf_replica.specs.MapList.{Learns, maps_of}
+use Rattle.wf_replica.specs.declared.maps.MapList.{MapList}
 
 -- an answer's own digest at its last sequence is another one than that of the list with its
 -- definitions
@@ -32,15 +28,7 @@ pub whole : (list new definitions : List Definition) (q : Question) (a : ReaderA
     FitsQuestion list q a × (new ≡ take last_sequence (list ++ a.definitions))
 whole list new definitions q a fits are is = (fits, is ∙ ap (λ (l : List Definition). take last_sequence (list ++ l)) are)
 
-module _ {T : Type 0} {tapes : Tape T} where
-  pub cut : (old new : Follower T tapes) (q : Question) (a : ReaderAnswer) (definitions : List Definition) → FitsQuestion (list_of old) q a → definitions ≡ a.definitions →
-      (k : ℕ) × Learns k old new definitions → IsLearnedInPart (list_of old) q a (list_of new)
-  cut old new q a definitions fits are learns =
-      record { fits = fits; count = learns.0; goes_on = learns.1.list ∙ ap (λ (l : List Definition). list_of old ++ take learns.0 l) are }
-
-  pub heard_none : (old new : Follower T tapes) → received_by new ≡ received_by old → (more : List (Message Definition)) × (received_by new ≡ received_by old ++ more)
-  heard_none old new same = ([], same ∙ sym (append-nil (received_by old)))
-
-  pub heard_some : (old new : Follower T tapes) (definitions : List Definition) → (k : ℕ) × Learns k old new definitions →
-      (more : List (Message Definition)) × (received_by new ≡ received_by old ++ more)
-  heard_some old new definitions learns = (numbered (next_of (list_of old)) (take learns.0 definitions), learns.1.received)
+pub cut : (old new : MapList) (q : Question) (a : ReaderAnswer) (definitions : List Definition) → FitsQuestion (maps_of old) q a → definitions ≡ a.definitions →
+    (k : ℕ) × Learns k old new definitions → IsLearnedInPart (maps_of old) q a (maps_of new)
+cut old new q a definitions fits are learns =
+    record { fits = fits; count = learns.0; goes_on = learns.1.list ∙ ap (λ (l : List Definition). maps_of old ++ take learns.0 l) are }

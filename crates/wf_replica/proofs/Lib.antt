@@ -6,3 +6,5 @@ pub mod Reported
 pub mod Digested
 pub mod Fitting
 pub mod Recorded
+pub mod Hearing
+pub mod Telling

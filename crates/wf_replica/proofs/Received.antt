@@ -12,9 +12,8 @@ use Rattle.wf_def.specs.Definition.{Definition}
 use Rattle.wf_learner.specs.History.{next_of}
 use Rattle.wf_model.specs.Message.{Chosen, Message}
 use Rattle.wf_replica.proofs.Reported.{learned_append, learned_own}
-use Rattle.wf_replica.specs.Follower.{Learns, received_by, list_of}
-use Rattle.wf_replica.specs.declared.follower.Follower.{Follower}
-use Rattle.wf_tape.specs.declared.tape.Tape.{Ghosts as Tape}
+use Rattle.wf_replica.specs.MapList.{Learns, heard_by, maps_of}
+use Rattle.wf_replica.specs.declared.maps.MapList.{MapList}
 use Rattle.wf_replica.specs.LearnedList.{learned, messages_of, numbered}
 
 pub messages_more : (log : List (code.Message × ℕ)) (m : code.Message) (n : ℕ) → messages_of (log ++ (m, n) ∷ []) ≡ messages_of log ++ view m ∷ []
@@ -83,27 +82,26 @@ whole (x ∷ list) d some is =
     let same : take (length (x ∷ list) - 1) list ≡ list = ap (λ (k : ℕ). take k list) count ∙ take-length list in
     ap (λ (e : Definition). e ∷ list) (sym is) ∙ ap (λ (l : List Definition). d ∷ l) (sym same)
 
-module _ {T : Type 0} {tapes : Tape T} where
-  pub learns_none : (old new : Follower T tapes) (definitions : List Definition) → received_by new ≡ received_by old → list_of new ≡ list_of old → Learns 0 old new definitions
-  learns_none old new definitions received list = record {
-    within = omega arith;
-    received = received ∙ nothing_received (received_by old) (next_of (list_of old)) definitions;
-    list = list ∙ nothing_learned (list_of old) definitions;
-  }
+pub learns_none : (old new : MapList) (definitions : List Definition) → heard_by new ≡ heard_by old → maps_of new ≡ maps_of old → Learns 0 old new definitions
+learns_none old new definitions received list = record {
+  within = omega arith;
+  received = received ∙ nothing_received (heard_by old) (next_of (maps_of old)) definitions;
+  list = list ∙ nothing_learned (maps_of old) definitions;
+}
 
-  pub learns_first : (old mid new : Follower T tapes) (s : ℕ) (d : Definition) (definitions rest : List Definition) (k : ℕ) → definitions ≡ d ∷ rest → s ≡ next_of (list_of old) →
-      received_by mid ≡ received_by old ++ Chosen s d ∷ [] → list_of mid ≡ list_of old ++ d ∷ [] → Learns k mid new rest → Learns (suc k) old new definitions
-  learns_first old mid new s d definitions rest k is next received list later =
-      let first : received_by mid ≡ received_by old ++ Chosen (next_of (list_of old)) d ∷ [] = received ∙ ap (λ (n : ℕ). received_by old ++ Chosen n d ∷ []) next in
-      record {
-        within = omega (arith, ap length is, later.within);
-        received = received_first (received_by old) (received_by mid) (received_by new) (list_of old) (list_of mid) d rest k first list later.received
-            ∙ ap (λ (l : List Definition). received_by old ++ numbered (next_of (list_of old)) (take (suc k) l)) (sym is);
-        list = list_first (list_of old) (list_of mid) (list_of new) d (take k rest) list later.list ∙ ap (λ (l : List Definition). list_of old ++ take (suc k) l) (sym is);
-      }
+pub learns_first : (old mid new : MapList) (s : ℕ) (d : Definition) (definitions rest : List Definition) (k : ℕ) → definitions ≡ d ∷ rest → s ≡ next_of (maps_of old) →
+    heard_by mid ≡ heard_by old ++ Chosen s d ∷ [] → maps_of mid ≡ maps_of old ++ d ∷ [] → Learns k mid new rest → Learns (suc k) old new definitions
+learns_first old mid new s d definitions rest k is next received list later =
+    let first : heard_by mid ≡ heard_by old ++ Chosen (next_of (maps_of old)) d ∷ [] = received ∙ ap (λ (n : ℕ). heard_by old ++ Chosen n d ∷ []) next in
+    record {
+      within = omega (arith, ap length is, later.within);
+      received = received_first (heard_by old) (heard_by mid) (heard_by new) (maps_of old) (maps_of mid) d rest k first list later.received
+          ∙ ap (λ (l : List Definition). heard_by old ++ numbered (next_of (maps_of old)) (take (suc k) l)) (sym is);
+      list = list_first (maps_of old) (maps_of mid) (maps_of new) d (take k rest) list later.list ∙ ap (λ (l : List Definition). maps_of old ++ take (suc k) l) (sym is);
+    }
 
-  pub all_first : (old mid new : Follower T tapes) (d : Definition) (definitions rest : List Definition) → definitions ≡ d ∷ rest → list_of mid ≡ list_of old ++ d ∷ [] →
-      list_of new ≡ take last_sequence (list_of mid ++ rest) → list_of new ≡ take last_sequence (list_of old ++ definitions)
-  all_first old mid new d definitions rest is list later =
-      later ∙ ap (λ (l : List Definition). take last_sequence (l ++ rest)) list ∙ ap (take last_sequence) (append_assoc (list_of old) (d ∷ []) rest)
-      ∙ ap (λ (l : List Definition). take last_sequence (list_of old ++ l)) (sym is)
+pub all_first : (old mid new : MapList) (d : Definition) (definitions rest : List Definition) → definitions ≡ d ∷ rest → maps_of mid ≡ maps_of old ++ d ∷ [] →
+    maps_of new ≡ take last_sequence (maps_of mid ++ rest) → maps_of new ≡ take last_sequence (maps_of old ++ definitions)
+all_first old mid new d definitions rest is list later =
+    later ∙ ap (λ (l : List Definition). take last_sequence (l ++ rest)) list ∙ ap (take last_sequence) (append_assoc (maps_of old) (d ∷ []) rest)
+    ∙ ap (λ (l : List Definition). take last_sequence (maps_of old ++ l)) (sym is)

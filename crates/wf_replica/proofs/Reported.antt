@@ -107,7 +107,7 @@ one_more (suc k) [] = refl
 one_more zero (x ∷ list) = refl
 one_more (suc k) (x ∷ list) = ap (λ (l : List Definition). x ∷ l) (one_more k list)
 
-first_reported : (list : List Definition) (k : ℕ) (x : Definition) → slice_get list k ≡ Some x → IsIn (Chosen (suc k) x) (reports_from list (suc k) most_reports)
+pub first_reported : (list : List Definition) (k : ℕ) (x : Definition) → slice_get list k ≡ Some x → IsIn (Chosen (suc k) x) (reports_from list (suc k) most_reports)
 unfolding reports_from reports reports_of definition_at
 first_reported list k x at = subst (λ (o : Option Definition). IsIn (Chosen (suc k) x) (reports_of (suc k) o ++ reports_from list (suc (suc k)) 7)) (sym at) (inl refl)
 

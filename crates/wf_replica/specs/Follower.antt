@@ -1,32 +1,29 @@
 -- What a replica has heard and learned.
-use Rattle.std.specs.Prelude.{◌≡◌, ℕ, ◌≤◌, List, ◌++◌, length, take}
+use Rattle.std.specs.Prelude.{◌≡◌, List}
 use Rattle.wf_def.specs.Definition.{Definition}
 use Rattle.wf_safety.specs.Theorems.{IsBeginning}
-use Rattle.wf_learner.specs.History.{next_of}
 use Rattle.wf_model.specs.Message.{Message}
 use Rattle.wf_tape.specs.declared.tape.Tape.{Ghosts as Tape}
 use Rattle.wf_reader.specs.ReaderAnswer.{ReaderAnswer}
 use Rattle.wf_reader.specs.declared.question.Question.{Question}
-use Rattle.wf_replica.specs.LearnedList.{messages_of, numbered}
+use Rattle.wf_replica.specs.LearnedList.{messages_of}
 use Rattle.wf_replica.specs.declared.follower.Follower.{Follower}
 
 -- its published maps
 abbrev pub list_of : {T : Type 0} {tapes : Tape T} → Follower T tapes → List Definition
-list_of follower = follower.shelf.definitions
+list_of follower = follower.maps.shelf.definitions
 
 -- the messages that it heard, one after the other
 abbrev pub received_by : {T : Type 0} {tapes : Tape T} → Follower T tapes → List (Message Definition)
-received_by follower = messages_of follower.received.items
+received_by follower = messages_of follower.maps.received.items
+
+-- those that were read of its tape when it was opened
+abbrev pub read_by : {T : Type 0} {tapes : Tape T} → Follower T tapes → List (Message Definition)
+read_by follower = messages_of follower.read.items
 
 -- the answers that it was given, each with its question
 abbrev pub answers_of : {T : Type 0} {tapes : Tape T} → Follower T tapes → List (ReaderAnswer × Question)
 answers_of follower = follower.answers.items
-
--- it heard and learned the first k of these definitions, as chosen for the next sequences
-pub record Learns {T : Type 0} {tapes : Tape T} (k : ℕ) (old new : Follower T tapes) (definitions : List Definition) : Type 0 where
-  pub within : k ≤ length definitions
-  pub received : received_by new ≡ received_by old ++ numbered (next_of (list_of old)) (take k definitions)
-  pub list : list_of new ≡ list_of old ++ take k definitions
 
 -- its list went on, or stayed
 pub record Grows {T : Type 0} {tapes : Tape T} (old new : Follower T tapes) : Type 0 where

@@ -3,6 +3,8 @@ pub mod Refusals
 pub mod FarmFile
 pub mod Recorded
 pub mod Fit
+pub mod Heard
+pub mod MapList
 pub mod Follower
 pub mod Growth
 pub mod Theorems

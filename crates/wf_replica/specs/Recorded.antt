@@ -1,5 +1,5 @@
 -- A replica's tape: the records of its published maps.
-use Rattle.std.specs.Prelude.{◌≡◌, ⊤, ℕ, Bool, true, false, List, [], ◌∷◌, ◌++◌, Option, Some, None}
+use Rattle.std.specs.Prelude.{◌≡◌, ⊤, ℕ, Bool, true, false, List, [], ◌∷◌, ◌++◌, Option, Some, None, IsSome}
 use Rattle.wf_def.specs.Definition.{Definition}
 use Rattle.wf_journal.specs.Records.{AreRecords, IsTapeOf}
 use Rattle.wf_learner.specs.History.{next_of}
@@ -48,6 +48,12 @@ abbrev pub IsRecordedStart : FoundTape → List (Record Definition) → List Def
 IsRecordedStart found.Published records list = AreLearned true records list
 IsRecordedStart found.Damaged records list = AreLearned false records list × (list ≡ [])
 IsRecordedStart found.Failed records list = list ≡ []
+
+-- a replica has a tape, unless that failed
+abbrev pub IsTapeHad : {T : Type 0} → FoundTape → Option T → Type 0
+IsTapeHad found.Published tape = IsSome tape
+IsTapeHad found.Damaged tape = IsSome tape
+IsTapeHad found.Failed tape = tape ≡ None
 
 -- nothing was learned of a tape
 abbrev pub IsBegunAnew : FoundTape → List Definition → Type 0

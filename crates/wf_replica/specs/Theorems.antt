@@ -15,6 +15,7 @@ use Rattle.wf_reader.specs.declared.question.Question.{Question}
 use Rattle.wf_tape.specs.declared.tape.Tape.{Ghosts as Tape}
 use Rattle.wf_wms.specs.Answer.{AnswerValue, IsAnswerOf}
 use Rattle.wf_replica.specs.Fit.{FitsQuestion, IsQuestionOf}
+use Rattle.wf_replica.specs.Heard.{IsHeard}
 use Rattle.wf_replica.specs.LearnedList.{learned, numbered}
 
 -- What an answer at a readers' port says is what a node answers when it is asked for the next
@@ -44,6 +45,27 @@ pub record IsToldByFarm {T : Type 0} (n : ℕ) (careers : ℕ → Career T) (m :
 abbrev pub AreReported : {T : Type 0} → ℕ → (ℕ → Career T) → List (Message Definition) → Type 0
 AreReported n careers received = (m : Message Definition) → IsIn m received → IsToldByFarm n careers m
 
+-- a list of a node of the farm, or of a replica of it, gave this answer to this question
+pub record IsAnsweredByFarm {T : Type 0} (n : ℕ) (careers : ℕ → Career T) (answer : ReaderAnswer × Question) : Type 0 where
+  pub own : Answerer
+  pub source : List Definition
+  pub served : IsListOfFarm n careers source
+  pub answers : IsAnswerTo own source answer.1 answer.0
+
+-- so each of these answers
+abbrev pub AreAnsweredByFarm : {T : Type 0} → ℕ → (ℕ → Career T) → List (ReaderAnswer × Question) → Type 0
+AreAnsweredByFarm n careers answers = (answer : ReaderAnswer × Question) → IsIn answer answers → IsAnsweredByFarm n careers answer
+
+-- Where a list of the farm gave each answer that a replica was given, and told what the replica
+-- read of its tape, such lists told all that it heard.
+abbrev pub HeardAreReported : Type 0 → Type 0
+HeardAreReported T = (n : ℕ) (careers : ℕ → Career T) (read received : List (Message Definition)) (answers : List (ReaderAnswer × Question)) → ∥ IsHeard read answers received ∥₁ →
+    AreReported n careers read → AreAnsweredByFarm n careers answers → ∥ AreReported n careers received ∥₁
+
+-- The maps of such a list, as they are read of a tape that has them, are told by it.
+abbrev pub ReadAreReported : Type 0 → Type 0
+ReadAreReported T = (n : ℕ) (careers : ℕ → Career T) (list : List Definition) → IsListOfFarm n careers list → AreReported n careers (numbered 1 list)
+
 -- So what a replica has learned at any moment is one of the lists of which `wf_career` says that
 -- all are beginnings of one history.
 abbrev pub LearnedAreServed : Type 0 → Type 0
@@ -57,6 +79,14 @@ BeginningsAreServed T = (n : ℕ) (careers : ℕ → Career T) (list : List Defi
 abbrev pub LearnedAgree : {T : Type 0} → Tape T → Type 0
 LearnedAgree {T} tapes = (n : ℕ) (careers : ℕ → Career T) (items : List Item) → IsFarm tapes n careers items →
     (received other : List (Message Definition)) → AreReported n careers received → AreReported n careers other → (k l s : ℕ) (c d : Definition) →
+    definition_at (learned [] (take k received)) s ≡ Some c → definition_at (learned [] (take l other)) s ≡ Some d → c ≡ d
+
+-- So it is where lists of the farm gave all their answers, and told what they read of their tapes.
+abbrev pub AnsweredAgree : {T : Type 0} → Tape T → Type 0
+AnsweredAgree {T} tapes = (n : ℕ) (careers : ℕ → Career T) (items : List Item) → IsFarm tapes n careers items →
+    (read received : List (Message Definition)) (answers : List (ReaderAnswer × Question)) → ∥ IsHeard read answers received ∥₁ → AreReported n careers read → AreAnsweredByFarm n careers answers →
+    (read_by_other other : List (Message Definition)) (other_answers : List (ReaderAnswer × Question)) → ∥ IsHeard read_by_other other_answers other ∥₁ → AreReported n careers read_by_other →
+    AreAnsweredByFarm n careers other_answers → (k l s : ℕ) (c d : Definition) →
     definition_at (learned [] (take k received)) s ≡ Some c → definition_at (learned [] (take l other)) s ≡ Some d → c ≡ d
 
 -- Where they have published equally many maps, they answer a query of the web map service alike.

@@ -5,9 +5,13 @@ ghost use Rattle.wf_def.specs.Definition.{Definition};
 ghost use Rattle.wf_digest.specs.Digest.{AreDigestsOf, digest_after, digest_at, next_digest};
 ghost use Rattle.wf_model.specs.Message.{Message};
 ghost use Rattle.wf_replica.specs.Fit.{FitsQuestion, IsFoundDifferent, IsOfOtherHistory, IsOtherHistory, IsQuestionOf, AnswerLeaves, next_count};
-ghost use Rattle.wf_replica.specs.Follower.{Grows, answers_of, list_of, received_by};
+ghost use Rattle.wf_replica.specs.Follower.{Grows, answers_of, list_of, read_by, received_by};
+ghost use Rattle.wf_replica.specs.Heard.{IsTaken};
+ghost use Rattle.wf_replica.specs.MapList.{LearnsFitting, maps_of};
+ghost use Rattle.wf_replica.specs.Recorded.{IsRecorded};
 
 use crate::follower::Follower;
+use crate::maps::MapList;
 use crate::misfit::{AnswerFault, Misfit};
 use sha2::{Digest, Sha256};
 use std::alloc::{AllocError, Global};
@@ -34,25 +38,33 @@ impl<T: Tape + Drop> Follower<T> {
         ensures differs { IsFoundDifferent result → IsOtherHistory (list_of self.old) answer.now }
         ensures grows { Grows self.old self.new }
         ensures received { (more : List (Message Definition)) × (received_by self.new ≡ received_by self.old ++ more) }
+        ensures taken { (part : List (Message Definition)) × IsTaken (list_of self.old) question.now answer.now part
+            × (received_by self.new ≡ received_by self.old ++ part) }
+        ensures read { read_by self.new ≡ read_by self.old }
     {
-        let answers = self.answers.and(answer, question);
-        let taken = self.learn_fitting(alloc, question, answer);
-        self.answers = answers;
+        let taken = self
+            .maps
+            .learn_fitting(alloc, &mut self.tape, question, answer);
+        self.answers = self.answers.and(answer, question);
         taken
     }
+}
 
-    /// Learns the definitions of an answer, if it fits.
-    #[tactic(auto, using(crate::specs::Growth::grown_none))]
-    fn learn_fitting(
+impl MapList {
+    /// Learns the definitions of an answer, and writes them on a tape, if it fits.
+    #[tactic(auto, using(crate::proofs::Hearing::learned_fitting, crate::proofs::Hearing::learned_nothing))]
+    fn learn_fitting<T: Tape + Drop>(
         &mut self,
         alloc: Global,
+        tape: &mut Option<T>,
         question: &Question,
         answer: &ReaderAnswer,
     ) -> Result<(), AnswerFault>
-        ensures leaves { AnswerLeaves (list_of self.old) question.now answer.now result (list_of self.new) }
-        ensures differs { IsFoundDifferent result → IsOtherHistory (list_of self.old) answer.now }
-        ensures grows { Grows self.old self.new }
-        ensures received { (more : List (Message Definition)) × (received_by self.new ≡ received_by self.old ++ more) }
+        ensures leaves { AnswerLeaves (maps_of self.old) question.now answer.now result (maps_of self.new) }
+        ensures differs { IsFoundDifferent result → IsOtherHistory (maps_of self.old) answer.now }
+        ensures learns { LearnsFitting question.now answer.now self.old self.new }
+        ensures recorded { IsRecorded T.Tape tape.old (maps_of self.old)
+            → IsRecorded T.Tape tape.new (maps_of self.new) }
     {
         let Some(own) = self.last_digest() else {
             return Err(AnswerFault::Memory);
@@ -60,7 +72,7 @@ impl<T: Tape + Drop> Follower<T> {
         if let Err(misfit) = self.judge(&own, question, answer) {
             return Err(AnswerFault::Misfit(misfit));
         }
-        match self.learn(alloc, answer.definitions()) {
+        match self.learn(alloc, tape, answer.definitions()) {
             Ok(()) => Ok(()),
             Err(AllocError) => Err(AnswerFault::Memory),
         }
@@ -69,8 +81,8 @@ impl<T: Tape + Drop> Follower<T> {
     /// The digest of its list. None: an allocation failed before, and it isn't there.
     #[tactic(auto, using(crate::proofs::Digested::all_digested))]
     fn last_digest(&self) -> Option<[u8; 32]>
-        ensures digested { IfSome result (λ _. AreDigestsOf (list_of self.now) self.now.digests) }
-        ensures value { IfSome result (λ own. own ≡ digest_at (list_of self.now) (length (list_of self.now))) }
+        ensures digested { IfSome result (λ _. AreDigestsOf (maps_of self.now) self.now.digests) }
+        ensures value { IfSome result (λ own. own ≡ digest_at (maps_of self.now) (length (maps_of self.now))) }
     {
         self.digests.at(self.history().published())
     }
@@ -82,11 +94,11 @@ impl<T: Tape + Drop> Follower<T> {
         question: &Question,
         answer: &ReaderAnswer,
     ) -> Result<(), Misfit>
-        requires digested { AreDigestsOf (list_of self.now) self.now.digests }
-        requires own { own.now ≡ digest_at (list_of self.now) (length (list_of self.now)) }
-        ensures fits { OnOk result (FitsQuestion (list_of self.now) question.now answer.now) }
-        ensures fitting { FitsQuestion (list_of self.now) question.now answer.now → IsOk result }
-        ensures differs { IfErr result (λ why. IsOfOtherHistory why → IsOtherHistory (list_of self.now) answer.now) }
+        requires digested { AreDigestsOf (maps_of self.now) self.now.digests }
+        requires own { own.now ≡ digest_at (maps_of self.now) (length (maps_of self.now)) }
+        ensures fits { OnOk result (FitsQuestion (maps_of self.now) question.now answer.now) }
+        ensures fitting { FitsQuestion (maps_of self.now) question.now answer.now → IsOk result }
+        ensures differs { IfErr result (λ why. IsOfOtherHistory why → IsOtherHistory (maps_of self.now) answer.now) }
     {
         if !self.has_asked(own, question) {
             return Err(Misfit::Unasked);
@@ -102,9 +114,9 @@ impl<T: Tape + Drop> Follower<T> {
 
     /// Whether a question is the one for what comes next. `own`: the digest of its list.
     fn has_asked(&self, own: &[u8; 32], question: &Question) -> bool
-        requires { own.now ≡ digest_at (list_of self.now) (length (list_of self.now)) }
-        ensures asked { IsTrue result → IsQuestionOf (list_of self.now) question.now }
-        ensures own { IsQuestionOf (list_of self.now) question.now → IsTrue result }
+        requires { own.now ≡ digest_at (maps_of self.now) (length (maps_of self.now)) }
+        ensures asked { IsTrue result → IsQuestionOf (maps_of self.now) question.now }
+        ensures own { IsQuestionOf (maps_of self.now) question.now → IsTrue result }
     {
         if question.published.number() != self.history().published().number() {
             return false;
@@ -116,12 +128,12 @@ impl<T: Tape + Drop> Follower<T> {
     /// that is further on.
     #[tactic(auto, using(crate::proofs::Digested::digest_within, crate::proofs::Digested::digest_to_end))]
     fn digest_with(&self, question: &Question, answer: &ReaderAnswer) -> Option<[u8; 32]>
-        requires asked { IsQuestionOf (list_of self.now) question.now }
-        requires digested { AreDigestsOf (list_of self.now) self.now.digests }
-        requires count { length answer.now.definitions ≡ next_count (length (list_of self.now)) answer.now.published }
-        ensures within { let whole = list_of self.now ++ answer.now.definitions in
+        requires asked { IsQuestionOf (maps_of self.now) question.now }
+        requires digested { AreDigestsOf (maps_of self.now) self.now.digests }
+        requires count { length answer.now.definitions ≡ next_count (length (maps_of self.now)) answer.now.published }
+        ensures within { let whole = maps_of self.now ++ answer.now.definitions in
             answer.now.published ≤ length whole → result ≡ Some (digest_at whole answer.now.published) }
-        ensures further { length (list_of self.now ++ answer.now.definitions) < answer.now.published → result ≡ None }
+        ensures further { length (maps_of self.now ++ answer.now.definitions) < answer.now.published → result ≡ None }
     {
         let last = answer.published();
         if last.number() <= question.published.number() {

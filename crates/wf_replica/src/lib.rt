@@ -9,15 +9,18 @@
 //! - [`replica_text`] is the text of the file `farm` of its folder.
 //!
 //! **Promises.**
-//! - Its list is what it heard, message after message, as `wf_career`'s `Replica` learns them
-//!   ([`Follower::always_learned`]). So it never goes back ([`a_replica_never_goes_back`]).
+//! - Its list is what it heard, message after message, as `wf_career`'s `Replica` learns them. What
+//!   it heard is what it read of its tape, and then the first definitions of each answer that fits
+//!   its question, and nothing else ([`Follower::always_learned`]). So it never goes back
+//!   ([`a_replica_never_goes_back`]).
 //! - A durable tape of it has exactly the records of its list, in their order
 //!   (`specs/Recorded.antt`): a map is learned before its record is written. A replica begins with
 //!   all that its tape has, in its order; only a tape that has something else begins anew.
 //! - What an answer at a readers' port says is what a node answers when it is asked for the next
-//!   definition ([`answers_report`]). Where it hears only such answers, of processes of a farm or
-//!   of their replicas, its list is at each moment one of which `wf_career`'s `replicas_agree` says
-//!   that all are beginnings of one history ([`what_is_learned_is_served`],
+//!   definition ([`answers_report`]). Where it is given only such answers, of processes of a farm or
+//!   of their replicas, and its tape has what such have, such have told all that it heard
+//!   ([`what_is_heard_is_reported`]): so its list is at each moment one of which `wf_career`'s
+//!   `replicas_agree` says that all are beginnings of one history ([`what_is_learned_is_served`],
 //!   [`what_is_learned_agrees`]).
 //! - Its list goes on only by answers that fit its question, by count, published sequence and
 //!   digest: such a one is taken whole, as far as memory allows, and any other changes nothing
@@ -37,6 +40,7 @@ mod answer;
 mod farm_file;
 mod follower;
 mod learner;
+mod maps;
 mod misfit;
 mod page;
 mod questions;
@@ -54,6 +58,6 @@ pub use questions::{Asking, REST_MILLIS, SILENCE_MILLIS, TURN_MILLIS};
 pub use refusals::Refusals;
 pub use start::FoundTape;
 pub use theorem::{
-    a_replica_never_goes_back, answers_report, sound_answers_fit, what_is_learned_agrees,
-    what_is_learned_is_served,
+    a_replica_never_goes_back, answers_report, sound_answers_fit, what_is_heard_is_reported,
+    what_is_learned_agrees, what_is_learned_is_served,
 };

@@ -1,10 +1,12 @@
 //! A replica serves the public.
 
 ghost use Rattle.std.specs.Prelude.{◌≡◌, IsTrue};
-ghost use Rattle.wf_replica.specs.Follower.{HasLearnedNothing, list_of};
+ghost use Rattle.wf_replica.specs.Follower.{HasLearnedNothing, list_of, read_by};
+ghost use Rattle.wf_replica.specs.MapList.{heard_by, maps_of};
 ghost use Rattle.wf_replica.specs.Service.{AsksToPublish, IsServed, IsUnsent};
 
 use crate::follower::Follower;
+use crate::maps::MapList;
 use crate::shelf::Shelf;
 use std::alloc::Global;
 use wf_client::{Incoming, Outgoing};
@@ -19,10 +21,24 @@ impl<T: Tape> Follower<T> {
     /// Serves what has come of a request. The map service is answered from the maps that are
     /// published, and GET /status with a line of its own; POST /publish is 404, as soon as its head
     /// has come. Where the request isn't whole, nothing is written.
+    #[tactic(auto, using(crate::proofs::Recorded::recorded_same, crate::proofs::Hearing::heard_same))]
     pub fn serve(&mut self, alloc: Global, incoming: &Incoming, outgoing: &mut Outgoing) -> Outcome
         ensures served { IsServed incoming.now.bytes (list_of self.old) outgoing.old.bytes outgoing.new.bytes result }
         ensures unsent { IsUnsent result outgoing.old outgoing.new }
         ensures same { HasLearnedNothing self.old self.new }
+        ensures read { read_by self.new ≡ read_by self.old }
+    {
+        self.maps.serve(alloc, incoming, outgoing)
+    }
+}
+
+impl MapList {
+    /// Serves what has come of a request.
+    fn serve(&mut self, alloc: Global, incoming: &Incoming, outgoing: &mut Outgoing) -> Outcome
+        ensures served { IsServed incoming.now.bytes (maps_of self.old) outgoing.old.bytes outgoing.new.bytes result }
+        ensures unsent { IsUnsent result outgoing.old outgoing.new }
+        ensures list { maps_of self.new ≡ maps_of self.old }
+        ensures received { heard_by self.new ≡ heard_by self.old }
     {
         serve(alloc, &mut self.shelf, incoming, outgoing)
     }

@@ -4,16 +4,20 @@ ghost use Rattle.std.specs.Prelude.{◌≡◌, ◌≤◌, [], IfOk, IfSome, None
 ghost use Rattle.wf_journal.specs.Record.{view};
 ghost use Rattle.wf_journal.specs.Records.{AreRecords};
 ghost use Rattle.wf_model.specs.DurableState.{Published};
-ghost use Rattle.wf_replica.specs.Follower.{list_of};
-ghost use Rattle.wf_replica.specs.Recorded.{AreLearned, IsRecordedStart, IsBegunAnew, IsFoundOn, IsNextLearned};
+ghost use Rattle.wf_replica.specs.Follower.{answers_of, list_of, read_by};
+ghost use Rattle.wf_replica.specs.LearnedList.{messages_of, numbered};
+ghost use Rattle.wf_replica.specs.MapList.{IsRead, maps_of};
+ghost use Rattle.wf_replica.specs.Recorded.{AreLearned, IsRecordedStart, IsBegunAnew, IsFoundOn, IsNextLearned, IsTapeHad};
 ghost use Rattle.wf_wms.specs.CachedPictures.{most_cached};
 
 use crate::follower::Follower;
+use crate::maps::MapList;
 use std::alloc::{AllocError, Global};
 use wf_ballot::Slot;
 use wf_canon::Canon;
 use wf_codec::Message;
 use wf_journal::{Journal, OpenFault, Record, records_are_read_one_way};
+use wf_past::Past;
 use wf_tape::Tape;
 
 /// What was found on a tape.
@@ -43,14 +47,37 @@ impl<T: Tape + Drop> Follower<T> {
         ensures found { T.durable →
             IfSome tape (λ kept. IfOk result (λ x. IsFoundOn (T.content kept) x.1 (list_of x.0))) }
         ensures none { tape ≡ None → IfOk result (λ x. list_of x.0 ≡ []) }
+        // It goes on without a tape where the tape failed, and nowhere else.
+        ensures tape { IfOk result (λ x. IsTapeHad x.1 x.0.tape) }
+        ensures without { tape ≡ None → IfOk result (λ x. x.1 ≡ FoundTape.Failed) }
+        ensures read { IfOk result (λ x. read_by x.0 ≡ numbered 1 (list_of x.0)) }
+        ensures answers { IfOk result (λ x. answers_of x.0 ≡ []) }
     {
         match tape {
             Some(tape) => Self::open_tape(alloc, tape, pictures),
-            None => {
-                let follower = Self::new(alloc, pictures)?;
-                Ok((follower, FoundTape::Failed))
-            }
+            None => Self::without_tape(alloc, pictures),
         }
+    }
+
+    /// A replica that has learned nothing, without a tape.
+    #[tactic(auto, using(crate::proofs::Recorded::recorded_bare, crate::proofs::Hearing::heard_read, crate::proofs::Hearing::nothing_read))]
+    fn without_tape(alloc: Global, pictures: usize) -> Result<(Self, FoundTape), AllocError>
+        requires least { 1 ≤ pictures }
+        requires most { pictures ≤ most_cached }
+        ensures list { IfOk result (λ x. list_of x.0 ≡ []) }
+        ensures found { IfOk result (λ x. x.1 ≡ FoundTape.Failed) }
+        ensures tape { IfOk result (λ x. x.0.tape ≡ None) }
+        ensures read { IfOk result (λ x. read_by x.0 ≡ numbered 1 (list_of x.0)) }
+        ensures answers { IfOk result (λ x. answers_of x.0 ≡ []) }
+    {
+        let maps = MapList::new(alloc, pictures)?;
+        let follower = Follower {
+            maps,
+            tape: None,
+            read: Past::new(),
+            answers: Past::new(),
+        };
+        Ok((follower, FoundTape::Failed))
     }
 
     /// A replica with what its tape has.
@@ -58,7 +85,10 @@ impl<T: Tape + Drop> Follower<T> {
     fn open_tape(alloc: Global, tape: T, pictures: usize) -> Result<(Self, FoundTape), AllocError>
         requires least { 1 ≤ pictures }
         requires most { pictures ≤ most_cached }
-        ensures { T.durable → IfOk result (λ x. IsFoundOn (T.content tape) x.1 (list_of x.0)) }
+        ensures found { T.durable → IfOk result (λ x. IsFoundOn (T.content tape) x.1 (list_of x.0)) }
+        ensures tape { IfOk result (λ x. IsTapeHad x.1 x.0.tape) }
+        ensures read { IfOk result (λ x. read_by x.0 ≡ numbered 1 (list_of x.0)) }
+        ensures answers { IfOk result (λ x. answers_of x.0 ≡ []) }
     {
         // Bytes are read as one list of records at most.
         records_are_read_one_way();
@@ -67,8 +97,7 @@ impl<T: Tape + Drop> Follower<T> {
             Err((tape, OpenFault::BadRecord(_))) => Self::begin_anew(alloc, tape, pictures),
             Err((tape, OpenFault::TapeFailed)) => {
                 drop(tape);
-                let follower = Self::new(alloc, pictures)?;
-                Ok((follower, FoundTape::Failed))
+                Self::without_tape(alloc, pictures)
             }
             Err((tape, OpenFault::Memory)) => {
                 drop(tape);
@@ -78,7 +107,7 @@ impl<T: Tape + Drop> Follower<T> {
     }
 
     /// A replica with these records of its tape.
-    #[tactic(auto, using(crate::proofs::Recorded::recorded_read, crate::proofs::Recorded::begun_anew))]
+    #[tactic(auto, using(crate::proofs::Recorded::recorded_read, crate::proofs::Recorded::begun_anew, crate::proofs::Hearing::heard_read, crate::proofs::Hearing::nothing_read))]
     fn begin(
         alloc: Global,
         tape: T,
@@ -88,30 +117,39 @@ impl<T: Tape + Drop> Follower<T> {
         requires least { 1 ≤ pictures }
         requires most { pictures ≤ most_cached }
         requires held { T.durable → AreRecords (T.content tape) (map view records.items) }
-        ensures { IfOk result (λ x. IsRecordedStart x.1 (map view records.items) (list_of x.0)) }
+        ensures found { IfOk result (λ x. IsRecordedStart x.1 (map view records.items) (list_of x.0)) }
+        ensures tape { IfOk result (λ x. IsTapeHad x.1 x.0.tape) }
+        ensures read { IfOk result (λ x. read_by x.0 ≡ numbered 1 (list_of x.0)) }
+        ensures answers { IfOk result (λ x. answers_of x.0 ≡ []) }
     {
-        let mut follower = match Self::new(alloc, pictures) {
-            Ok(follower) => follower,
+        let mut maps = match MapList::new(alloc, pictures) {
+            Ok(maps) => maps,
             Err(AllocError) => {
                 drop(tape);
                 drop(records);
                 return Err(AllocError);
             }
         };
-        match follower.receive_records(&records) {
+        let mut read = Past::new();
+        match maps.receive_records(&mut read, &records) {
             Ok(true) => {
                 drop(records);
-                follower.tape = Some(tape);
+                let follower = Follower {
+                    maps,
+                    tape: Some(tape),
+                    read,
+                    answers: Past::new(),
+                };
                 Ok((follower, FoundTape::Published))
             }
             Ok(false) => {
                 drop(records);
-                drop(follower);
+                drop(maps);
                 Self::begin_anew(alloc, tape, pictures)
             }
             Err(AllocError) => {
                 drop(records);
-                drop(follower);
+                drop(maps);
                 drop(tape);
                 Err(AllocError)
             }
@@ -127,10 +165,13 @@ impl<T: Tape + Drop> Follower<T> {
     ) -> Result<(Self, FoundTape), AllocError>
         requires least { 1 ≤ pictures }
         requires most { pictures ≤ most_cached }
-        ensures { IfOk result (λ x. IsBegunAnew x.1 (list_of x.0)) }
+        ensures found { IfOk result (λ x. IsBegunAnew x.1 (list_of x.0)) }
+        ensures tape { IfOk result (λ x. IsTapeHad x.1 x.0.tape) }
+        ensures read { IfOk result (λ x. read_by x.0 ≡ numbered 1 (list_of x.0)) }
+        ensures answers { IfOk result (λ x. answers_of x.0 ≡ []) }
     {
-        let mut follower = match Self::new(alloc, pictures) {
-            Ok(follower) => follower,
+        let (mut follower, failed) = match Self::without_tape(alloc, pictures) {
+            Ok(begun) => begun,
             Err(AllocError) => {
                 drop(tape);
                 return Err(AllocError);
@@ -143,20 +184,27 @@ impl<T: Tape + Drop> Follower<T> {
             }
             Err(_) => {
                 drop(tape);
-                Ok((follower, FoundTape::Failed))
+                Ok((follower, failed))
             }
         }
     }
+}
 
-    /// Learns what the records say. Returns whether they are published maps, one after the other.
-    fn receive_records(&mut self, records: &[Record]) -> Result<bool, AllocError>
-        requires bare { self.old.tape ≡ None }
-        requires empty { list_of self.old ≡ [] }
-        ensures bare { self.new.tape ≡ None }
-        ensures learned { IfOk result (λ are. AreLearned are (map view records.now) (list_of self.new)) }
+impl MapList {
+    /// Learns what the records say, and logs that it was read. Returns whether they are published
+    /// maps, one after the other.
+    fn receive_records(
+        &mut self,
+        read: &mut Past<Message, usize>,
+        records: &[Record],
+    ) -> Result<bool, AllocError>
+        requires empty { maps_of self.old ≡ [] }
+        requires read { IsRead (messages_of read.old.items) self.old }
+        ensures learned { IfOk result (λ are. AreLearned are (map view records.now) (maps_of self.new)) }
+        ensures read { IfOk result (λ _. IsRead (messages_of read.new.items) self.new) }
     {
         for entry in records {
-            if !self.receive_record(entry)? {
+            if !self.receive_record(read, entry)? {
                 return Ok(false);
             }
         }
@@ -165,30 +213,42 @@ impl<T: Tape + Drop> Follower<T> {
 
     /// Learns what a record says. Returns whether it is the next published map.
     #[tactic(auto, using(crate::proofs::Recorded::tried_is_none, crate::proofs::Recorded::promised_is_none, crate::proofs::Recorded::accepted_is_none))]
-    fn receive_record(&mut self, entry: &Record) -> Result<bool, AllocError>
-        requires { self.old.tape ≡ None }
-        ensures bare { self.new.tape ≡ None }
-        ensures learned { IfOk result (λ is. IsNextLearned is (view entry.now) (list_of self.old) (list_of self.new)) }
+    fn receive_record(
+        &mut self,
+        read: &mut Past<Message, usize>,
+        entry: &Record,
+    ) -> Result<bool, AllocError>
+        requires { IsRead (messages_of read.old.items) self.old }
+        ensures learned { IfOk result (λ is. IsNextLearned is (view entry.now) (maps_of self.old) (maps_of self.new)) }
+        ensures read { IfOk result (λ _. IsRead (messages_of read.new.items) self.new) }
     {
         match entry {
-            Record::Published(slot, definition) => self.receive_map(*slot, definition),
+            Record::Published(slot, definition) => self.receive_map(read, *slot, definition),
             Record::Tried(_) | Record::Promised(_, _) | Record::Accepted(_, _, _) => Ok(false),
         }
     }
 
     /// Learns a published map, if it is the next one. Returns whether it is.
-    #[tactic(auto, using(crate::proofs::Received::chosen_next, crate::proofs::Recorded::other_is_none, crate::proofs::Recorded::next_is_learned))]
-    fn receive_map(&mut self, slot: Slot, definition: &Canon) -> Result<bool, AllocError>
-        requires { self.old.tape ≡ None }
-        ensures bare { self.new.tape ≡ None }
+    #[tactic(auto, using(crate::proofs::Received::chosen_next, crate::proofs::Recorded::other_is_none, crate::proofs::Recorded::next_is_learned, crate::proofs::Hearing::one_read))]
+    fn receive_map(
+        &mut self,
+        read: &mut Past<Message, usize>,
+        slot: Slot,
+        definition: &Canon,
+    ) -> Result<bool, AllocError>
+        requires { IsRead (messages_of read.old.items) self.old }
         ensures learned { IfOk result
-            (λ is. IsNextLearned is (Published slot definition.now) (list_of self.old) (list_of self.new)) }
+            (λ is. IsNextLearned is (Published slot definition.now) (maps_of self.old) (maps_of self.new)) }
+        ensures read { IfOk result (λ _. IsRead (messages_of read.new.items) self.new) }
     {
         let published = self.history().published().number();
         if slot.number() != published + 1 {
             return Ok(false);
         }
-        self.receive(Message::Chosen(slot, definition.copy()?))?;
+        let message = Message::Chosen(slot, definition.copy()?);
+        let more = read.and(&message, &0);
+        self.receive(message)?;
+        *read = more;
         Ok(true)
     }
 }

@@ -1,6 +1,6 @@
 //! Theorems about replicas. Each call does nothing.
 
-ghost use Rattle.wf_replica.specs.Theorems.{AnswersReport, BeginningsAreServed, LearnedAgree, LearnedAnswer, LearnedAreServed, NeverGoesBack, SoundAnswersFit};
+ghost use Rattle.wf_replica.specs.Theorems.{AnsweredAgree, AnswersReport, BeginningsAreServed, HeardAreReported, LearnedAgree, LearnedAnswer, LearnedAreServed, NeverGoesBack, ReadAreReported, SoundAnswersFit};
 
 use wf_career::{replicas_agree, replicas_answer_alike};
 use wf_tape::Tape;
@@ -23,6 +23,14 @@ pub fn a_replica_never_goes_back()
     ensures { NeverGoesBack }
 {}
 
+/// Where each answer that a replica was given came of a list of the farm, of a node or a replica,
+/// and so did the maps that it read of its tape, all that it heard did, by what
+/// [`Follower::always_learned`](crate::Follower::always_learned) says of its log.
+pub fn what_is_heard_is_reported<T>()
+    ensures heard { HeardAreReported T }
+    ensures read { ReadAreReported T }
+{}
+
 /// What a replica learns from answers, of nodes of a farm and of replicas of it, is at each moment
 /// one of the lists that such have; so is each beginning of it, which its tape may have.
 pub fn what_is_learned_is_served<T>()
@@ -33,6 +41,7 @@ pub fn what_is_learned_is_served<T>()
 /// So replicas agree and answer alike, at any moments, with one another.
 pub fn what_is_learned_agrees<T: Tape>()
     ensures definition { LearnedAgree T.Tape }
+    ensures answered { AnsweredAgree T.Tape }
     ensures proposal_state { LearnedAnswer T.Tape }
 {
     replicas_agree::<T>();

@@ -1,7 +1,14 @@
--- The digests go on.
-use Rattle.wf_replica.proofs.Digested.{extended_by}
+-- The maps stay, and what was heard.
+use Rattle.std.proofs.Common.{refl}
+use Rattle.wf_replica.proofs.Hearing.{heard_same}
+use Rattle.wf_replica.proofs.Recorded.{recorded_same}
+use Rattle.wf_replica.specs.Follower.{answers_of, list_of, read_by, received_by}
+use Rattle.wf_replica.specs.MapList.{heard_by, maps_of}
 use Rattle.wf_replica.proofs.follower.Follower.extend_digests.Goals as goal
 
-pub invariant_of-self-clause-digested : goal.invariant_of-self-clause-digested
-invariant_of-self-clause-digested g c =
-    extended_by c.extend.result c.history.result.now c.args.self.now.shelf c.args.self.now.digests c.extend.new.self c.history.ensures c.extend.ensures.ok c.extend.ensures.err c.args.self.now.digested
+pub invariant_of-self : goal.invariant_of-self
+invariant_of-self g c =
+    let old = c.args.self.now in record {
+      recorded = recorded_same g.T.Tape (list_of old) (maps_of c.extend_digests.new.self) old.tape old.tape old.recorded refl c.extend_digests.ensures.list;
+      heard = heard_same (read_by old) (received_by old) (heard_by c.extend_digests.new.self) (answers_of old) c.extend_digests.ensures.received old.heard;
+    }

@@ -1,9 +1,14 @@
--- The maps stay.
-use Rattle.std.proofs.Common.{sym, subst}
-use Rattle.wf_learner.specs.History.{History}
-use Rattle.wf_replica.specs.Recorded.{IsRecorded}
+-- The maps stay, and what was heard.
+use Rattle.std.proofs.Common.{refl}
+use Rattle.wf_replica.proofs.Hearing.{heard_same}
+use Rattle.wf_replica.proofs.Recorded.{recorded_same}
+use Rattle.wf_replica.specs.Follower.{answers_of, list_of, read_by, received_by}
+use Rattle.wf_replica.specs.MapList.{heard_by, maps_of}
 use Rattle.wf_replica.proofs.follower.Follower.serve.Goals as goal
 
-pub invariant_of-self-clause-recorded : goal.invariant_of-self-clause-recorded
-invariant_of-self-clause-recorded g c =
-    subst (λ (h : History). IsRecorded g.T.Tape c.args.self.now.tape h.definitions) (sym c.serve.ensures.same) c.args.self.now.recorded
+pub invariant_of-self : goal.invariant_of-self
+invariant_of-self g c =
+    let old = c.args.self.now in record {
+      recorded = recorded_same g.T.Tape (list_of old) (maps_of c.serve.new.self) old.tape old.tape old.recorded refl c.serve.ensures.list;
+      heard = heard_same (read_by old) (received_by old) (heard_by c.serve.new.self) (answers_of old) c.serve.ensures.received old.heard;
+    }
