@@ -36,11 +36,14 @@ without a cut, so that the next one finds bytes and names that aren't synced. Co
 - a node's published sequence (`/status`) never goes back;
 - what a node reports as published stays, and is on its tape after each kill or cut.
 
-starts: `init`, `node` and `clear` are traced once, and then killed at each of their calls that changes or
-syncs a file. On five folders that a power cut there may leave, as above, the node is started:
+starts: `init`, `node`, `clear`, `node` among two peers (what it hears of them is in its file `heard`)
+and `replica` are traced once, and then killed at each of their calls that changes or syncs a file. On five
+folders that a power cut there may leave, as above, the node or replica is started:
 - after a cut of `init` it is served, or there is no file `farm` yet: the folder is not a node's;
 - after a cut of a start or of `clear` it is served, and has published no less than before;
-- after a cut of a start the file `farm` counts as many starts as before, or one more.
+- after a cut of a start the file `farm` counts as many starts as before, or one more;
+- among peers, which remember what they heard up to the cut, it connects to both: neither rejects it;
+- a replica has the maps whose records are whole, and comes to have all.
 
 600 kills, 200 cuts of each kind, each part in T seconds (default 900) at most; fewer in that time is an
 error. A line for each part, one for each violation, and their number at the end; status 1 where there is one.
@@ -49,7 +52,6 @@ as not made, to show that a program without them would be found.
 """
 
 import collections
-import os
 import pathlib
 import random
 import re
@@ -61,56 +63,25 @@ import threading
 import time
 
 from farmkit import ledger
-from farmkit.calls import Follower, Unfollowed, Watcher, calls, follow, traced
+from farmkit.calls import Unfollowed, Watcher, follow, traced
 from farmkit.command import add_cases, lacks, program_parser, tell_missing
 from farmkit.device import Machine, formatted, is_permitted
 from farmkit.folder import Folder, drawn, everything, extremes, nothing
-from farmkit.ledger import MOST_VIOLATIONS
 from farmkit.mapfiles import PIXEL, map_of, picture_of
-from farmkit.processes import STATUS, Farm, end, free_ports, serve_words
-from farmkit.tapes import ACCEPTED, PUBLISHED, record, records, tape_of
+from farmkit.processes import STATUS, Farm, serve_words
+from farmkit.starts import Violations, contents, is_unsynced, new_folder, put, starts
+from farmkit.tapes import ACCEPTED, PUBLISHED, record, records
 from farmkit.web import CAPABILITIES, Unanswered, exchange, loopback
 
 NODES = 3
 CONNECTIONS = 1_000_000
-# how long a run may take to reach the call that it is cut at; a start until it serves
-RUN_SECONDS, START_SECONDS = 2.5, 20
+# how long a run may take to reach the call that it is cut at
+RUN_SECONDS = 2.5
 DEVICE_BYTES = 16 << 20
-CUT_AT = ("openat", "write", "fsync", "rename")
-NOT_A_NODES = "bad folder: not a node's folder: wfarm init makes one"
-OPENED = re.compile(r"opened node=0 published=([0-9]+)")
-STARTS = re.compile(rb"^starts ([0-9a-f]{8})$", re.MULTILINE)
 
 
 def tape_name(node):
     return f"node-{node}.tape"
-
-
-def contents(path):
-    return {file.name: file.read_bytes() for file in pathlib.Path(path).iterdir()}
-
-
-def put(path, files):
-    for file in pathlib.Path(path).iterdir():
-        file.unlink()
-    for name, content in files.items():
-        (pathlib.Path(path) / name).write_bytes(content)
-
-
-def is_unsynced(folder):
-    return folder.changes != [] or any(file.changes for file in folder.names.values())
-
-
-class Violations(collections.Counter):
-    """The violations of one part, and how often each was seen. The first of each are printed."""
-
-    def add(self, words):
-        if words not in self and len(self) < MOST_VIOLATIONS:
-            print("violation: " + words, flush=True)
-        self[words] += 1
-
-    def are_many(self):
-        return self.total() >= MOST_VIOLATIONS
 
 
 class Ledger(ledger.Ledger):
@@ -242,16 +213,6 @@ class Run:
         self.process.kill()
         self.process.stdout.close()
         return self.process.wait() == -signal.SIGKILL
-
-
-def new_folder(above):
-    """An empty folder that is there after a power cut."""
-    path = os.path.join(os.path.realpath(above), "state")
-    os.mkdir(path)
-    handle = os.open(above, os.O_RDONLY)
-    os.fsync(handle)
-    os.close(handle)
-    return path
 
 
 def tear(folder, draw):
@@ -553,115 +514,6 @@ def device(given, *more):
                   "mkfs.ext4")
             return 0
     return again_and_again(OnDevice, given, *more)
-
-
-# ---- cuts of `init`, `node` and `clear`
-
-class StartFollower(Follower):
-    """Follows a command that makes its folder, where that is there already."""
-
-    def refuse(self, call):
-        if call.name not in ("mkdir", "mkdirat") or call.result == 0:
-            super().refuse(call)
-
-
-class Single:
-    """A folder of a node of a farm of one, and the addresses of that node."""
-
-    def __init__(self, given, above):
-        self.given, self.path = given, new_folder(above)
-        self.trace = f"{self.path}.trace"
-        self.peers, self.http = map(loopback, free_ports(2))
-
-    def words(self, command):
-        more = {"init": ["--id", "0", "--nodes", "1", "--farm", "trial"], "clear": [],
-                "node": ["--peers", self.peers, "--http", self.http, "--log"]}
-        return [self.given.program, command, "--state", self.path, *more[command]]
-
-    def run(self, command, cut=None):
-        """Runs a command under strace up to its end, the cut or its service: the folder as it left it."""
-        folder = Folder(contents(self.path))
-        served(traced(self.words(command), self.trace, cut))
-        follower = StartFollower(self.path, folder, Watcher(), self.given.without)
-        counts = collections.Counter()
-        for call in calls(self.trace):
-            follower.follow(call)
-            counts[call.name] += 1
-        follower.end()
-        return folder, counts
-
-    def begin(self):
-        """What its folder has once some maps are published; how many."""
-        subprocess.run(self.words("init"), check=True, capture_output=True)
-        tape_of(self.given.program, pathlib.Path(self.path) / tape_name(0), 3)
-        served(self.words("node"))
-        used = contents(self.path)
-        return used, sum(kind == PUBLISHED for kind, _ in records(used[tape_name(0)])[0])
-
-
-def served(words):
-    """How much a node has published once it is served, when it is killed; else its last line."""
-    process = subprocess.Popen(words, stdout=subprocess.DEVNULL, stderr=subprocess.PIPE, text=True)
-    last, until = "", time.monotonic() + START_SECONDS
-    for line in process.stderr:
-        last = line.strip() or last
-        if found := OPENED.search(line):
-            last = int(found[1])
-        if found or time.monotonic() > until:
-            break
-    end(process)
-    process.stderr.close()
-    return last
-
-
-def starts_in(files):
-    found = STARTS.search(files.get("farm", b""))
-    return found and int(found[1], 16)
-
-
-def judge(command, before, files, said, published):
-    """What is wrong with what the node said on a folder that a cut left; None if nothing is."""
-    if command == "init":
-        right = said == 0 if "farm" in files else said == NOT_A_NODES
-        return None if right else f"a folder with {sorted(files)} is answered with: {said}"
-    if not isinstance(said, int):
-        return f"the node isn't served: {said}"
-    if said < published:
-        return f"{published} were published, and {said} are left"
-    counted = starts_in(files)
-    if command == "node" and counted not in (before, before + 1):
-        return f"{before} starts were counted, and then {counted}"
-    return None
-
-
-def cut_command(single, command, files, published, draw):
-    """Cuts a command at each of its calls, or some. How many violations."""
-    put(single.path, files)
-    _, counts = single.run(command)
-    done, violations, most = collections.Counter(), Violations(), single.given.cuts
-    cuts = [(kind, index) for kind in CUT_AT for index in range(1, counts[kind] + 1)]
-    for kind, index in cuts if len(cuts) <= most else draw.sample(cuts, most):
-        put(single.path, files)
-        folder, _ = single.run(command, (kind, index))
-        done["cuts"] += 1
-        done["unsynced"] += is_unsynced(folder)
-        for left in (*extremes(folder), drawn(folder, draw)):
-            put(single.path, left)
-            said = served(single.words("node"))
-            done["folders"] += 1
-            if why := judge(command, starts_in(files), left, said, published):
-                violations.add(f"{command}, cut at {kind} {index}: {why}")
-    print(f"starts, {command}: {done['cuts']} cuts, {done['unsynced']} of them with something unsynced, "
-          f"{done['folders']} folders started on; {violations.total()} violations", flush=True)
-    return violations.total()
-
-
-def starts(given, draw, _):
-    with tempfile.TemporaryDirectory(dir=given.folder) as above:
-        single = Single(given, above)
-        used, published = single.begin()
-        return sum(cut_command(single, command, files, published, draw)
-                   for command, files in (("init", {}), ("node", used), ("clear", used)))
 
 
 PARTS = {part.__name__: part for part in (order, kills, model, device, starts)}

@@ -70,7 +70,8 @@ def calls(trace: str | pathlib.Path, seconds: float = 10) -> Iterator[Call]:
             yield Call(found[2], found[3], None if found[4] == "?" else int(found[4]))
         elif found := UNFINISHED.fullmatch(line):
             yield Call(found[2], found[3], None)
-        elif "+++" not in line and "---" not in line:
+        elif "+++" not in line and "---" not in line and "???()" not in line:
+            # (a call that a process didn't begin any more has no name)
             raise Unfollowed(f"a line of the trace: {line[:200]}")
 
 

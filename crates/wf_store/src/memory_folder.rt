@@ -138,7 +138,7 @@ impl MemoryFolder {
         }
     }
 
-    /// The number of names in the folder, those of second files too.
+    /// The number of names in the folder, but for those of second files.
     pub(crate) fn count_names(&self) -> usize {
         let mut count = count_on(&self.farm)
             .saturating_add(count_on(&self.heard))
@@ -175,7 +175,7 @@ fn count_on(disk: &RefCell<MemoryDisk>) -> usize {
     match disk.try_borrow_mut() {
         Ok(mut disk) => {
             disk.set_fuse(0, 0);
-            is_there(&mut *disk, Name::Own) as usize + is_there(&mut *disk, Name::Second) as usize
+            is_there(&mut *disk, Name::Own) as usize
         }
         Err(_) => 0,
     }

@@ -44,7 +44,8 @@ pub trait Store {
         ensures err { OnErr result (calls self.new ≡ failed ∷ calls self.old) }
         ensures cause { IfErr result IsNoFolder };
 
-    /// The number of names in the folder. Err: `NoFolder` if it can't be opened, `Unlisted` if its
+    /// The number of names in the folder, but for those of second files (`farm.new`), which a
+    /// replacement leaves that was cut. Err: `NoFolder` if it can't be opened, `Unlisted` if the
     /// names can't be read.
     fn count_names(&mut self) -> Result<usize, FolderFault>
         ensures ok { IfOk result (λ count. calls self.new ≡ counted count ∷ calls self.old) }

@@ -10,6 +10,9 @@ use std::path::Path;
 use std::rt::Files;
 use std::{fs, io};
 
+/// What the name of a second file ends with.
+const SECOND_ENDING: &str = ".new";
+
 /// Where the system gives random bytes.
 const RANDOM_BYTES: &str = "/dev/urandom";
 
@@ -93,7 +96,7 @@ pub(crate) fn is_at<R: Files<File = File>>(
     }
 }
 
-/// The number of names in a folder.
+/// The number of names in a folder, but for those of second files.
 pub(crate) fn count_names<R: Files + AllocGlobal>(
     rt: &R,
     folder: &str,
@@ -107,12 +110,21 @@ pub(crate) fn count_names<R: Files + AllocGlobal>(
     let mut count = 0usize;
     for entry in entries {
         match entry {
-            Ok(entry) => drop(entry),
+            Ok(entry) => {
+                if !is_second(entry.file_name()) {
+                    count = count.saturating_add(1);
+                }
+                drop(entry);
+            }
             Err(error) => return Err(FolderFault::Unlisted(error.kind())),
         }
-        count = count.saturating_add(1);
     }
     Ok(count)
+}
+
+/// Whether that is the name of a second file.
+fn is_second(name: &str) -> bool {
+    name.ends_with(SECOND_ENDING)
 }
 
 /// Random bits of the system.
