@@ -28,8 +28,9 @@ use Rattle.wf_peer.specs.PeerProgressText.{peer_progress_text}
 use Rattle.wf_peer.specs.Told.{HearAll, IsHeardOf, IsHeardText}
 use Rattle.wf_peer.specs.declared.heard.Heard.{Heard}
 use Rattle.wf_loop.specs.Continuation.{AreHeardFrom, AreRunsFrom, AreRunsHeardFrom, Continues, ContinuesIn, IsNextRun, StaysInRun, HasOnlyServed, IsEarlier, IsHeardFrom, IsHeardKept, IsLater, IsNextHeard, KeepsEarlier, StaysSuspended, besides_asks, besides_chosen, is_ask, is_ask_first, is_chosen, is_chosen_first}
-use Rattle.wf_loop.specs.declared.gate.Gate.TheVariants as gates
 use Rattle.wf_loop.specs.declared.hub.Voter.{Voter}
+use Rattle.wf_mesh.specs.declared.gate.Gate.TheVariants as gates
+use Rattle.wf_mesh.specs.declared.membership.Membership.{Membership}
 
 -- ---- beginnings of lists
 
@@ -95,6 +96,11 @@ heard_later earlier later all (x ∷ xs) are = (from_later earlier later all x.0
 
 hear_still : (known : List (Option Heard)) → HearAll known known
 hear_still known = λ i m is. is
+
+-- ---- what a node goes by of replacements stays, so its folder still joins
+
+joins_on : (before after : Membership) → after ≡ before → before.joins ≡ true → after.joins ≡ true
+joins_on before after same is = ap (λ (m : Membership). m.joins) same ∙ is
 
 -- ---- one of two ways, as a test says, or as an order does
 
@@ -307,7 +313,7 @@ module _ {T : Type 0} (tapes : Tape T) where
   -- ---- a voter
 
   pub still : (voter : Voter T tapes) → Continues tapes voter voter
-  still voter = record { process = goes_still voter.process; suspended = λ is. record { gate = is; actor = refl }; outvoted = refl; asked = λ _. refl; joins = refl; learnt = λ _. refl; kept = λ heard is. is }
+  still voter = record { process = goes_still voter.process; suspended = λ is. record { gate = is; actor = refl }; outvoted = refl; asked = λ _. refl; membership = refl; learnt = λ _. refl; kept = λ heard is. is }
 
   pub twice : (one two three : Voter T tapes) → Continues tapes one two → Continues tapes two three → Continues tapes one three
   twice one two three first second = record {
@@ -315,8 +321,8 @@ module _ {T : Type 0} (tapes : Tape T) where
     suspended = λ is. let a = first.suspended is in let b = second.suspended a.gate in record { gate = b.gate; actor = b.actor ∙ a.actor };
     outvoted = second.outvoted ∙ first.outvoted;
     asked = λ is. second.asked (first.outvoted ∙ is) ∙ first.asked is;
-    joins = second.joins ∙ first.joins;
-    learnt = λ is. second.learnt (first.joins ∙ is) ∙ first.learnt is;
+    membership = second.membership ∙ first.membership;
+    learnt = λ is. second.learnt (joins_on one.membership two.membership first.membership is) ∙ first.learnt is;
     kept = λ heard is. second.kept heard (first.kept heard is);
   }
 
@@ -328,37 +334,37 @@ module _ {T : Type 0} (tapes : Tape T) where
 
   -- one that acts, or is at least neither suspended nor outvoted and doesn't join, goes on as its
   -- process does
-  pub awake : (before after : Voter T tapes) → ¬ (before.gate ≡ gates.Suspended) → before.is_outvoted ≡ false → before.joins ≡ false → after.is_outvoted ≡ before.is_outvoted → after.joins ≡ before.joins → after.kept ≡ before.kept
+  pub awake : (before after : Voter T tapes) → ¬ (before.gate ≡ gates.Suspended) → before.is_outvoted ≡ false → before.membership.joins ≡ false → after.is_outvoted ≡ before.is_outvoted → after.membership ≡ before.membership → after.kept ≡ before.kept
       → StaysInRun tapes before.process after.process → ((known : List (Option Heard)) → AreHeardFrom known before.process.actor.given.items → AreHeardFrom known after.process.actor.given.items)
       → Continues tapes before after
-  awake before after not agrees votes same joins kept goes grows = record {
+  awake before after not agrees votes same member kept goes grows = record {
     process = goes;
     suspended = λ is. absurd (not is);
     outvoted = same;
     asked = λ is. absurd (let no = agrees in cc);
-    joins = joins;
+    membership = member;
     learnt = λ is. absurd (let no = votes in cc);
     kept = kept_by before after kept goes.ended grows;
   }
 
-  pub acting : (before after : Voter T tapes) → before.gate ≡ gates.Open → before.is_outvoted ≡ false → before.joins ≡ false → after.is_outvoted ≡ before.is_outvoted → after.joins ≡ before.joins → after.kept ≡ before.kept
+  pub acting : (before after : Voter T tapes) → before.gate ≡ gates.Open → before.is_outvoted ≡ false → before.membership.joins ≡ false → after.is_outvoted ≡ before.is_outvoted → after.membership ≡ before.membership → after.kept ≡ before.kept
       → StaysInRun tapes before.process after.process → ((known : List (Option Heard)) → AreHeardFrom known before.process.actor.given.items → AreHeardFrom known after.process.actor.given.items)
       → Continues tapes before after
-  acting before after acts agrees votes same joins kept goes grows = awake before after (λ is. let is_open = acts in cc) agrees votes same joins kept goes grows
+  acting before after acts agrees votes same member kept goes grows = awake before after (λ is. let is_open = acts in cc) agrees votes same member kept goes grows
 
   pub same_given : (before after : Process T tapes) → after.actor.given.items ≡ before.actor.given.items
       → (known : List (Option Heard)) → AreHeardFrom known before.actor.given.items → AreHeardFrom known after.actor.given.items
   same_given before after same known are = heard_by known _ _ same are
 
   -- one that asks: it isn't suspended, and is given nothing
-  pub asking : (before after : Voter T tapes) → before.gate ≡ gates.Open → after.is_outvoted ≡ before.is_outvoted → after.joins ≡ before.joins → after.kept ≡ before.kept → StaysInRun tapes before.process after.process
+  pub asking : (before after : Voter T tapes) → before.gate ≡ gates.Open → after.is_outvoted ≡ before.is_outvoted → after.membership ≡ before.membership → after.kept ≡ before.kept → StaysInRun tapes before.process after.process
       → after.process.actor.given.items ≡ before.process.actor.given.items → Continues tapes before after
-  asking before after is_open same joins kept goes given = record {
+  asking before after is_open same member kept goes given = record {
     process = goes;
     suspended = λ is. absurd (let at_open = is_open in cc);
     outvoted = same;
     asked = λ _. besides_same _ _ given;
-    joins = joins;
+    membership = member;
     learnt = λ _. learnt_same _ _ given;
     kept = kept_given before after kept goes.ended given;
   }
@@ -378,90 +384,90 @@ module _ {T : Type 0} (tapes : Tape T) where
 
   -- one that takes in a message: it isn't suspended; the message asks for what is published if the
   -- node is outvoted, and says what is if it joins
-  pub taking : {U : Type 0} (before after : Voter T tapes) (peer : ℕ) (result : Option (Result U NodeFault)) → before.gate ≡ gates.Open → after.is_outvoted ≡ before.is_outvoted → after.joins ≡ before.joins → after.kept ≡ before.kept
-      → (before.is_outvoted ≡ true → is_ask_first (arrived_at before.process peer) ≡ true) → (before.joins ≡ true → is_chosen_first (arrived_at before.process peer) ≡ true)
+  pub taking : {U : Type 0} (before after : Voter T tapes) (peer : ℕ) (result : Option (Result U NodeFault)) → before.gate ≡ gates.Open → after.is_outvoted ≡ before.is_outvoted → after.membership ≡ before.membership → after.kept ≡ before.kept
+      → (before.is_outvoted ≡ true → is_ask_first (arrived_at before.process peer) ≡ true) → (before.membership.joins ≡ true → is_chosen_first (arrived_at before.process peer) ≡ true)
       → IsNextHeard before.kept peer (arrived_at before.process peer)
       → ReceivesFrom tapes peer before.process result after.process → Continues tapes before after
-  taking before after peer result is_open same joins kept asks says next receives = record {
+  taking before after peer result is_open same member kept asks says next receives = record {
     process = received_from peer before.process result after.process receives;
     suspended = λ is. absurd (let at_open = is_open in cc);
     outvoted = same;
     asked = λ is. next_asked peer before.process result after.process (asks is) receives;
-    joins = joins;
+    membership = member;
     learnt = λ is. next_chosen peer before.process result after.process (says is) receives;
     kept = kept_taking before after peer result kept next receives;
   }
 
   -- the gate alone
-  pub gated : (before after : Voter T tapes) → (before.gate ≡ gates.Suspended → after.gate ≡ gates.Suspended) → after.is_outvoted ≡ before.is_outvoted → after.joins ≡ before.joins → after.kept ≡ before.kept
+  pub gated : (before after : Voter T tapes) → (before.gate ≡ gates.Suspended → after.gate ≡ gates.Suspended) → after.is_outvoted ≡ before.is_outvoted → after.membership ≡ before.membership → after.kept ≡ before.kept
       → after.process ≡ before.process → Continues tapes before after
-  gated before after stays same joins kept is = record {
+  gated before after stays same member kept is = record {
     process = unchanged before.process after.process is;
     suspended = λ suspended. record { gate = stays suspended; actor = ap (λ (p : Process T tapes). p.actor) is };
     outvoted = same;
     asked = λ _. ap (λ (p : Process T tapes). besides_asks p.actor.given.items) is;
-    joins = joins;
+    membership = member;
     learnt = λ _. ap (λ (p : Process T tapes). besides_chosen p.actor.given.items) is;
     kept = kept_as before after kept is;
   }
 
   -- an end of a connection
-  same_node : (before after : Voter T tapes) → after.gate ≡ before.gate → after.is_outvoted ≡ before.is_outvoted → after.joins ≡ before.joins → after.kept ≡ before.kept → IsSameActor before.process after.process
+  same_node : (before after : Voter T tapes) → after.gate ≡ before.gate → after.is_outvoted ≡ before.is_outvoted → after.membership ≡ before.membership → after.kept ≡ before.kept → IsSameActor before.process after.process
       → Continues tapes before after
-  same_node before after gate same joins kept is = record {
+  same_node before after gate same member kept is = record {
     process = same_actor before.process after.process is;
     suspended = λ suspended. record { gate = gate ∙ suspended; actor = is.actor };
     outvoted = same;
     asked = λ _. ap (λ (a : Actor T tapes). besides_asks a.given.items) is.actor;
-    joins = joins;
+    membership = member;
     learnt = λ _. ap (λ (a : Actor T tapes). besides_chosen a.given.items) is.actor;
     kept = kept_given before after kept is.ended (ap (λ (a : Actor T tapes). a.given.items) is.actor);
   }
 
-  same_process : (before after : Voter T tapes) → after.gate ≡ before.gate → after.is_outvoted ≡ before.is_outvoted → after.joins ≡ before.joins → after.kept ≡ before.kept → after.process ≡ before.process → Continues tapes before after
-  same_process before after gate same joins kept is = gated before after (λ suspended. gate ∙ suspended) same joins kept is
+  same_process : (before after : Voter T tapes) → after.gate ≡ before.gate → after.is_outvoted ≡ before.is_outvoted → after.membership ≡ before.membership → after.kept ≡ before.kept → after.process ≡ before.process → Continues tapes before after
+  same_process before after gate same member kept is = gated before after (λ suspended. gate ∙ suspended) same member kept is
 
-  pub relinked : (peer : ℕ) (change : Link → Link → Type 0) (before after : Voter T tapes) → after.gate ≡ before.gate → after.is_outvoted ≡ before.is_outvoted → after.joins ≡ before.joins → after.kept ≡ before.kept
+  pub relinked : (peer : ℕ) (change : Link → Link → Type 0) (before after : Voter T tapes) → after.gate ≡ before.gate → after.is_outvoted ≡ before.is_outvoted → after.membership ≡ before.membership → after.kept ≡ before.kept
       → (peer < length before.process.links.items → IsLinkChanged peer change before.process after.process) → (length before.process.links.items ≤ peer → after.process ≡ before.process) → Continues tapes before after
-  relinked peer change before after gate same joins kept linked no_links =
-      by_order peer (length before.process.links.items) (λ below. same_node before after gate same joins kept (linked below).rest)
-      (λ above. same_process before after gate same joins kept (no_links above))
+  relinked peer change before after gate same member kept linked no_links =
+      by_order peer (length before.process.links.items) (λ below. same_node before after gate same member kept (linked below).rest)
+      (λ above. same_process before after gate same member kept (no_links above))
 
-  pub written : {A B : Type 0} (peer : ℕ) (change : Link → Link → Type 0) (before after : Voter T tapes) → after.gate ≡ before.gate → after.is_outvoted ≡ before.is_outvoted → after.joins ≡ before.joins → after.kept ≡ before.kept
+  pub written : {A B : Type 0} (peer : ℕ) (change : Link → Link → Type 0) (before after : Voter T tapes) → after.gate ≡ before.gate → after.is_outvoted ≡ before.is_outvoted → after.membership ≡ before.membership → after.kept ≡ before.kept
       → (peer < length before.process.links.items → IsLinkChanged peer change before.process after.process) → (length before.process.links.items ≤ peer → A × (after.process ≡ before.process) × B)
       → Continues tapes before after
-  written peer change before after gate same joins kept linked no_links = relinked peer change before after gate same joins kept linked (λ above. (no_links above).1)
+  written peer change before after gate same member kept linked no_links = relinked peer change before after gate same member kept linked (λ above. (no_links above).1)
 
   pub received : {A : Type 0} (peer : ℕ) (piece : List ℕ) (before : Voter T tapes) (result : Result ℕ DecodeFault) (after : Voter T tapes) → after.gate ≡ before.gate
-      → after.is_outvoted ≡ before.is_outvoted → after.joins ≡ before.joins → after.kept ≡ before.kept
+      → after.is_outvoted ≡ before.is_outvoted → after.membership ≡ before.membership → after.kept ≡ before.kept
       → (is_peer before.process peer ≡ true → IsReception peer piece before.process result after.process) → (is_peer before.process peer ≡ false → A × (after.process ≡ before.process))
       → Continues tapes before after
-  received peer piece before result after gate same joins kept from other =
+  received peer piece before result after gate same member kept from other =
       by_test (is_peer before.process peer)
       (λ is. let took = from is in record {
         process = record { actor = later_same before.process.actor after.process.actor took.actor; among = took.among; ended = took.ended };
         suspended = λ suspended. record { gate = gate ∙ suspended; actor = took.actor };
         outvoted = same;
         asked = λ _. ap (λ (a : Actor T tapes). besides_asks a.given.items) took.actor;
-        joins = joins;
+        membership = member;
         learnt = λ _. ap (λ (a : Actor T tapes). besides_chosen a.given.items) took.actor;
         kept = kept_given before after kept took.ended (ap (λ (a : Actor T tapes). a.given.items) took.actor);
       })
-      (λ is. same_process before after gate same joins kept (other is).1)
+      (λ is. same_process before after gate same member kept (other is).1)
 
   -- a client's request, which was answered, or wasn't
   pub answered : (before : Process T tapes) (came response : List ℕ) (outcome : Outcome) (after : Process T tapes) → IsAnswer tapes before came response outcome after → StaysInRun tapes before after
   answered before came response outcome after is = going_on before after _ is.goes_on is.emitted (whole _ _ is.given)
 
-  pub responded : (before : Voter T tapes) (came response : List ℕ) (after : Voter T tapes) → ¬ (before.gate ≡ gates.Suspended) → before.is_outvoted ≡ false → before.joins ≡ false
+  pub responded : (before : Voter T tapes) (came response : List ℕ) (after : Voter T tapes) → ¬ (before.gate ≡ gates.Suspended) → before.is_outvoted ≡ false → before.membership.joins ≡ false
       → HasResponded tapes before came response after → Continues tapes before after
   responded before came response after not agrees votes is =
-      awake before after not agrees votes is.outvoted is.joins is.kept (answered before.process came response is.answers.outcome after.process is.answers.answer)
+      awake before after not agrees votes is.outvoted is.membership is.kept (answered before.process came response is.answers.outcome after.process is.answers.answer)
       (same_given before.process after.process is.answers.answer.given)
 
-  pub stayed : (before after : Voter T tapes) → ¬ (before.gate ≡ gates.Suspended) → before.is_outvoted ≡ false → before.joins ≡ false → (after ≡ before) ⊎ HasOnlyServed tapes before after → Continues tapes before after
+  pub stayed : (before after : Voter T tapes) → ¬ (before.gate ≡ gates.Suspended) → before.is_outvoted ≡ false → before.membership.joins ≡ false → (after ≡ before) ⊎ HasOnlyServed tapes before after → Continues tapes before after
   stayed before after not agrees votes (inl same) = same_voter before after same
-  stayed before after not agrees votes (inr is) = awake before after not agrees votes is.outvoted is.joins is.kept is.process (same_given before.process after.process is.given)
+  stayed before after not agrees votes (inr is) = awake before after not agrees votes is.outvoted is.membership is.kept is.process (same_given before.process after.process is.given)
 
   -- ---- while its folder is written to
 
@@ -471,7 +477,7 @@ module _ {T : Type 0} (tapes : Tape T) where
     suspended = on.suspended;
     outvoted = on.outvoted;
     asked = on.asked;
-    joins = on.joins;
+    membership = on.membership;
     learnt = on.learnt;
     starts = refl;
     begun = refl;
@@ -487,8 +493,8 @@ module _ {T : Type 0} (tapes : Tape T) where
     suspended = λ is. let a = first.suspended is in let b = second.suspended a.gate in record { gate = b.gate; actor = b.actor ∙ a.actor };
     outvoted = second.outvoted ∙ first.outvoted;
     asked = λ is. second.asked (first.outvoted ∙ is) ∙ first.asked is;
-    joins = second.joins ∙ first.joins;
-    learnt = λ is. second.learnt (first.joins ∙ is) ∙ first.learnt is;
+    membership = second.membership ∙ first.membership;
+    learnt = λ is. second.learnt (joins_on one.membership two.membership first.membership is) ∙ first.learnt is;
     starts = second.starts ∙ first.starts;
     begun = second.begun ∙ first.begun;
     kept = λ is. second.kept (first.kept is);
@@ -516,7 +522,7 @@ module _ {T : Type 0} (tapes : Tape T) where
         suspended = λ is. record { gate = gate ∙ is; actor = ap (λ (p : Process T tapes). p.actor) same };
         outvoted = ap (λ (v : Voter T tapes). v.is_outvoted) now;
         asked = λ _. ap (λ (p : Process T tapes). besides_asks p.actor.given.items) same;
-        joins = ap (λ (v : Voter T tapes). v.joins) now;
+        membership = ap (λ (v : Voter T tapes). v.membership) now;
         learnt = λ _. ap (λ (p : Process T tapes). besides_chosen p.actor.given.items) same;
         starts = ap (λ (s : Stand). s.starts) put;
         begun = ap (λ (s : Stand). s.begun) put;
@@ -531,7 +537,7 @@ module _ {T : Type 0} (tapes : Tape T) where
     suspended = λ is. record { gate = is; actor = refl };
     outvoted = refl;
     asked = λ _. refl;
-    joins = refl;
+    membership = refl;
     learnt = λ _. refl;
     starts = elim put [ inl same ↦ ap (λ (s : Stand). s.starts) same | inr is ↦ ap (λ (s : Stand). s.starts) is ];
     begun = elim put [ inl same ↦ ap (λ (s : Stand). s.begun) same | inr is ↦ ap (λ (s : Stand). s.begun) is ];
@@ -564,22 +570,19 @@ module _ {T : Type 0} (tapes : Tape T) where
       ap (λ (v : Voter T tapes). besides_asks v.process.actor.given.items) keeps
       ∙ (does.asked (outvoted_at s t two three four does keeps is) ∙ ap (λ (p : Process T tapes). besides_asks p.actor.given.items) decides)
 
-  joins_at : (s t : Stand) (two three four : Voter T tapes) → ContinuesIn tapes s two t three → four ≡ three → four.joins ≡ two.joins
-  joins_at s t two three four does keeps = ap (λ (v : Voter T tapes). v.joins) keeps ∙ does.joins
+  pub turned_membership : (s t : Stand) (one two three four : Voter T tapes) → two.membership ≡ one.membership → ContinuesIn tapes s two t three → four ≡ three → four.membership ≡ one.membership
+  turned_membership s t one two three four decides does keeps = ap (λ (v : Voter T tapes). v.membership) keeps ∙ does.membership ∙ decides
 
-  pub turned_joins : (s t : Stand) (one two three four : Voter T tapes) → two.joins ≡ one.joins → ContinuesIn tapes s two t three → four ≡ three → four.joins ≡ one.joins
-  turned_joins s t one two three four decides does keeps = joins_at s t two three four does keeps ∙ decides
-
-  pub turned_learnt : (s t : Stand) (one two three four : Voter T tapes) → two.process ≡ one.process → two.joins ≡ one.joins → ContinuesIn tapes s two t three → four ≡ three → one.joins ≡ true
+  pub turned_learnt : (s t : Stand) (one two three four : Voter T tapes) → two.process ≡ one.process → two.membership ≡ one.membership → ContinuesIn tapes s two t three → four ≡ three → one.membership.joins ≡ true
       → besides_chosen four.process.actor.given.items ≡ besides_chosen one.process.actor.given.items
   turned_learnt s t one two three four decides stays does keeps is =
       ap (λ (v : Voter T tapes). besides_chosen v.process.actor.given.items) keeps
-      ∙ (does.learnt (stays ∙ is) ∙ ap (λ (p : Process T tapes). besides_chosen p.actor.given.items) decides)
+      ∙ (does.learnt (joins_on one.membership two.membership stays is) ∙ ap (λ (p : Process T tapes). besides_chosen p.actor.given.items) decides)
 
   -- of these clients, first to last, none was answered by one that joins
-  pub turned_learning : (before joins : Bool) (first second third fourth : List (Voter T tapes × ℕ)) → second ≡ first → joins ≡ before → (joins ≡ true → third ≡ second)
-      → fourth ≡ third → before ≡ true → fourth ≡ first
-  turned_learning before joins first second third fourth decides stays does keeps is = keeps ∙ (does (stays ∙ is) ∙ decides)
+  pub turned_learning : (before now : Membership) (first second third fourth : List (Voter T tapes × ℕ)) → second ≡ first → now ≡ before → (now.joins ≡ true → third ≡ second)
+      → fourth ≡ third → before.joins ≡ true → fourth ≡ first
+  turned_learning before now first second third fourth decides stays does keeps is = keeps ∙ (does (joins_on before now stays is) ∙ decides)
 
   -- of these clients, first to last, as many were answered
   pub turned_unanswered : (s t : Stand) (two three four : Voter T tapes) (first second third fourth : List (Voter T tapes × ℕ))

@@ -38,11 +38,12 @@ module _ {T : Type 0} (tapes : Tape T) where
     pub outcome : Outcome
     pub answer : IsAnswer before came response outcome after
 
-  -- It responds so; whether it is outvoted or joins, and what the file `heard` has, stay.
+  -- It responds so; whether it is outvoted, what it goes by of replacements, and what the file
+  -- `heard` has, stay.
   pub record HasResponded (before : Voter T tapes) (came response : List ℕ) (after : Voter T tapes) : Type 0 where
     pub answers : IsResponse before.process came response after.process
     pub outvoted : after.is_outvoted ≡ before.is_outvoted
-    pub joins : after.joins ≡ before.joins
+    pub membership : after.membership ≡ before.membership
     pub kept : after.kept ≡ before.kept
 
   -- In order, each client that was answered: the process before it and after it, and the client

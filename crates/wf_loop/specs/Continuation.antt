@@ -7,11 +7,11 @@ use Rattle.wf_actor.specs.declared.actor.Origin.TheVariants as origins
 use Rattle.wf_actor.specs.declared.process.Process.{Process}
 use Rattle.wf_codec.specs.declared.message.Message.{Message}
 use Rattle.wf_codec.specs.declared.message.Message.TheVariants as messages
-use Rattle.wf_loop.specs.declared.gate.Gate.TheVariants as gates
 use Rattle.wf_loop.specs.declared.hub.Voter.{Voter}
 use Rattle.wf_codec.specs.Message.{view}
 use Rattle.wf_loop.specs.Folder.{Stand}
 use Rattle.wf_mail.specs.Mail.{IsBeginning}
+use Rattle.wf_mesh.specs.declared.gate.Gate.TheVariants as gates
 use Rattle.wf_node.specs.Reopening.{HasStoredAs}
 use Rattle.wf_peer.specs.Told.{HearAll, IsHeardOf, IsHeardText}
 use Rattle.wf_peer.specs.declared.heard.Heard.{Heard}
@@ -101,16 +101,16 @@ pub record IsHeardKept {T : Type 0} {tapes : Tape T} (heard : Option (List ℕ))
 -- ---- a turn and its parts
 
 -- The process goes on in its run. Nothing of a suspended node changes. Whether it is outvoted
--- stays, and one that is was given no message but those that ask for what is published. Whether it
--- joins stays, and one that does was given no message but those that say what is published.
--- Whatever the file `heard` has, it is enough if it was before.
+-- stays, and one that is was given no message but those that ask for what is published. What it
+-- goes by of replacements stays, and one whose folder joins was given no message but those that say
+-- what is published. Whatever the file `heard` has, it is enough if it was before.
 pub record Continues {T : Type 0} (tapes : Tape T) (before after : Voter T tapes) : Type 0 where
   pub process : StaysInRun tapes before.process after.process
   pub suspended : before.gate ≡ gates.Suspended → StaysSuspended before after
   pub outvoted : after.is_outvoted ≡ before.is_outvoted
   pub asked : before.is_outvoted ≡ true → besides_asks after.process.actor.given.items ≡ besides_asks before.process.actor.given.items
-  pub joins : after.joins ≡ before.joins
-  pub learnt : before.joins ≡ true → besides_chosen after.process.actor.given.items ≡ besides_chosen before.process.actor.given.items
+  pub membership : after.membership ≡ before.membership
+  pub learnt : before.membership.joins ≡ true → besides_chosen after.process.actor.given.items ≡ besides_chosen before.process.actor.given.items
   pub kept : (heard : Option (List ℕ)) → IsHeardKept heard before → IsHeardKept heard after
 
 -- It goes on so, while its folder is written to: the starts that it counts stay, and what the file
@@ -120,18 +120,18 @@ pub record ContinuesIn {T : Type 0} (tapes : Tape T) (stood : Stand) (before : V
   pub suspended : before.gate ≡ gates.Suspended → StaysSuspended before after
   pub outvoted : after.is_outvoted ≡ before.is_outvoted
   pub asked : before.is_outvoted ≡ true → besides_asks after.process.actor.given.items ≡ besides_asks before.process.actor.given.items
-  pub joins : after.joins ≡ before.joins
-  pub learnt : before.joins ≡ true → besides_chosen after.process.actor.given.items ≡ besides_chosen before.process.actor.given.items
+  pub membership : after.membership ≡ before.membership
+  pub learnt : before.membership.joins ≡ true → besides_chosen after.process.actor.given.items ≡ besides_chosen before.process.actor.given.items
   pub starts : stands.starts ≡ stood.starts
   pub begun : stands.begun ≡ stood.begun
   pub kept : IsHeardKept stood.heard before → IsHeardKept stands.heard after
 
--- The process goes on in its run, and is given nothing; whether it is outvoted or joins, and what
--- the file `heard` has, stay.
+-- The process goes on in its run, and is given nothing; whether it is outvoted, what it goes by of
+-- replacements, and what the file `heard` has, stay.
 pub record HasOnlyServed {T : Type 0} (tapes : Tape T) (before after : Voter T tapes) : Type 0 where
   pub process : StaysInRun tapes before.process after.process
   pub outvoted : after.is_outvoted ≡ before.is_outvoted
-  pub joins : after.joins ≡ before.joins
+  pub membership : after.membership ≡ before.membership
   pub given : after.process.actor.given.items ≡ before.process.actor.given.items
   pub kept : after.kept ≡ before.kept
 

@@ -1,20 +1,21 @@
 -- The process of a hub, and the clients that it answered.
-use Rattle.std.specs.Prelude.{◌≡◌, ◌≤◌, ℕ, true, List, [], Option, Some, None}
+use Rattle.std.specs.Prelude.{◌≡◌, ℕ, true, List, [], Option}
 use Rattle.std.specs.declared.net.socket_addr.SocketAddr.{SocketAddr}
 use Rattle.wf_actor.specs.declared.process.Process.{Process}
 use Rattle.wf_digest.specs.Digest.{AreDigestsOf}
 use Rattle.wf_loop.specs.Answer.{AreAnswered}
 use Rattle.wf_loop.specs.Continuation.{IsHeardKept, besides_asks, besides_chosen}
-use Rattle.wf_loop.specs.declared.gate.Gate.TheVariants as gates
 use Rattle.wf_loop.specs.declared.hub.Hub.{Hub}
 use Rattle.wf_loop.specs.Reach.{IsReachOf}
+use Rattle.wf_mesh.specs.Alarms.{IsDue}
+use Rattle.wf_mesh.specs.declared.gate.Gate.TheVariants as gates
+use Rattle.wf_mesh.specs.declared.membership.Membership.{Membership}
 use Rattle.wf_node.specs.Node.{Node}
 use Rattle.wf_peer.specs.Progress.{reach_of}
 use Rattle.wf_peer.specs.declared.heard.Heard.{Heard}
 use Rattle.wf_peer.specs.declared.progress.Progress.{Progress}
 use Rattle.wf_sockets.specs.declared.connection.Connection.{Ghosts as Connection}
 use Rattle.wf_tape.specs.declared.tape.Tape.{Ghosts as Tape}
-use Rattle.wf_timing.specs.declared.alarm.Alarm.{Alarm}
 use Rattle.wf_visitors.specs.Visitors.{responses_of}
 
 -- the process
@@ -55,9 +56,13 @@ pub record OnlyAnswersAsks {T N C L : Type 0} {tapes : Tape T} {connections : Co
   pub given : besides_asks after.voter.process.actor.given.items ≡ besides_asks before.voter.process.actor.given.items
   pub answered : after.clients.before.items ≡ before.clients.before.items
 
+-- what it goes by of replacements
+abbrev pub membership_of : {T N C L : Type 0} {tapes : Tape T} {connections : Connection C} → Hub T N C L tapes connections → Membership
+membership_of hub = hub.voter.membership
+
 -- its folder joins in the place of a lost one
 abbrev pub IsJoiner : {T N C L : Type 0} {tapes : Tape T} {connections : Connection C} → Hub T N C L tapes connections → Type 0
-IsJoiner hub = hub.voter.joins ≡ true
+IsJoiner hub = hub.voter.membership.joins ≡ true
 
 -- It still joins; the node was given no message but those that say what is published, and no client
 -- was answered.
@@ -86,11 +91,6 @@ pub record IsGreetedWith {T : Type 0} (start : Progress) (node : Node T) (said :
 pub record GreetsAsNow {T N C L : Type 0} {tapes : Tape T} {connections : Connection C} (count : ℕ) (hub : Hub T N C L tapes connections) : Type 0 where
   pub starts : hub.parts.mesh.plan.start.starts ≡ count
   pub digests : AreDigestsOf [] hub.parts.mesh.notes.digests
-
--- an alarm was set, and is due
-abbrev pub IsDue : Option Alarm → ℕ → Type 0
-IsDue None time = ⊥
-IsDue (Some alarm) time = alarm.due ≤ time
 
 -- the node is halted, and it is time to open its tape again
 abbrev pub IsReopeningDue : {T N C L : Type 0} {tapes : Tape T} {connections : Connection C} → Hub T N C L tapes connections → Type 0

@@ -4,4 +4,3 @@ pub mod Folder
 pub mod Hub
 pub mod Lived
 pub mod Reach
-pub mod StartErrors

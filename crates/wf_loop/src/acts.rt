@@ -4,7 +4,6 @@ ghost use Rattle.std.specs.Prelude.{◌≡◌, ◌++◌, ◌∷◌, [], ℕ, Lis
 ghost use Rattle.wf_actor.specs.Process.{arrived_at};
 ghost use Rattle.wf_loop.specs.Continuation.{Continues, IsNextRun, IsHeardKept, IsNextHeard, KeepsEarlier, is_ask, is_ask_first, is_chosen, is_chosen_first};
 
-use crate::gate::Gate;
 use crate::hub::Voter;
 use std::alloc::Global;
 use std::io;
@@ -12,6 +11,7 @@ use std::mem::replace;
 use wf_actor::Process;
 use wf_ballot::NodeId;
 use wf_codec::Message;
+use wf_mesh::Gate;
 use wf_stream::Sink;
 use wf_tape::Tape;
 
@@ -20,9 +20,9 @@ impl<T: Tape> Voter<T> {
     pub(crate) fn acts(&self) -> bool
         ensures gate { IsTrue result → self.now.gate ≡ Gate.Open }
         ensures agrees { IsTrue result → self.now.is_outvoted ≡ false }
-        ensures votes { IsTrue result → self.now.joins ≡ false }
+        ensures votes { IsTrue result → self.now.membership.joins ≡ false }
     {
-        self.learns() && !self.joins
+        self.learns() && !self.membership.joins
     }
 
     /// Whether it asks its peers for definitions, by which they learn that it is there: also where
@@ -40,10 +40,10 @@ impl<T: Tape> Voter<T> {
         ensures gate { IsTrue result → self.now.gate ≡ Gate.Open }
         ensures asks { IsTrue result → self.now.is_outvoted ≡ true →
             is_ask_first (arrived_at self.now.process peer) ≡ true }
-        ensures says { IsTrue result → self.now.joins ≡ true →
+        ensures says { IsTrue result → self.now.membership.joins ≡ true →
             is_chosen_first (arrived_at self.now.process peer) ≡ true }
     {
-        if self.joins {
+        if self.membership.joins {
             self.learns() && is_chosen_next(&self.process, peer)
         } else if self.is_outvoted {
             self.asks() && is_asked_next(&self.process, peer)
@@ -65,9 +65,11 @@ impl<T: Tape> Voter<T> {
     pub(crate) fn answers(&self) -> bool
         ensures awake { IsTrue result → ¬ (self.now.gate ≡ Gate.Suspended) }
         ensures agrees { IsTrue result → self.now.is_outvoted ≡ false }
-        ensures votes { IsTrue result → self.now.joins ≡ false }
+        ensures votes { IsTrue result → self.now.membership.joins ≡ false }
     {
-        matches!(self.gate, Gate::Open | Gate::Unwritten) && !self.is_outvoted && !self.joins
+        matches!(self.gate, Gate::Open | Gate::Unwritten)
+            && !self.is_outvoted
+            && !self.membership.joins
     }
 
     /// Whether it has connections with its peers.
@@ -79,7 +81,7 @@ impl<T: Tape> Voter<T> {
     pub(crate) fn judge(&mut self, gate: Gate, is_outvoted: bool)
         ensures process { self.new.process ≡ self.old.process }
         ensures outvoted { self.new.is_outvoted ≡ is_outvoted }
-        ensures joins { self.new.joins ≡ self.old.joins }
+        ensures membership { self.new.membership ≡ self.old.membership }
         ensures kept { self.new.kept ≡ self.old.kept }
         ensures suspended { self.old.gate ≡ Gate.Suspended → self.new.gate ≡ Gate.Suspended }
     {
@@ -92,7 +94,7 @@ impl<T: Tape> Voter<T> {
         ensures on { Continues T.Tape self.old self.new }
         ensures process { self.new.process ≡ self.old.process }
         ensures outvoted { self.new.is_outvoted ≡ self.old.is_outvoted }
-        ensures joins { self.new.joins ≡ self.old.joins }
+        ensures membership { self.new.membership ≡ self.old.membership }
         ensures kept { self.new.kept ≡ self.old.kept }
         ensures stays { self.old.gate ≡ Gate.Suspended → self.new.gate ≡ Gate.Suspended }
         ensures suspended { gate ≡ Gate.Suspended → self.new.gate ≡ Gate.Suspended }
@@ -241,7 +243,7 @@ pub(crate) fn begin_run<T: Tape + Drop>(voter: &mut Voter<T>, next: Process<T>)
     ensures earlier { voter.old.process.actor.node.halted ≡ true →
         KeepsEarlier T.Tape voter.old.process voter.new.process }
     ensures suspended { voter.old.gate ≡ Gate.Suspended → voter.new.gate ≡ Gate.Suspended }
-    ensures joins { voter.new.joins ≡ voter.old.joins }
+    ensures membership { voter.new.membership ≡ voter.old.membership }
 {
     voter.gate = gate_of_start(voter.gate);
     drop(replace(&mut voter.process, next));

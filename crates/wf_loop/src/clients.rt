@@ -5,9 +5,9 @@ ghost use Rattle.wf_loop.specs.Answer.{AreAnswered};
 ghost use Rattle.wf_loop.specs.Continuation.{Continues};
 ghost use Rattle.wf_visitors.specs.Visitors.{responses_of};
 
-use crate::gate::Gate;
 use crate::hub::Voter;
 use std::time::Clock;
+use wf_mesh::Gate;
 use wf_past::Past;
 use wf_sockets::Network;
 use wf_tape::Tape;
@@ -95,7 +95,7 @@ impl<T: Tape + Drop, N: Network> Clients<T, N> {
         ensures on { Continues T.Tape voter.old voter.new }
         ensures outvoted { voter.old.is_outvoted ≡ true →
             self.new.before.items ≡ self.old.before.items }
-        ensures joins { voter.old.joins ≡ true →
+        ensures joins { voter.old.membership.joins ≡ true →
             self.new.before.items ≡ self.old.before.items }
     {
         if !voter.answers() {
@@ -118,7 +118,7 @@ impl<T: Tape + Drop, N: Network> Clients<T, N> {
     )
         requires awake { ¬ (voter.old.gate ≡ Gate.Suspended) }
         requires agrees { voter.old.is_outvoted ≡ false }
-        requires votes { voter.old.joins ≡ false }
+        requires votes { voter.old.membership.joins ≡ false }
         ensures { Continues T.Tape voter.old voter.new }
     {
         let before = self.before.and(&*voter, &0);

@@ -1,27 +1,23 @@
 use crate::clients::Clients;
-use crate::gate::Gate;
-use crate::pace::Pace;
-use crate::parts::HubParts;
-use crate::tally::Tally;
 use std::net::SocketAddr;
 use wf_actor::Process;
+use wf_mesh::{Gate, HubParts, Membership, Pace, Tally};
 use wf_operator::{Behind, PictureCounts};
 use wf_peer::PeerProgress;
 use wf_sockets::{Network, SystemNetwork};
 use wf_tape::Tape;
 
-/// A process that answers clients, whether it acts, whether a majority has another history, whether
-/// its folder joins, what the folder has of what was heard, how many maps it rejected, and which
-/// pictures it answered with.
+/// A process that answers clients, whether it acts, whether a majority has another history, what it
+/// goes by of replacements, what its folder has of what was heard, how many maps it rejected, and
+/// which pictures it answered with.
 #[derive(Drop)]
 pub struct Voter<T: Tape> {
     pub(crate) process: Process<T>,
     pub(crate) gate: Gate,
     // whether a peer's history differs, and those that agree with this node are no majority
     pub(crate) is_outvoted: bool,
-    // whether its folder joins in the place of a lost one: it learns what is published, and does
-    // nothing else
-    pub(crate) joins: bool,
+    // what its folder said of replacements when the process started: it stays
+    pub(crate) membership: Membership,
     // what the file `heard` has: a message of a peer counts once its round and promise are there
     pub(crate) kept: PeerProgress,
     pub(crate) rejected: Tally,

@@ -8,60 +8,10 @@ use thiserror::Error;
 use wf_actor::{Process, ReopenFault};
 use wf_digest::Digests;
 use wf_folder::{Reach, Suspension};
-use wf_store::{FileName, FolderFault};
+use wf_mesh::FolderError;
+use wf_store::FileName;
 use wf_tape::Tape;
 use wf_visitors::{Level, LogEntry};
-
-/// Why a file of the node's folder isn't read or written.
-#[derive(Clone, Copy, Debug)]
-pub enum FolderError {
-    /// What is at the folder's path isn't the folder that this process has locked.
-    Other,
-    /// A call of the folder failed.
-    Store(FolderFault),
-}
-
-impl FolderError {
-    /// The file that is the cause. None: it is the folder itself, or no memory.
-    pub(crate) fn file(&self) -> Option<FileName> {
-        match self {
-            FolderError::Store(FolderFault::Unread(file, _))
-            | FolderError::Store(FolderFault::Unopened(file))
-            | FolderError::Store(FolderFault::Unwritten(file, _)) => Some(*file),
-            FolderError::Other | FolderError::Store(_) => None,
-        }
-    }
-}
-
-impl From<FolderFault> for FolderError {
-    ghost use Rattle.std.specs.Prelude.{◌≡◌};
-    ghost use Rattle.wf_loop.specs.declared.reopening.FolderError.TheVariants.{Store};
-
-    ghost from_gives = { λ fault error. error ≡ Store fault };
-
-    fn from(fault: FolderFault) -> Self {
-        FolderError::Store(fault)
-    }
-}
-
-impl fmt::Display for FolderError {
-    fn fmt<W: fmt::Write>(&self, f: &mut fmt::Formatter<W>) -> fmt::Result {
-        match self {
-            FolderError::Other => f.write_str("another folder is at its path"),
-            FolderError::Store(FolderFault::NoFolder(kind)) => {
-                write!(f, "the folder can't be opened: {kind}")
-            }
-            FolderError::Store(FolderFault::Unread(_, kind)) => {
-                write!(f, "it can't be read: {kind}")
-            }
-            FolderError::Store(FolderFault::Unopened(_)) => f.write_str("it can't be opened"),
-            FolderError::Store(FolderFault::Unwritten(_, kind)) => {
-                write!(f, "it can't be written: {kind}")
-            }
-            FolderError::Store(fault) => write!(f, "{fault}"),
-        }
-    }
-}
 
 /// Why the tape of a halted node isn't opened again.
 #[derive(Clone, Copy, Debug, Error)]

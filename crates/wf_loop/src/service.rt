@@ -3,27 +3,22 @@ ghost use Rattle.std.specs.Prelude.{◌≡◌, ◌≤◌, ◌+◌, ◌↔◌, �
 ghost use Rattle.wf_actor.specs.Process.{IsJustOpened};
 ghost use Rattle.wf_digest.specs.Digest.{AreDigestsOf};
 ghost use Rattle.wf_folder.specs.declared.suspension.Suspension.{Suspension as SuspensionValue};
-ghost use Rattle.wf_loop.specs.declared.joiner.Joiner.{Joiner as JoinerValue};
+ghost use Rattle.wf_mesh.specs.Membership.{membership_by};
+ghost use Rattle.wf_mesh.specs.StartErrors.{IsStartError};
+ghost use Rattle.wf_mesh.specs.declared.plan.NodePlan.{NodePlan as NodePlanValue};
 ghost use Rattle.wf_loop.specs.Folder.{counted};
-ghost use Rattle.wf_loop.specs.Hub.{GreetsAsNow, HasAnswered, IsBusy, IsHeardFirst, IsJoiner, IsOutvoted, IsOver, IsReopeningDue, IsSuspended, OnlyAnswersAsks, OnlyLearns, address_of, kept_of, process_of, time_of};
+ghost use Rattle.wf_loop.specs.Hub.{GreetsAsNow, HasAnswered, IsBusy, IsHeardFirst, IsJoiner, IsOutvoted, IsOver, IsReopeningDue, IsSuspended, OnlyAnswersAsks, OnlyLearns, address_of, kept_of, membership_of, process_of, time_of};
 ghost use Rattle.wf_node.specs.Reopening.{HasStoredAs};
 ghost use Rattle.wf_loop.specs.Lived.{HasLived};
 ghost use Rattle.wf_loop.specs.Continuation.{ContinuesIn, IsNextRun, StaysInRun, KeepsEarlier, StaysSuspended};
-ghost use Rattle.wf_loop.specs.StartErrors.{IsStartError};
 ghost use Rattle.wf_visitors.specs.Visitors.{responses_of};
 
 use crate::acts::begin_run;
 use crate::clients::Clients;
-use crate::event::NodeEvent;
-use crate::gate::Gate;
+use crate::clock::turn_by_clock;
 use crate::hub::{Hub, Voter};
-use crate::joiner::Joiner;
 use crate::order::keep_reach;
-use crate::pace::{Pace, TICK_MILLIS};
-use crate::parts::{HubParts, HubStart, bind};
-use crate::plan::{LoopFault, NodePlan};
 use crate::reopening::{NextRun, NodeFolder, NotReopened, TapeNotReopened};
-use crate::tally::Tally;
 use crate::turn::{answer_operators, has_more, serve_all};
 use std::alloc::Global;
 use std::net::{Net, SocketAddr};
@@ -32,6 +27,10 @@ use std::time::Clock;
 use wf_actor::Process;
 use wf_digest::Digests;
 use wf_folder::Suspension;
+use wf_mesh::{
+    Gate, HubParts, HubStart, LoopFault, Membership, NodeEvent, NodePlan, Pace, TICK_MILLIS, Tally,
+    bind,
+};
 use wf_operator::{Behind, PictureCounts};
 use wf_peer::PeerProgress;
 use wf_sockets::{Network, NetworkError, SystemNetwork};
@@ -71,9 +70,11 @@ fn hub_of<T: Tape + Drop, N: Network + Drop>(
     ensures suspended { (suspension : Option SuspensionValue) →
         IfOk begun (λ begun. begun.parts.mesh.suspension ≡ suspension) →
         IsSome suspension → IfOk result IsSuspended }
-    ensures joins { (joining : Option JoinerValue) →
-        IfOk begun (λ begun. begun.parts.mesh.plan.joining ≡ joining) →
-        IsSome joining → IfOk result IsJoiner }
+    ensures joins { (plan : NodePlanValue) → IfOk begun (λ begun. begun.parts.mesh.plan ≡ plan) →
+        IsSome plan.joining → IfOk result IsJoiner }
+    ensures membership { (plan : NodePlanValue) →
+        IfOk begun (λ begun. begun.parts.mesh.plan ≡ plan) →
+        IfOk result (λ hub. membership_of hub ≡ membership_by plan) }
     ensures fault { IfErr result (λ fault. begun ≡ Err fault) }
 {
     match begun {
@@ -93,26 +94,22 @@ fn voter_of<T: Tape>(
     process: Process<T>,
     kept: PeerProgress,
     suspension: &Option<Suspension>,
-    joining: &Option<Joiner>,
+    membership: Membership,
 ) -> Voter<T>
     ensures process { result.process ≡ process }
     ensures kept { result.kept ≡ kept }
     ensures suspended { IsSome suspension.now → result.gate ≡ Gate.Suspended }
-    ensures joins { IsSome joining.now → result.joins ≡ true }
+    ensures membership { result.membership ≡ membership }
 {
     let gate = match suspension {
         Some(_) => Gate::Suspended,
         None => Gate::Starting,
     };
-    let joins = match joining {
-        Some(_) => true,
-        None => false,
-    };
     Voter {
         process,
         gate,
         is_outvoted: false,
-        joins,
+        membership,
         kept,
         rejected: Tally::new(alloc),
         pictures: PictureCounts::default(),
@@ -133,6 +130,7 @@ fn assemble<T: Tape + Drop, N: Network + Drop>(
     ensures kept { kept_of result ≡ known }
     ensures suspended { IsSome parts.mesh.suspension → IsSuspended result }
     ensures joins { IsSome parts.mesh.plan.joining → IsJoiner result }
+    ensures membership { membership_of result ≡ membership_by parts.mesh.plan }
     ensures time { time_of result ≡ time }
 {
     let pace = parts.pace(time);
@@ -143,7 +141,7 @@ fn assemble<T: Tape + Drop, N: Network + Drop>(
         process,
         known,
         &parts.mesh.suspension,
-        &parts.mesh.plan.joining,
+        parts.mesh.plan.membership(),
     );
     hub_with(parts, clients, voter, pace, http, time)
 }
@@ -189,6 +187,8 @@ impl<T: Tape + Drop> Hub<T> {
         ensures suspended { IsSome plan.suspension → IfOk result IsSuspended }
         // One whose folder joins does so from the first turn on.
         ensures joins { IsSome plan.joining → IfOk result IsJoiner }
+        // It goes by what its folder said of replacements.
+        ensures membership { IfOk result (λ hub. membership_of hub ≡ membership_by plan) }
         ensures cause { IfErr result (IsStartError plan) }
     {
         match SystemNetwork::new(rt) {
@@ -230,6 +230,8 @@ impl<T: Tape + Drop> Hub<T> {
         // A node whose folder joins is given no message but those that say what is published, so it
         // doesn't vote, and no client is answered.
         ensures joins { IsJoiner self.old → OnlyLearns self.old self.new }
+        // What it goes by of replacements stays, whatever it was told.
+        ensures membership { membership_of self.new ≡ membership_of self.old }
         // Once what was written is for the next start of the folder, nothing changes: the node is
         // given nothing, and emits no message.
         ensures over { IsOver self.old → process_of self.new ≡ process_of self.old }
@@ -267,6 +269,8 @@ impl<T: Tape + Drop, N: Network + Drop> Hub<T, N> {
         ensures suspended { IsSome plan.suspension → IfOk result IsSuspended }
         // One whose folder joins does so from the first turn on.
         ensures joins { IsSome plan.joining → IfOk result IsJoiner }
+        // It goes by what its folder said of replacements.
+        ensures membership { IfOk result (λ hub. membership_of hub ≡ membership_by plan) }
         ensures time { IfOk result (λ hub. time_of hub ≡ time) }
         ensures cause { IfErr result (IsStartError plan) }
     {
@@ -351,6 +355,7 @@ impl<T: Tape + Drop, N: Network + Drop> Hub<T, N> {
         ensures greets { OnOk result (GreetsAsNow (F.stands folder.new).starts self.new) }
         ensures suspended { IsSuspended self.old → IsSuspended self.new }
         ensures joins { IsJoiner self.old → IsJoiner self.new }
+        ensures membership { membership_of self.new ≡ membership_of self.old }
         ensures same { OnErr result (process_of self.new ≡ process_of self.old) }
         // The run that begins follows the one that has ended.
         ensures earlier { (process_of self.old).actor.node.halted ≡ true →
@@ -455,6 +460,7 @@ impl<T: Tape + Drop, N: Network + Drop> Hub<T, N> {
         ensures greets { GreetsAsNow next.starts self.new }
         ensures suspended { IsSuspended self.old → IsSuspended self.new }
         ensures joins { IsJoiner self.old → IsJoiner self.new }
+        ensures membership { membership_of self.new ≡ membership_of self.old }
         ensures earlier { (process_of self.old).actor.node.halted ≡ true →
             KeepsEarlier T.Tape (process_of self.old) (process_of self.new) }
     {
@@ -524,6 +530,8 @@ impl<T: Tape + Drop, N: Network + Drop> Hub<T, N> {
         // A node whose folder joins is given no message but those that say what is published, so it
         // doesn't vote, and no client is answered.
         ensures joins { IsJoiner self.old → OnlyLearns self.old self.new }
+        // What it goes by of replacements stays, whatever it was told.
+        ensures membership { membership_of self.new ≡ membership_of self.old }
         // Once what was written is for the next start of the folder, nothing changes: the node is
         // given nothing, and emits no message.
         ensures over { IsOver self.old → process_of self.new ≡ process_of self.old }
@@ -552,7 +560,7 @@ impl<T: Tape + Drop, N: Network + Drop> Hub<T, N> {
         ensures process { process_of self.new ≡ process_of self.old }
         ensures kept { kept_of self.new ≡ kept_of self.old }
         ensures suspended { IsSuspended self.old → IsSuspended self.new }
-        ensures joins { self.new.voter.joins ≡ self.old.voter.joins }
+        ensures membership { membership_of self.new ≡ membership_of self.old }
         ensures befores { self.new.clients.before.items ≡ self.old.clients.before.items }
         ensures time { time_of self.new ≡ time_of self.old }
     {
@@ -563,7 +571,7 @@ impl<T: Tape + Drop, N: Network + Drop> Hub<T, N> {
             self.clients.close();
             self.parts.desk.readers.close();
             self.parts.mesh.close_all(self.time);
-        } else if is_outvoted || self.voter.joins {
+        } else if is_outvoted || self.voter.membership.joins {
             self.clients.dismiss();
             self.parts.desk.readers.dismiss();
         }
@@ -661,7 +669,7 @@ impl<T: Tape + Drop, N: Network + Drop> Hub<T, N> {
         };
         mesh.begin_turn(could_wait, ready.len());
         serve_all(&context, voter, folder, mesh, desk, clients, ready);
-        pace.turn(&context, voter, folder, mesh, desk, clients);
+        turn_by_clock(&context, voter, folder, mesh, pace, desk, clients);
         answer_operators(&context, voter, mesh, desk, clients, behind);
         has_more(voter, mesh, clients)
     }

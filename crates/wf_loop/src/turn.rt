@@ -4,20 +4,17 @@ ghost use Rattle.wf_loop.specs.Continuation.{Continues, ContinuesIn};
 
 use crate::acts::handle_own;
 use crate::clients::Clients;
-use crate::desk::{Desk, serve_operators};
-use crate::facts::NodeFacts;
+use crate::greeting::state_of;
 use crate::hub::Voter;
-use crate::mesh::{Mesh, state_of};
-use crate::order::Order;
-use crate::question::Standing;
+use crate::peer_calls::{call, send_all};
+use crate::peer_reads::{accept, read_inbound};
 use crate::reopening::NodeFolder;
-use crate::token::Socket;
 use std::net::Net;
 use std::rt::Files;
 use std::time::Clock;
 use wf_actor::Process;
-use wf_operator::{Behind, Operator};
-use wf_readers_port::PortView;
+use wf_mesh::{Desk, Mesh, NodeView, Socket, id_of};
+use wf_operator::Behind;
 use wf_sockets::Network;
 use wf_tape::Tape;
 use wf_visitors::{Context, micros};
@@ -47,7 +44,7 @@ pub(crate) fn serve_all<
         (F.stands folder.new) voter.new }
     ensures outvoted { voter.old.is_outvoted ≡ true →
         clients.new.before.items ≡ clients.old.before.items }
-    ensures joins { voter.old.joins ≡ true →
+    ensures joins { voter.old.membership.joins ≡ true →
         clients.new.before.items ≡ clients.old.before.items }
 {
     act_on_all(context, voter, folder, mesh, desk, clients, tokens);
@@ -131,33 +128,18 @@ fn act_on<R: Net + Clock + Eprint + AllocGlobal, T: Tape + Drop, F: NodeFolder<T
     match socket {
         Socket::Http => clients.accept(context),
         Socket::Client(index) => clients.turn(context, index),
-        Socket::Listen => mesh.accept(context, voter, folder),
-        Socket::Dial(index) => mesh.turn(context, voter, folder, index),
-        Socket::Inbound(index) => mesh.handle(context, voter, folder, index),
+        Socket::Listen => accept(context, voter, folder, mesh),
+        Socket::Dial(index) => call(context, voter, folder, mesh, index),
+        Socket::Inbound(index) => read_inbound(context, voter, folder, mesh, index),
         Socket::Admin => desk.operators.accept(context),
         Socket::Asker(index) => desk.operators.turn(context, index),
         Socket::Readers => desk.readers.accept(context),
-        Socket::Reader(index) => answer_reader(context, &voter.process, mesh, desk, index),
+        Socket::Reader(index) => {
+            // nothing of the node can change by it
+            let history = voter.process.node().history();
+            desk.answer_reader(context, history, &mut mesh.notes, index);
+        }
     }
-}
-
-/// Answers a reader, from what is published: nothing of the node can change by it.
-fn answer_reader<R: Clock + Eprint + AllocGlobal, T: Tape + Drop, N: Network>(
-    context: &Context<'_, '_, R, N>,
-    process: &Process<T>,
-    mesh: &mut Mesh<N>,
-    desk: &mut Desk<N>,
-    index: usize,
-) {
-    // what was published in this turn has its digests too
-    mesh.notes.extend(process.node().history());
-    let own = desk.answerer;
-    let published = PortView {
-        own: &own,
-        history: process.node().history(),
-        digests: mesh.notes.digests(),
-    };
-    desk.readers.turn(context, &published, index);
 }
 
 /// Delivers messages of the node to itself, a bounded number of them.
@@ -186,7 +168,7 @@ fn handle_next_own<R: Clock + Eprint + AllocGlobal, T: Tape + Drop, N: Network>(
 ) -> bool
     ensures { Continues T.Tape voter.old voter.new }
 {
-    mesh.send(context, voter);
+    send_all(context, voter, mesh);
     let from = micros(context.rt);
     if !handle_own(context.alloc(), voter) {
         return false;
@@ -206,7 +188,7 @@ fn serve_clients<R: Clock + Eprint + AllocGlobal, T: Tape + Drop, N: Network>(
     ensures on { Continues T.Tape voter.old voter.new }
     ensures outvoted { voter.old.is_outvoted ≡ true →
         clients.new.before.items ≡ clients.old.before.items }
-    ensures joins { voter.old.joins ≡ true →
+    ensures joins { voter.old.membership.joins ≡ true →
         clients.new.before.items ≡ clients.old.before.items }
 {
     for _ in 0..MOST_SERVED {
@@ -228,13 +210,13 @@ fn serve_next<R: Clock + Eprint + AllocGlobal, T: Tape + Drop, N: Network>(
     ensures on { Continues T.Tape voter.old voter.new }
     ensures outvoted { voter.old.is_outvoted ≡ true →
         clients.new.before.items ≡ clients.old.before.items }
-    ensures joins { voter.old.joins ≡ true →
+    ensures joins { voter.old.membership.joins ≡ true →
         clients.new.before.items ≡ clients.old.before.items }
 {
     let Some(index) = clients.answer_next(context, voter) else {
         return false;
     };
-    mesh.send(context, voter);
+    send_all(context, voter, mesh);
     clients.turn(context, index);
     true
 }
@@ -249,81 +231,52 @@ pub(crate) fn answer_operators<R: Files + Clock + Eprint + AllocGlobal, T: Tape 
     behind: &mut Behind,
 ) {
     let history = voter.process.node().history();
-    let latest = mesh.notes.latest(mesh.dials.len());
-    let is_behind = behind.judge(history.published().number() < latest, context.time);
+    let is_behind = behind.judge(history.published().number() < mesh.latest(), context.time);
     if desk.operators.waits() {
         // what was published in this turn has its digests too
         mesh.notes.extend(history);
-        mesh.note_states(&voter.process, context.time);
-        let order = serve_facts(context, voter, mesh, desk, clients, is_behind);
-        if order.is_some() {
-            mesh.order = order;
+        note_states(mesh, &voter.process, context.time);
+        tell_operators(context, voter, mesh, desk, clients, is_behind);
+    }
+}
+
+/// Notes which peers are heard, how many messages to them were posted and dropped, and how many
+/// bytes were written.
+fn note_states<T: Tape + Drop, N: Network>(mesh: &mut Mesh<N>, process: &Process<T>, time: u64) {
+    for index in 0..mesh.dials.len() {
+        if let Some(peer) = id_of(index) {
+            mesh.note_state(
+                index,
+                process.drop_count(peer),
+                process.post_count(peer),
+                time,
+            );
         }
     }
 }
 
-/// What a node answers by where an operator asks it about a replacement.
-fn standing_of<T: Tape + Drop, N: Network>(voter: &Voter<T>, mesh: &Mesh<N>) -> Standing {
-    Standing {
-        may_replace: mesh.plan.may_replace,
-        mark: mesh.plan.start.mark,
-        state: state_of(voter),
-        began_with: mesh.plan.replacements,
-        learned: mesh.learned,
-        joining: mesh.plan.joining,
-    }
-}
-
-/// Answers operators with what is known. Returns what their questions have left to write, if
-/// anything.
-fn serve_facts<R: Files + Clock + Eprint + AllocGlobal, T: Tape + Drop, N: Network>(
+/// Answers operators with what the node and its clients tell.
+fn tell_operators<R: Files + Clock + Eprint + AllocGlobal, T: Tape + Drop, N: Network>(
     context: &Context<'_, '_, R, N>,
     voter: &Voter<T>,
-    mesh: &Mesh<N>,
+    mesh: &mut Mesh<N>,
     desk: &mut Desk<N>,
     clients: &Clients<T, N>,
     is_behind: bool,
-) -> Option<Order> {
+) {
     let process = &voter.process;
-    let history = process.node().history();
-    let latest = mesh.notes.latest(mesh.dials.len());
-    let Desk {
-        operators,
-        readers,
-        started,
-        ..
-    } = desk;
-    let facts = NodeFacts {
-        rt: context.rt,
-        started: *started,
-        history,
-        notes: &mesh.notes,
-        peers: mesh.states.as_slice(),
+    let view = NodeView {
+        history: process.node().history(),
+        state: state_of(voter),
+        membership: voter.membership,
+        is_halted: process.is_halted(),
+        is_outvoted: voter.is_outvoted,
+        proposal: process.node().proposal(),
         requests: clients.visitors.counts(),
         rejected: &voter.rejected,
         pictures: voter.pictures,
         unkept: process.cache().unkept(),
-        steps: mesh.steps,
-        tape: mesh.plan.tape.as_str(),
-        is_halted: process.is_halted(),
-        proposal: process.node().proposal(),
-        differs: mesh.differing(),
-        is_outvoted: voter.is_outvoted,
-        suspension: mesh.suspension,
-        is_unwritten: mesh.unwritten.is_some(),
-        hears_majority: mesh.hears_majority(context.time),
-        reader_differs: readers.differs(context.time),
-        latest: latest.max(history.published().number()),
-        is_behind,
         clients: clients.visitors.taken_slots(),
-        readers: readers.reader_count(),
-        node: mesh.plan.own.node,
-        since: mesh.since,
-        time: context.time,
-        standing: standing_of(voter, mesh),
-        order: None,
     };
-    let mut operator = Operator::new(facts);
-    serve_operators(operators, context, &mut operator);
-    operator.operated().order
+    mesh.answer_operators(context, desk, &view, is_behind);
 }

@@ -9,11 +9,13 @@ use Rattle.wf_codec.specs.Message.{view}
 use Rattle.wf_codec.specs.declared.message.Message.{Message}
 use Rattle.wf_line.specs.declared.node_line.NodeLine.{NodeLine}
 use Rattle.wf_loop.specs.Continuation.{AreHeardFrom, AreRunsHeardFrom, IsEarlier, KeepsEarlier}
-use Rattle.wf_loop.specs.Hub.{HasAnswered, IsHeardFirst, IsJoiner, IsOver, IsReopeningDue, kept_of, process_of}
+use Rattle.wf_loop.specs.Hub.{HasAnswered, IsHeardFirst, IsJoiner, IsOver, IsReopeningDue, kept_of, membership_of, process_of}
 use Rattle.wf_loop.specs.Lived.{HasLived}
 use Rattle.wf_loop.specs.declared.hub.Hub.{Hub}
-use Rattle.wf_loop.specs.declared.joiner.Joiner.{Joiner}
-use Rattle.wf_loop.specs.declared.plan.LoopFault.{LoopFault}
+use Rattle.wf_mesh.specs.Membership.{membership_by}
+use Rattle.wf_mesh.specs.declared.membership.Membership.{Membership}
+use Rattle.wf_mesh.specs.declared.plan.LoopFault.{LoopFault}
+use Rattle.wf_mesh.specs.declared.plan.NodePlan.{NodePlan}
 use Rattle.wf_node_command.proofs.Learned.{learner_at_first}
 use Rattle.wf_node_command.specs.Done.{HasLivedOn, IsNodeDone, IsServed}
 use Rattle.wf_node_command.specs.Fault.{IsFromSystem}
@@ -73,9 +75,10 @@ module _ {T : Type 0} (tapes : Tape T) where
   }
 
   -- the hub's process, at whatever end, is a later moment of the one that it began with
-  pub lived_on : {N C L : Type 0} {connections : Connection C} (begun hub : Hub T N C L tapes connections) (joining : Option Joiner) (calls : List Call) → HasLived tapes (process_of hub) → HasAnswered tapes hub
-      → KeepsEarlier tapes (process_of begun) (process_of hub) → IsHeardFirst (heard_in calls) hub → (IsSome joining → IsLearner tapes hub) → HasLivedOn tapes (process_of begun) joining calls
-  lived_on begun hub joining calls lived answered keeps heard learns = record {
+  pub lived_on : {N C L : Type 0} {connections : Connection C} (begun hub : Hub T N C L tapes connections) (plan : NodePlan) (calls : List Call) → HasLived tapes (process_of hub) → HasAnswered tapes hub
+      → KeepsEarlier tapes (process_of begun) (process_of hub) → IsHeardFirst (heard_in calls) hub → membership_of hub ≡ membership_by plan → (IsSome plan.joining → IsLearner tapes hub)
+      → HasLivedOn tapes (process_of begun) plan calls
+  lived_on begun hub plan calls lived answered keeps heard goes_by learns = record {
     voter = hub.voter;
     lived = lived;
     befores = hub.clients.before.items;
@@ -84,20 +87,22 @@ module _ {T : Type 0} (tapes : Tape T) where
     answered = answered;
     earlier = keeps (process_of begun) (its_own (process_of begun));
     heard = heard;
+    went_by = goes_by;
     learned = λ joins. (learns joins).1;
   }
 
   -- a node that is ready was served, as that of a folder that joins if it does
   pub served_first : {N C L : Type 0} {connections : Connection C} (ready : ReadyNode T tapes) (hub held : Hub T N C L tapes connections) (old began new : List Call) → IsJustStarted tapes ready old → process_of hub ≡ ready.process → held ≡ hub
-      → (IsSome ready.plan.joining → IsJoiner hub) → began ≡ old
-      → ((joining : Option Joiner) → (IsSome joining → IsLearner tapes held) → HasLivedOn tapes (process_of held) joining new) → ∥ StaysFrom began new ∥₁
-      → IsServed tapes ready.process ready.plan.joining old new (Ok tt)
-  served_first {N} {C} {L} {connections} ready hub held old began new fresh same is joins stood on stays =
+      → (IsSome ready.plan.joining → IsJoiner hub) → membership_of hub ≡ membership_by ready.plan → began ≡ old
+      → ((plan : NodePlan) → membership_of held ≡ membership_by plan → (IsSome plan.joining → IsLearner tapes held) → HasLivedOn tapes (process_of held) plan new) → ∥ StaysFrom began new ∥₁
+      → IsServed tapes ready.process ready.plan old new (Ok tt)
+  served_first {N} {C} {L} {connections} ready hub held old began new fresh same is joins goes_by stood on stays =
       let held_is : process_of held ≡ ready.process = ap (λ (h : Hub T N C L tapes connections). process_of h) is ∙ same in
       let held_joins : IsSome ready.plan.joining → IsJoiner held = λ some. subst (λ (h : Hub T N C L tapes connections). IsJoiner h) (sym is) (joins some) in
-      let lived : HasLivedOn tapes (process_of held) ready.plan.joining new =
-      on ready.plan.joining (λ some. learner_at_first tapes held ready.process held_is fresh.begun fresh.first (held_joins some)) in (
-        subst (λ (p : Process T tapes). HasLivedOn tapes p ready.plan.joining new) held_is lived,
+      let held_by : membership_of held ≡ membership_by ready.plan = ap (λ (h : Hub T N C L tapes connections). membership_of h) is ∙ goes_by in
+      let lived : HasLivedOn tapes (process_of held) ready.plan new =
+      on ready.plan held_by (λ some. learner_at_first tapes held ready.process held_is fresh.begun fresh.first (held_joins some)) in (
+        subst (λ (p : Process T tapes). HasLivedOn tapes p ready.plan new) held_is lived,
         subst (λ (calls : List Call). ∥ StaysFrom calls new ∥₁) stood stays,
       )
 
@@ -153,17 +158,18 @@ module _ {T : Type 0} (tapes : Tape T) where
         left = is.is_ready.left;
       }
 
-  pub not_served : (process : Process T tapes) (joining : Option Joiner) (calls : List Call) (why : LoopFault) → IsServed tapes process joining calls calls (Err (faults.Loop why))
-  not_served process joining calls why = (tt, refl)
+  pub not_served : (process : Process T tapes) (plan : NodePlan) (calls : List Call) (why : LoopFault) → IsServed tapes process plan calls calls (Err (faults.Loop why))
+  not_served process plan calls why = (tt, refl)
 
   -- a node that is ready runs
-  pub running_by : (line : NodeLine) (ready : ReadyNode T tapes) (process : Process T tapes) (kept : List (Option HeardOfNode)) (old mid new : List Call) → IsReady tapes line ready (locked ∷ old) mid
-      → process ≡ ready.process → kept ≡ ready.heard → new ≡ mid → IsRunning tapes line process kept old new
-  running_by line ready process kept old mid new is same heard stays = record {
+  pub running_by : (line : NodeLine) (ready : ReadyNode T tapes) (process : Process T tapes) (kept : List (Option HeardOfNode)) (membership : Membership) (old mid new : List Call) → IsReady tapes line ready (locked ∷ old) mid
+      → process ≡ ready.process → kept ≡ ready.heard → membership ≡ membership_by ready.plan → new ≡ mid → IsRunning tapes line process kept membership old new
+  running_by line ready process kept membership old mid new is same heard goes_by stays = record {
     ready = ready;
     is_ready = subst (λ (calls : List Call). IsReady tapes line ready (locked ∷ old) calls) (sym stays) is;
     same = same;
     heard = heard;
+    goes_by = goes_by;
   }
 
   -- or it doesn't, and only its start was counted
@@ -181,7 +187,7 @@ module _ {T : Type 0} (tapes : Tape T) where
 
   -- a node that is ready was served, or not
   pub served_by : (line : NodeLine) (ready : ReadyNode T tapes) (old mid new : List Call) (result : Result (Unit {0}) CommandFault) → IsReady tapes line ready (locked ∷ old) mid
-      → IsServed tapes ready.process ready.plan.joining mid new result → IsNodeDone tapes line old new result
+      → IsServed tapes ready.process ready.plan mid new result → IsNodeDone tapes line old new result
   served_by line ready old mid new (Ok done) is served = record {
     file = is.file;
     written = ready.file;
@@ -192,8 +198,8 @@ module _ {T : Type 0} (tapes : Tape T) where
     is_started = is.is_ready.is_started;
     on_read = is.is_ready.on_read;
     is_raised = is.is_ready.is_raised;
-    joining = ready.plan.joining;
-    is_joining = is.is_planned.joins;
+    plan = ready.plan;
+    is_planned = is.is_planned;
     on = served.0;
     stays = served.1;
   }

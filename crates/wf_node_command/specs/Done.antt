@@ -1,5 +1,5 @@
 -- What a command did.
-use Rattle.std.specs.Prelude.{◌≡◌, ◌∷◌, ℕ, List, Option, Result, Ok, Err, IsSome, option_map}
+use Rattle.std.specs.Prelude.{◌≡◌, ◌∷◌, ℕ, List, Option, Result, Ok, Err, IsSome}
 use Rattle.wf_actor.specs.declared.process.Process.{Process}
 use Rattle.wf_client.specs.Client.{Client}
 use Rattle.wf_folder.specs.declared.node_file.NodeFile.{NodeFile}
@@ -10,7 +10,8 @@ use Rattle.wf_loop.specs.Answer.{AreAnswered}
 use Rattle.wf_loop.specs.Continuation.{IsEarlier, IsHeardKept}
 use Rattle.wf_loop.specs.Lived.{HasLived}
 use Rattle.wf_loop.specs.declared.hub.Voter.{Voter}
-use Rattle.wf_loop.specs.declared.joiner.Joiner.{Joiner}
+use Rattle.wf_mesh.specs.Membership.{membership_by}
+use Rattle.wf_mesh.specs.declared.plan.NodePlan.{NodePlan}
 use Rattle.wf_node.specs.Node.{stored_of}
 use Rattle.wf_node_command.specs.Cleared.{IsClearDone}
 use Rattle.wf_node_command.specs.Fault.{IsFromSystem, fault_status}
@@ -18,7 +19,7 @@ use Rattle.wf_node_command.specs.Folder.{StandsForRead, StaysFrom, heard_in, tap
 use Rattle.wf_node_command.specs.Held.{IsRaisedTo}
 use Rattle.wf_node_command.specs.Learned.{HasOnlyLearned}
 use Rattle.wf_node_command.specs.Made.{IsInitDone}
-use Rattle.wf_node_command.specs.ReplacementFiles.{IsJoinsIn, is_joins, text_in}
+use Rattle.wf_node_command.specs.Ready.{IsPlanned}
 use Rattle.wf_node_command.specs.Start.{IsNodeFault, IsStartOn, IsStarted}
 use Rattle.wf_node_command.specs.declared.fault.CommandFault.{CommandFault}
 use Rattle.wf_peer.specs.declared.heard.Heard.{Heard as HeardOfNode}
@@ -31,8 +32,9 @@ module _ {T : Type 0} (tapes : Tape T) where
   -- The process has gone on in a hub, whose voter it is of at a later moment, and has lived; each
   -- client was sent the response to exactly what had come of its request, by a process that had
   -- lived so, as it was before; and what any message of a peer that it was given tells of the
-  -- peer's round and promise is in the file `heard`. If its folder joins, it has only learned.
-  pub record HasLivedOn (started : Process T tapes) (joining : Option Joiner) (calls : List Call) : Type 0 where
+  -- peer's round and promise is in the file `heard`. To its end it went by what its plan says of
+  -- replacements, and if its folder joins, it has only learned.
+  pub record HasLivedOn (started : Process T tapes) (plan : NodePlan) (calls : List Call) : Type 0 where
     pub voter : Voter T tapes
     pub lived : HasLived tapes voter.process
     pub befores : List (Voter T tapes × ℕ)
@@ -41,17 +43,18 @@ module _ {T : Type 0} (tapes : Tape T) where
     pub answered : ∥ AreAnswered tapes befores clients afters ∥₁
     pub earlier : IsEarlier tapes started voter.process
     pub heard : IsHeardKept (heard_in calls) voter
-    pub learned : IsSome joining → HasOnlyLearned tapes voter.process
+    pub went_by : voter.membership ≡ membership_by plan
+    pub learned : IsSome plan.joining → HasOnlyLearned tapes voter.process
 
   -- how the turns of a process ended, if they began: its tape was left to it
-  abbrev pub IsServed : Process T tapes → Option Joiner → List Call → List Call → Result (Unit {0}) CommandFault → Type 0
-  IsServed started joining old new (Ok done) = HasLivedOn started joining new × ∥ StaysFrom old new ∥₁
-  IsServed started joining old new (Err fault) = IsFromSystem fault × (new ≡ old)
+  abbrev pub IsServed : Process T tapes → NodePlan → List Call → List Call → Result (Unit {0}) CommandFault → Type 0
+  IsServed started plan old new (Ok done) = HasLivedOn started plan new × ∥ StaysFrom old new ∥₁
+  IsServed started plan old new (Err fault) = IsFromSystem fault × (new ≡ old)
 
   -- The node was served. Its folder was locked, and these were the first calls: its start was
   -- admitted, its tape compared and opened, and its file written, raised to what its node had
-  -- stored. Then its process has gone on, as that of a folder that joins if the file `joins` said
-  -- so, and its tape was left to it.
+  -- stored. Its plan goes by what was read of the files `replaced` and `joins`. Then its process
+  -- has gone on by that plan, and its tape was left to it.
   pub record HasServed (line : NodeLine) (old new : List Call) : Type 0 where
     pub file : NodeFile
     pub written : NodeFile
@@ -62,9 +65,9 @@ module _ {T : Type 0} (tapes : Tape T) where
     pub is_started : IsStarted tapes file started
     pub on_read : StandsForRead (stored_of started.actor.node) (tape_in begun)
     pub is_raised : IsRaisedTo (stored_of started.actor.node) file written
-    pub joining : Option Joiner
-    pub is_joining : IsJoinsIn (text_in is_joins begun) (option_map (λ joiner. joiner.joining) joining)
-    pub on : HasLivedOn started joining new
+    pub plan : NodePlan
+    pub is_planned : IsPlanned line file begun plan
+    pub on : HasLivedOn started plan new
     pub stays : ∥ StaysFrom begun new ∥₁
 
   -- What `node` did: it took its turns, and then it was served; or it didn't begin.

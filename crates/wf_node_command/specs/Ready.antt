@@ -3,7 +3,7 @@ use Rattle.std.specs.Prelude.{◌≡◌, List, [], Option, IfSome, option_map}
 use Rattle.wf_actor.specs.Process.{IsJustOpened}
 use Rattle.wf_folder.specs.declared.node_file.NodeFile.{NodeFile}
 use Rattle.wf_line.specs.declared.node_line.NodeLine.{NodeLine}
-use Rattle.wf_loop.specs.declared.plan.NodePlan.{NodePlan}
+use Rattle.wf_mesh.specs.declared.plan.NodePlan.{NodePlan}
 use Rattle.wf_node.specs.Node.{stored_of}
 use Rattle.wf_node_command.specs.Folder.{StandsForRead, heard_in, tape_in}
 use Rattle.wf_node_command.specs.Held.{IsRaisedTo}

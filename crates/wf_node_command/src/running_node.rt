@@ -3,8 +3,9 @@ ghost use Rattle.std.specs.Prelude.{◌≡◌, ◌≤◌, ◌↔◌, IfErr, IfOk
 ghost use Rattle.wf_folder.specs.NodeFile.{IsNodeFile};
 ghost use Rattle.wf_line.specs.NodeLine.{IsNodeInRange};
 ghost use Rattle.wf_loop.specs.Continuation.{KeepsEarlier};
-ghost use Rattle.wf_loop.specs.Hub.{HasAnswered, IsHeardFirst, IsOver, kept_of, process_of};
+ghost use Rattle.wf_loop.specs.Hub.{HasAnswered, IsHeardFirst, IsOver, kept_of, membership_of, process_of};
 ghost use Rattle.wf_loop.specs.Lived.{HasLived};
+ghost use Rattle.wf_mesh.specs.Membership.{membership_by};
 ghost use Rattle.wf_node_command.specs.Fault.{IsFromSystem};
 ghost use Rattle.wf_node_command.specs.Folder.{StaysFrom, calls_in, heard_in};
 ghost use Rattle.wf_node_command.specs.Learned.{IsLearner};
@@ -54,7 +55,8 @@ impl<S: Store, N: Network + Drop> RunningNode<S, N> {
     ) -> Result<Self, (CommandFault, S)>
         requires { IsNodeInRange line.now }
         ensures running { IfOk result (λ node. IsRunning S.Tape.Tape line.now (process_of node.hub)
-            (kept_of node.hub) (S.calls store) (S.calls node.folder.running.store)) }
+            (kept_of node.hub) (membership_of node.hub) (S.calls store)
+            (S.calls node.folder.running.store)) }
         ensures began { IfOk result (λ node. calls_in S.calls node.folder.running.began.items ≡
             S.calls node.folder.running.store) }
         ensures heard { IfOk result (λ node.
@@ -82,6 +84,8 @@ impl<S: Store, N: Network + Drop> RunningNode<S, N> {
         requires fresh { IsJustStarted S.Tape.Tape ready (S.calls store) }
         ensures process { IfOk result (λ node. process_of node.hub ≡ ready.process) }
         ensures kept { IfOk result (λ node. kept_of node.hub ≡ ready.heard) }
+        ensures membership { IfOk result (λ node.
+            membership_of node.hub ≡ membership_by ready.plan) }
         ensures same { IfOk result (λ node. S.calls node.folder.running.store ≡ S.calls store) }
         ensures began { IfOk result (λ node. calls_in S.calls node.folder.running.began.items ≡
             S.calls store) }
@@ -168,6 +172,8 @@ impl<S: Store, N: Network + Drop> RunningNode<S, N> {
         // It goes on in its run, or its run has ended and another began.
         ensures earlier { KeepsEarlier S.Tape.Tape (process_of self.old.hub)
             (process_of self.new.hub) }
+        // What it goes by of replacements stays, whatever it was told.
+        ensures membership { membership_of self.new.hub ≡ membership_of self.old.hub }
         // If its folder joins, it goes on learning: it doesn't vote.
         ensures learns { IsLearner S.Tape.Tape self.old.hub → IsLearner S.Tape.Tape self.new.hub }
         ensures began { calls_in S.calls self.new.folder.running.began.items ≡
@@ -204,6 +210,7 @@ impl<S: Store> RunningNode<S> {
     )
         ensures earlier { KeepsEarlier S.Tape.Tape (process_of self.old.hub)
             (process_of self.new.hub) }
+        ensures membership { membership_of self.new.hub ≡ membership_of self.old.hub }
         ensures learns { IsLearner S.Tape.Tape self.old.hub → IsLearner S.Tape.Tape self.new.hub }
         ensures began { calls_in S.calls self.new.folder.running.began.items ≡
             calls_in S.calls self.old.folder.running.began.items }
@@ -241,6 +248,7 @@ fn reopen_if_due<
     N: Network + Drop,
 >(rt: &R, log: &Log<'_, R>, hub: &mut Hub<T, N>, folder: &mut F)
     ensures earlier { KeepsEarlier T.Tape (process_of hub.old) (process_of hub.new) }
+    ensures membership { membership_of hub.new ≡ membership_of hub.old }
     ensures learns { IsLearner T.Tape hub.old → IsLearner T.Tape hub.new }
     ensures begun { (F.stands folder.new).begun ≡ (F.stands folder.old).begun }
     ensures heard { IsHeardFirst (F.stands folder.old).heard hub.old →

@@ -1,10 +1,11 @@
 //! A node is served.
-ghost use Rattle.std.specs.Prelude.{◌≡◌, IsSome, Option};
+ghost use Rattle.std.specs.Prelude.{◌≡◌, IsSome};
 ghost use Rattle.wf_folder.specs.NodeFile.{IsNodeFile};
 ghost use Rattle.wf_loop.specs.Continuation.{KeepsEarlier};
-ghost use Rattle.wf_loop.specs.Hub.{HasAnswered, IsHeardFirst, IsOver, process_of};
+ghost use Rattle.wf_loop.specs.Hub.{HasAnswered, IsHeardFirst, IsOver, membership_of, process_of};
 ghost use Rattle.wf_loop.specs.Lived.{HasLived};
-ghost use Rattle.wf_loop.specs.declared.joiner.Joiner.{Joiner as JoinerValue};
+ghost use Rattle.wf_mesh.specs.Membership.{membership_by};
+ghost use Rattle.wf_mesh.specs.declared.plan.NodePlan.{NodePlan as NodePlanValue};
 ghost use Rattle.wf_node_command.specs.Done.{HasLivedOn, IsServed};
 ghost use Rattle.wf_node_command.specs.Folder.{StaysFrom, calls_in, heard_in};
 ghost use Rattle.wf_node_command.specs.Learned.{IsLearner};
@@ -33,7 +34,7 @@ pub(crate) fn serve<R: Files<File = File> + Clock + Eprint + Net + AllocGlobal, 
 ) -> (Result<(), CommandFault>, S)
     requires file { IsNodeFile ready.file }
     requires fresh { IsJustStarted S.Tape.Tape ready (S.calls store) }
-    ensures { IsServed S.Tape.Tape ready.process ready.plan.joining (S.calls store) (S.calls result.1)
+    ensures { IsServed S.Tape.Tape ready.process ready.plan (S.calls store) (S.calls result.1)
         result.0 }
 {
     let ReadyNode {
@@ -63,8 +64,9 @@ fn take_turns<R: Files<File = File> + Clock + Eprint + Net + AllocGlobal, S: Sto
     turns: u64,
 ) -> S
     requires heard { IsHeardFirst (heard_in (S.calls node.folder.running.store)) node.hub }
-    ensures on { (joining : Option JoinerValue) → (IsSome joining → IsLearner S.Tape.Tape node.hub) →
-        HasLivedOn S.Tape.Tape (process_of node.hub) joining (S.calls result) }
+    ensures on { (plan : NodePlanValue) → membership_of node.hub ≡ membership_by plan →
+        (IsSome plan.joining → IsLearner S.Tape.Tape node.hub) →
+        HasLivedOn S.Tape.Tape (process_of node.hub) plan (S.calls result) }
     ensures stays { ∥ StaysFrom (calls_in S.calls node.folder.running.began.items)
         (S.calls result) ∥₁ }
 {
@@ -90,6 +92,8 @@ fn go_on<R: Files<File = File> + Clock + Eprint + Net + AllocGlobal, S: Store>(
     // It goes on in its run, or its run has ended and others began.
     ensures earlier { KeepsEarlier S.Tape.Tape (process_of node.old.hub)
         (process_of node.new.hub) }
+    // What it goes by of replacements stays.
+    ensures membership { membership_of node.new.hub ≡ membership_of node.old.hub }
     // If its folder joins, it goes on learning.
     ensures learns { IsLearner S.Tape.Tape node.old.hub → IsLearner S.Tape.Tape node.new.hub }
     // One that is over takes no turn.

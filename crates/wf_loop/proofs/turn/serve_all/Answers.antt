@@ -1,6 +1,7 @@
-use Rattle.std.proofs.Common.{◌∙◌}
+use Rattle.std.proofs.Common.{◌∙◌, ap}
 use Rattle.wf_loop.proofs.Continuation.{then_on}
 use Rattle.wf_loop.proofs.turn.serve_all.Goals as goal
+use Rattle.wf_mesh.specs.declared.membership.Membership.{Membership}
 
 pub returns-clause-on : goal.returns-clause-on
 returns-clause-on g c = then_on g.T.Tape _ _ _ _ _ (then_on g.T.Tape _ _ _ _ _ c.act_on_all.ensures.on c.handle_all_own.ensures) c.serve_clients.ensures.on
@@ -9,4 +10,4 @@ pub returns-clause-outvoted : goal.returns-clause-outvoted
 returns-clause-outvoted g c = λ is. c.serve_clients.ensures.outvoted (c.handle_all_own.ensures.outvoted ∙ (c.act_on_all.ensures.on.outvoted ∙ is)) ∙ c.act_on_all.ensures.befores
 
 pub returns-clause-joins : goal.returns-clause-joins
-returns-clause-joins g c = λ is. c.serve_clients.ensures.joins (c.handle_all_own.ensures.joins ∙ (c.act_on_all.ensures.on.joins ∙ is)) ∙ c.act_on_all.ensures.befores
+returns-clause-joins g c = λ is. c.serve_clients.ensures.joins (ap (λ (m : Membership). m.joins) (c.handle_all_own.ensures.membership ∙ c.act_on_all.ensures.on.membership) ∙ is) ∙ c.act_on_all.ensures.befores

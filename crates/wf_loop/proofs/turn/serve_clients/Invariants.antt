@@ -3,4 +3,4 @@ use Rattle.wf_loop.specs.Continuation.{Continues}
 use Rattle.wf_loop.proofs.turn.serve_clients.Given as goal
 
 abbrev pub invariant-loop : goal.invariant-loop
-invariant-loop g l = Continues g.T.Tape l.fn.voter l.voter × (l.fn.voter.is_outvoted ≡ true → l.clients.before.items ≡ l.fn.clients.before.items) × (l.fn.voter.joins ≡ true → l.clients.before.items ≡ l.fn.clients.before.items)
+invariant-loop g l = Continues g.T.Tape l.fn.voter l.voter × (l.fn.voter.is_outvoted ≡ true → l.clients.before.items ≡ l.fn.clients.before.items) × (l.fn.voter.membership.joins ≡ true → l.clients.before.items ≡ l.fn.clients.before.items)

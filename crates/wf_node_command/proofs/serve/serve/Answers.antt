@@ -12,4 +12,4 @@ take_turns-requires g c = record {
 pub returns-in-Ok : goal.returns-in-Ok
 returns-in-Ok g c =
     served_first g.S.Tape.Tape c.args.ready c.in-Ok.hub c.of-node.result.hub (g.S.Store.calls c.args.store) (calls_in g.S.Store.calls c.of-node.result.folder.running.began.items) (g.S.Store.calls c.take_turns.result)
-    c.requires.fresh c.in-Ok.ensures.process c.of-node.ensures.hub c.in-Ok.ensures.joins c.of-node.ensures.began c.take_turns.ensures.on c.take_turns.ensures.stays
+    c.requires.fresh c.in-Ok.ensures.process c.of-node.ensures.hub c.in-Ok.ensures.joins c.in-Ok.ensures.membership c.of-node.ensures.began c.take_turns.ensures.on c.take_turns.ensures.stays

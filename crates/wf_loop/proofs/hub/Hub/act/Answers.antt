@@ -3,10 +3,10 @@ use Rattle.wf_loop.proofs.Continuation.{twice_in}
 use Rattle.wf_loop.proofs.hub.Hub.act.Goals as goal
 
 pub returns-clause-on : goal.returns-clause-on
-returns-clause-on g c = twice_in g.T.Tape _ _ _ _ _ _ c.serve_all.ensures.on c.turn.ensures.on
+returns-clause-on g c = twice_in g.T.Tape _ _ _ _ _ _ c.serve_all.ensures.on c.turn_by_clock.ensures.on
 
 pub returns-clause-outvoted : goal.returns-clause-outvoted
-returns-clause-outvoted g c = λ is. c.turn.ensures.befores ∙ c.serve_all.ensures.outvoted is
+returns-clause-outvoted g c = λ is. c.turn_by_clock.ensures.befores ∙ c.serve_all.ensures.outvoted is
 
 pub returns-clause-joins : goal.returns-clause-joins
-returns-clause-joins g c = λ is. c.turn.ensures.befores ∙ c.serve_all.ensures.joins is
+returns-clause-joins g c = λ is. c.turn_by_clock.ensures.befores ∙ c.serve_all.ensures.joins is

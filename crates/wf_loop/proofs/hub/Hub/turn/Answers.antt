@@ -1,8 +1,9 @@
 use Rattle.std.proofs.Common.{ap, ◌∙◌}
-use Rattle.wf_loop.proofs.Continuation.{keeps_going, turned, turned_asked, turned_heard, turned_joins, turned_learning, turned_learnt, turned_suspended, turned_unanswered}
+use Rattle.wf_loop.proofs.Continuation.{keeps_going, turned, turned_asked, turned_heard, turned_learning, turned_learnt, turned_membership, turned_suspended, turned_unanswered}
 use Rattle.wf_loop.proofs.hub.Hub.turn.Goals as goal
 use Rattle.wf_loop.specs.declared.clients.Clients.{Clients}
 use Rattle.wf_loop.specs.declared.hub.Voter.{Voter}
+use Rattle.wf_mesh.specs.declared.membership.Membership.{Membership}
 
 pub returns-clause-on : goal.returns-clause-on
 returns-clause-on g c = turned g.T.Tape _ _ c.args.self.now.voter _ _ _ c.judge.ensures.process c.act_unless-self.ensures.on c.keep.ensures.voter
@@ -24,12 +25,15 @@ returns-clause-outvoted g c = λ is. record {
 pub returns-clause-heard : goal.returns-clause-heard
 returns-clause-heard g c = turned_heard g.T.Tape _ _ _ _ _ _ _ c.judge.ensures.process c.judge.ensures.kept c.act_unless-self.ensures.on c.keep.ensures.voter c.keep.ensures.stands
 
+pub returns-clause-membership : goal.returns-clause-membership
+returns-clause-membership g c = turned_membership g.T.Tape _ _ c.args.self.now.voter _ _ _ c.judge.ensures.membership c.act_unless-self.ensures.on c.keep.ensures.voter
+
 pub returns-clause-joins : goal.returns-clause-joins
 returns-clause-joins g c = λ is. record {
-  joins = turned_joins g.T.Tape _ _ c.args.self.now.voter _ _ _ c.judge.ensures.joins c.act_unless-self.ensures.on c.keep.ensures.voter ∙ is;
-  given = turned_learnt g.T.Tape _ _ c.args.self.now.voter _ _ _ c.judge.ensures.process c.judge.ensures.joins c.act_unless-self.ensures.on c.keep.ensures.voter is;
+  joins = ap (λ (m : Membership). m.joins) (returns-clause-membership g c) ∙ is;
+  given = turned_learnt g.T.Tape _ _ c.args.self.now.voter _ _ _ c.judge.ensures.process c.judge.ensures.membership c.act_unless-self.ensures.on c.keep.ensures.voter is;
   answered =
-      turned_learning g.T.Tape c.args.self.now.voter.joins _ _ _ _ _ c.judge.ensures.befores c.judge.ensures.joins c.act_unless-self.ensures.joins
+      turned_learning g.T.Tape c.args.self.now.voter.membership _ _ _ _ _ c.judge.ensures.befores c.judge.ensures.membership c.act_unless-self.ensures.joins
       (ap (λ (served : Clients _ _ _ _ g.T.Tape _). served.before.items) c.keep.ensures.clients) is;
 }
 

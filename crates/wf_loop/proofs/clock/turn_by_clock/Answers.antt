@@ -1,0 +1,5 @@
+use Rattle.wf_loop.proofs.Continuation.{then_on}
+use Rattle.wf_loop.proofs.clock.turn_by_clock.Goals as goal
+
+pub returns-clause-on : goal.returns-clause-on
+returns-clause-on g c = then_on g.T.Tape _ _ _ _ _ c.tick.ensures.on c.call_all.ensures

@@ -1,5 +1,0 @@
-use Rattle.wf_loop.proofs.Continuation.{then_on}
-use Rattle.wf_loop.proofs.pace.Pace.turn.Goals as goal
-
-pub returns-clause-on : goal.returns-clause-on
-returns-clause-on g c = then_on g.T.Tape _ _ _ _ _ c.tick.ensures.on c.go_on.ensures

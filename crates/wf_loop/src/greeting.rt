@@ -1,0 +1,61 @@
+//! What a node says of itself to its peers.
+ghost use Rattle.std.specs.Prelude.{◌≡◌, ◌⊎◌, IfSome};
+ghost use Rattle.wf_loop.specs.Hub.{IsGreetedWith};
+ghost use Rattle.wf_loop.specs.Reach.{IsHighestVoted};
+ghost use Rattle.wf_node.specs.Node.{stored_of};
+ghost use Rattle.wf_rejoin.specs.Replacements.{known_count};
+
+use crate::hub::Voter;
+use crate::reach::{reach_of, told_votes};
+use wf_actor::Process;
+use wf_mesh::{Gate, Mesh, Told};
+use wf_peer::{Greeting, NodeState, Progress};
+use wf_sockets::Network;
+use wf_tape::Tape;
+
+/// How far the node is, in this start of its folder.
+fn progress<T: Tape + Drop, N: Network>(mesh: &Mesh<N>, process: &Process<T>) -> Progress
+    ensures { IsGreetedWith mesh.now.plan.start process.now.actor.node result }
+{
+    mesh.plan.start.at(&reach_of(process.node()))
+}
+
+/// This node's greeting now, with the replacements with which it began. None: an allocation failed.
+pub(crate) fn greeting<T: Tape + Drop, N: Network>(
+    mesh: &mut Mesh<N>,
+    voter: &Voter<T>,
+) -> Option<Greeting>
+    ensures progress { IfSome result (λ said.
+        IsGreetedWith mesh.old.plan.start voter.now.process.actor.node said.progress) }
+    ensures voted { IfSome result (λ said. (known_count voter.now.membership.replacements ≡ 0)
+        ⊎ IsHighestVoted (stored_of voter.now.process.actor.node) said.voted) }
+    ensures replacements { IfSome result (λ said.
+        said.replacements ≡ voter.now.membership.replacements) }
+{
+    mesh.notes.extend(voter.process.node().history());
+    let now = progress(mesh, &voter.process);
+    let told = Told {
+        replacements: voter.membership.replacements,
+        voted: told_votes(voter.process.node(), &voter.membership.replacements)?,
+    };
+    mesh.notes.greeting(now, state_of(voter), told)
+}
+
+/// What a node does now, as its peers are told.
+pub(crate) fn state_of<T: Tape + Drop>(voter: &Voter<T>) -> NodeState {
+    match voter.gate {
+        Gate::Suspended => NodeState::Suspended,
+        Gate::Unwritten => NodeState::Halted,
+        Gate::Open | Gate::Starting => {
+            if voter.process.is_halted() {
+                NodeState::Halted
+            } else if voter.membership.joins {
+                NodeState::Joins
+            } else if voter.is_outvoted {
+                NodeState::Outvoted
+            } else {
+                NodeState::Serves
+            }
+        }
+    }
+}

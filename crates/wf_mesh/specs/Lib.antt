@@ -1,0 +1,5 @@
+pub mod Alarms
+pub mod FolderErrors
+pub mod Membership
+pub mod StartErrors
+pub mod Token

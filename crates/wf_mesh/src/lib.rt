@@ -1,0 +1,76 @@
+//! The parts of a node's loop that don't touch its process: sockets, what is known of its peers,
+//! its clock, and what it answers operators. `wf_loop` is above: it hands messages and bytes from
+//! here to the process and back.
+//!
+//! - [`Mesh`] has the connections to the peers ([`Dial`]) and from them ([`Inbound`]), and what is
+//!   known of each: whether it is heard, how its history goes with the node's, and by [`Notes`] how
+//!   far it is. It admits who greets, says why a peer isn't let in, and judges which peers' word
+//!   counts.
+//! - [`NodePlan`] says which node it is, and where the others are. [`Membership`] is what the node
+//!   goes by of replacements, constant for a run; an [`Order`] is what is to be written about them
+//!   for the next one. [`Joiner`] is a folder that joins in the place of a lost one.
+//! - [`Desk`] has the readers and the operators, who are answered from a [`NodeView`]. [`Pace`]
+//!   says what is due by the clock. [`HubParts`] has all of these, over any network
+//!   (`wf_sockets`), and [`bind`] binds their addresses.
+//! - [`NodeEvent`] is a line of the log; [`Socket`] says whose a token is.
+//!
+//! **Promises.** A peer is let in only with the folder that is taken for its node by the membership
+//! that is handed in ([`Mesh::admit`]), and a greeting has the replacements that are handed in
+//! ([`Notes::greeting`]). The membership is the plan's (`specs/Membership.antt`). A node agrees to
+//! a replacement only where its operator may ask for that and nothing stands against it, and an
+//! answer or an agreement of a peer counts for a [`Joiner`] only as `wf_rejoin` says. What is
+//! remembered of the peers is never less than what the file `heard` has ([`Notes::hold`]). An error
+//! of [`bind`] names the address that is taken (`specs/StartErrors.antt`).
+//!
+//! **Doesn't.** When a connection begins, is tried again and ends, which events the log has, what
+//! the metrics count and when something is due by the clock (but for the opening of a failed tape)
+//! has no clause: that is tested with the built program. Nor is a token's socket promised to be the
+//! one that was watched with it.
+#![tactic(auto)]
+
+mod agreement;
+mod desk;
+mod dial;
+mod dials;
+mod error_file;
+mod event;
+mod facts;
+mod folder_error;
+mod gate;
+mod inbound;
+mod inbounds;
+mod joiner;
+mod membership;
+mod mesh;
+mod notes;
+mod operators;
+mod order;
+mod pace;
+mod parts;
+mod peer_state;
+mod plan;
+mod question;
+mod socket;
+mod steps;
+mod tally;
+mod token;
+mod unlisted;
+
+pub use desk::Desk;
+pub use dial::{Dial, DialTurn};
+pub use event::{NodeEvent, PeerEnd};
+pub use folder_error::FolderError;
+pub use gate::Gate;
+pub use inbound::{Came, Inbound};
+pub use joiner::Joiner;
+pub use membership::Membership;
+pub use mesh::{INBOUND_SLOTS, Mesh, id_of};
+pub use notes::{Notes, Told};
+pub use operators::NodeView;
+pub use order::Order;
+pub use pace::{Pace, TICK_MILLIS};
+pub use parts::{HubParts, HubStart, bind};
+pub use plan::{LoopFault, NodePlan};
+pub use socket::Socket;
+pub use steps::Steps;
+pub use tally::Tally;

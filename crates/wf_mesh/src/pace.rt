@@ -1,0 +1,189 @@
+//! What a node does by the clock.
+ghost use Rattle.std.specs.Prelude.{◌≡◌, ◌≤◌, ◌↔◌, IsTrue};
+ghost use Rattle.wf_mesh.specs.Alarms.{IsDue};
+
+use crate::event::{NodeEvent, TapeFailed};
+use crate::mesh::Mesh;
+use std::io::ErrorKind;
+use std::time::Clock;
+use wf_ballot::NodeId;
+use wf_proposer::ProposalState;
+use wf_sockets::Network;
+use wf_timing::{Alarm, Backoff, SECOND, Ticker, retry_of};
+use wf_visitors::{Context, Log};
+
+/// The time between two ticks, in milliseconds.
+pub const TICK_MILLIS: u64 = 100;
+
+/// The time after which the folder says how far the node is, in milliseconds: a second at most,
+/// with what a turn takes.
+const KEEPING_MILLIS: u64 = 800;
+
+/// The least time between two attempts to open a failed tape again, in milliseconds.
+const LEAST_REOPENING: u64 = 1_000;
+
+/// The greatest time between two attempts to open a failed tape again, in milliseconds.
+const MOST_REOPENING: u64 = 2_000;
+
+/// For how long a tape has to stand before the waits begin from the least one, in milliseconds.
+const LONG_STANDING: u64 = 60_000;
+
+/// What a node does by the clock, and what was last seen of it.
+#[derive(Clone, Copy)]
+pub struct Pace {
+    node: NodeId,
+    ticks: Ticker,
+    seconds: Ticker,
+    // when the folder is written to
+    keeping: Ticker,
+    retries: Backoff,
+    retry: Option<Alarm>,
+    reopenings: Backoff,
+    reopening: Option<Alarm>,
+    // since when the tape hasn't failed
+    stands_since: u64,
+    last: ProposalState,
+    // whether a majority was heard at the last tick
+    heard_majority: bool,
+}
+
+impl Pace {
+    /// Nothing was done yet.
+    pub fn new(node: NodeId, time: u64) -> Self {
+        Pace {
+            node,
+            ticks: Ticker::new(time, TICK_MILLIS),
+            seconds: Ticker::new(time, SECOND),
+            keeping: Ticker::new(time, KEEPING_MILLIS),
+            retries: retry_of(node),
+            retry: None,
+            reopenings: Backoff::new(LEAST_REOPENING, MOST_REOPENING),
+            reopening: None,
+            stands_since: time,
+            last: ProposalState::None,
+            heard_majority: false,
+        }
+    }
+
+    /// The time until the next tick, in milliseconds.
+    pub fn rest(&self, time: u64) -> u64
+        ensures { result ≤ 100 }
+    {
+        self.ticks.due.saturating_sub(time).min(TICK_MILLIS)
+    }
+
+    /// Whether the folder is to be written to.
+    pub fn is_keeping_due(&mut self, time: u64) -> bool {
+        self.keeping.tick(time)
+    }
+
+    /// Whether it is time to open the failed tape again.
+    pub fn is_reopening_due(&self, time: u64) -> bool
+        ensures { IsTrue result ↔ IsDue self.now.reopening time }
+    {
+        match self.reopening {
+            Some(alarm) => alarm.is_due(time),
+            None => false,
+        }
+    }
+
+    /// The tape was opened again.
+    pub fn note_reopening(&mut self, time: u64) {
+        self.reopening = None;
+        self.stands_since = time;
+    }
+
+    /// The waits begin from the least one if the tape stood long enough.
+    fn begin_waits(&mut self, time: u64) {
+        if LONG_STANDING <= time.saturating_sub(self.stands_since) {
+            self.reopenings = Backoff::new(LEAST_REOPENING, MOST_REOPENING);
+        }
+    }
+
+    /// The tape couldn't be opened again: that is tried later.
+    pub fn postpone_reopening(&mut self, time: u64) {
+        self.reopening = Some(Alarm::after(time, self.reopenings.wait()));
+    }
+
+    /// Whether a tick is over.
+    pub fn is_tick(&mut self, time: u64) -> bool {
+        self.ticks.tick(time)
+    }
+
+    /// Whether a second is over.
+    pub fn is_second(&mut self, time: u64) -> bool {
+        self.seconds.tick(time)
+    }
+
+    /// Whether a running proposal is to begin again: it is time to, or a majority is heard that
+    /// wasn't.
+    pub fn is_retry_due(
+        &mut self,
+        proposal: ProposalState,
+        hears_majority: bool,
+        time: u64,
+    ) -> bool {
+        let is_back = self.notes_majority(hears_majority);
+        if !matches!(proposal, ProposalState::Running) {
+            self.retry = None;
+            self.retries = retry_of(self.node);
+            return false;
+        }
+        let is_due = is_back
+            || match self.retry {
+                Some(alarm) => alarm.is_due(time),
+                None => false,
+            };
+        if is_back {
+            self.retries = retry_of(self.node);
+        }
+        if is_due || self.retry.is_none() {
+            self.retry = Some(Alarm::after(time, self.retries.wait()));
+        }
+        is_due
+    }
+
+    /// Whether a majority is heard that wasn't before; that it is heard is noted.
+    fn notes_majority(&mut self, is_heard: bool) -> bool {
+        let is_back = is_heard && !self.heard_majority;
+        self.heard_majority = is_heard;
+        is_back
+    }
+
+    /// The tape has failed, as the system said: once, that is written, and the connections with
+    /// peers end, to which the node has nothing more to say.
+    pub fn note_failed_tape<R: Clock + Eprint, N: Network>(
+        &mut self,
+        context: &Context<'_, '_, R, N>,
+        mesh: &mut Mesh<N>,
+        cause: Option<ErrorKind>,
+    ) {
+        if self.reopening.is_some() {
+            return;
+        }
+        context.log.write(&TapeFailed {
+            tape: mesh.plan.tape.as_str(),
+            cause,
+        });
+        mesh.close_all(context.time);
+        self.begin_waits(context.time);
+        self.postpone_reopening(context.time);
+    }
+
+    /// Writes what has become of the proposal, if that is new.
+    pub fn watch_proposal<R: Clock + Eprint>(&mut self, log: &Log<'_, R>, proposal: ProposalState) {
+        if proposal == self.last {
+            return;
+        }
+        self.last = proposal;
+        match proposal {
+            ProposalState::Published(slot) => log.write(&NodeEvent::Published {
+                sequence: slot.number(),
+            }),
+            ProposalState::Overtaken(slot) => log.write(&NodeEvent::Overtaken {
+                sequence: slot.number(),
+            }),
+            ProposalState::None | ProposalState::Running => {}
+        }
+    }
+}
