@@ -1,2 +1,3 @@
 mod Messages
+pub mod Places
 mod Reports

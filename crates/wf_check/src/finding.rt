@@ -13,8 +13,6 @@ pub struct Finding<'a> {
     pub file: &'a [u8],
     /// The byte offset that the line and the column are of.
     pub offset: usize,
-    /// How many bytes of the file it takes: cut there, the file has this error too.
-    pub reach: usize,
     /// Where the reader found it; the front of the file for K1.
     pub place: Place,
     /// The line, cut at the offset.

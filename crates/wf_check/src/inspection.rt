@@ -1,20 +1,18 @@
 //! The check of a file.
-ghost use Rattle.std.specs.Prelude.{◌≡◌, ◌<◌, ◌≤◌, false, length, min, IfNone, IfOk, IfSome, OnSome};
+ghost use Rattle.std.specs.Prelude.{◌≡◌, ◌≤◌, false, length, IfNone, IfOk, IfSome};
 ghost use Rattle.wf_block.specs.ReadContract.{is_memory};
-ghost use Rattle.wf_check.specs.Finding.{HasStill, IsFinding, IsOffsetOf, IsPublishable, IsWhy};
+ghost use Rattle.wf_check.specs.Finding.{IsFinding, IsOffsetOf, IsPublishable, IsWhy};
 ghost use Rattle.wf_check.specs.Finding.{NoneIsBoth, offset_of};
 ghost use Rattle.wf_mapfile.specs.Rejection.{HasError};
-ghost use Rattle.wf_spelling.specs.Canon.{canon, most_canon_bytes};
 
 use crate::fault::CheckFault;
 use crate::finding::Finding;
 use crate::line::NumberedLine;
-use crate::place::{Spot, spot_of, spot_of_excess};
+use crate::place::last_block;
 use std::alloc::{AllocError, Global};
 use wf_block::{MapFault, Place};
-use wf_def::MapDef;
 use wf_mapfile::{MOST_MAPFILE_BYTES, Rejection, read_with_place};
-use wf_spelling::{CanonFault, text_of};
+use wf_spelling::{MOST_CANON_BYTES, text_length};
 
 /// Checks a file: `None` if it is a map whose canonical text is within the limit, so that a farm
 /// publishes it; else the first error from the left, with its line. The only error of the check
@@ -25,12 +23,13 @@ pub fn check<'a>(alloc: Global, bytes: &'a [u8]) -> Result<Option<Finding<'a>>, 
 {
     match read_with_place(alloc, bytes) {
         Ok(map) => {
-            let spot = spot_if_long(alloc, bytes, &map);
+            let length = text_length(alloc, &map);
             drop(map);
-            match spot? {
-                None => Ok(None),
-                Some(spot) => Ok(Some(finding(bytes, CheckFault::TooBig, Place::front(), spot))),
+            if length <= MOST_CANON_BYTES {
+                return Ok(None);
             }
+            let offset = last_block(alloc, CheckFault::TooBig, bytes)?;
+            Ok(Some(finding(bytes, CheckFault::TooBig, Place::front(), offset)))
         }
         Err(rejection) => Ok(Some(found(alloc, bytes, rejection)?)),
     }
@@ -48,8 +47,8 @@ fn found<'a>(
     match rejection.fault {
         MapFault::Memory => Err(AllocError),
         fault => {
-            let spot = spot_of_fault(alloc, bytes, rejection)?;
-            Ok(finding(bytes, CheckFault::Map(fault), rejection.place, spot))
+            let offset = offset_in(alloc, bytes, fault)?;
+            Ok(finding(bytes, CheckFault::Map(fault), rejection.place, offset))
         }
     }
 }
@@ -59,54 +58,28 @@ pub fn no_map_with_an_error_is_publishable()
     ensures { NoneIsBoth }
 {}
 
-/// The place at which a map's canonical text passes its limit, if it does.
-fn spot_if_long(alloc: Global, bytes: &[u8], map: &MapDef) -> Result<Option<Spot>, AllocError>
-    ensures fine { IfOk result
-        (λ spot. IfNone spot (length (canon map.now) ≤ most_canon_bytes)) }
-    ensures big { IfOk result
-        (λ spot. OnSome spot (most_canon_bytes < length (canon map.now))) }
-    ensures reach { IfOk result (λ spot. IfSome spot (λ p. p.reach ≡ length bytes.now)) }
+/// The offset of an error of the reader in the bytes.
+fn offset_in(alloc: Global, bytes: &[u8], fault: MapFault) -> Result<usize, AllocError>
+    ensures within { IfOk result (λ offset. offset ≤ length bytes.now) }
+    ensures is { IfOk result (IsOffsetOf bytes.now (CheckFault.Map fault)) }
 {
-    match text_of(alloc, map, 0) {
-        Ok(text) => {
-            drop(text);
-            Ok(None)
-        }
-        Err(CanonFault::TooBig) => Ok(Some(spot_of_excess(alloc, bytes, map)?)),
-        Err(_) => Err(AllocError),
+    match offset_of(fault) {
+        Some(offset) => Ok(offset.min(bytes.len())),
+        None => last_block(alloc, CheckFault::Map(fault), bytes),
     }
 }
 
-/// The place of an error of the reader.
-fn spot_of_fault(alloc: Global, bytes: &[u8], rejection: Rejection) -> Result<Spot, AllocError>
-    requires { HasError bytes.now rejection.fault }
-    ensures offset { IfOk result (λ spot. IsOffsetOf
-        bytes.now (CheckFault.Map rejection.fault) (min spot.offset (length bytes.now))) }
-    ensures still { IfOk result
-        (λ spot. HasStill bytes.now (CheckFault.Map rejection.fault) spot.reach) }
-{
-    match offset_of(rejection.fault) {
-        Some(offset) => Ok(Spot {
-            offset,
-            reach: bytes.len(),
-        }),
-        None => spot_of(alloc, bytes, rejection),
-    }
-}
-
-/// The finding of an error at a place, or at the end of a file that ends before.
-fn finding<'a>(bytes: &'a [u8], fault: CheckFault, place: Place, spot: Spot) -> Finding<'a>
+/// The finding of an error at an offset.
+fn finding<'a>(bytes: &'a [u8], fault: CheckFault, place: Place, offset: usize) -> Finding<'a>
+    requires within { offset ≤ length bytes.now }
     requires why { IsWhy bytes.now fault }
-    requires offset { IsOffsetOf bytes.now fault (min spot.offset (length bytes.now)) }
-    requires still { HasStill bytes.now fault spot.reach }
+    requires offset { IsOffsetOf bytes.now fault offset }
     ensures { IsFinding bytes.now result }
 {
-    let offset = spot.offset.min(bytes.len());
     Finding {
         fault,
         file: bytes,
         offset,
-        reach: spot.reach,
         place,
         line: NumberedLine::at(bytes, offset),
     }

@@ -7,16 +7,17 @@
 //! Promises, of [`check`]: there is no finding exactly where the bytes mean a map whose canonical
 //! text is within the limit, so that a farm publishes it. A finding's error is the reader's, or K1
 //! where the canonical text is too long; its offset is the error's, and its line and column are
-//! those of the offset (`specs/NumberedLine.antt`, `specs/Finding.antt`). M9 and M11 have no
-//! offset: the file cut at the finding's reach has the error too. A report has the finding's line,
-//! column and error, and a message (`specs/Message.antt`): in a block between its keywords it names
-//! exactly those of the block's reader (`keywords_of` of wf_mapfile). As JSON it is a line of
-//! exactly the object that `specs/Json.antt` says, with such a message. Tested and not proved: that
-//! M9 and M11 come with the last token before the reach, where in the file the layer or feature of
-//! K1 begins, and the rest of a message. Not here: whether the map is a good one.
+//! those of the offset (`specs/NumberedLine.antt`, `specs/Finding.antt`). M9, M11 and K1 have no
+//! offset: they are at a LAYER up to which the file, closed, is a map (for K1 one that a farm
+//! publishes), while up to the next LAYER it isn't; or likewise at a CLASS or FEATURE in it; or at
+//! the front of the file. A report has the finding's line, column and error, and a message
+//! (`specs/Message.antt`): in a block between its keywords it names exactly those of the block's
+//! reader (`keywords_of` of wf_mapfile). As JSON it is a line of exactly the object that
+//! `specs/Json.antt` says, with such a message. Tested and not proved: the rest of a message. Not
+//! here: whether the map is a good one.
 //!
-//! Where an error is, in which block and at which keyword, is the reader's (`Place` of wf_block),
-//! and the bytes of a canonical text are the writer's count (wf_spelling).
+//! In which block and at which keyword the reader was is its own word (`Place` of wf_block), and
+//! the bytes of a canonical text are the writer's count (wf_spelling).
 //!
 //! Modules: `inspection` is the check, `finding` and `fault` are what it finds; `line` finds the
 //! line of an offset, `place` the place of an error without one. `finding_report` is a finding's

@@ -43,7 +43,7 @@ impl<'a> NumberedLine<'a> {
 }
 
 #[tactic(auto, unfolding(crate::specs::NumberedLine::is_feed))]
-fn is_feed(byte: u8) -> bool
+pub(crate) fn is_feed(byte: u8) -> bool
     ensures { result ≡ is_feed byte }
 {
     byte == b'\n'

@@ -8,9 +8,8 @@ use crate::excess::explain_excess;
 use crate::fault::CheckFault;
 use crate::finding::Finding;
 use crate::line::line_of;
-use crate::place::{short_shape_of, token_at};
 use crate::shown::Quote;
-use crate::skim::{Act, ShortShape, block_at, events_of};
+use crate::skim::{Act, ShortShape, block_at, events_of, short_shape};
 use std::alloc::{AllocError, Global};
 use std::fmt::Write;
 use wf_block::{Block, MapFault};
@@ -258,9 +257,25 @@ impl<'a> Reading<'a> {
         if let (Some(block), Some(lacking)) = (place.ended, place.lacking) {
             return self.lacking(block, lacking);
         }
-        match short_shape_of(self.alloc, self.tokens, place)? {
+        match self.short_shape()? {
             Some(shape) => self.few_points(shape),
             None => self.ended(),
+        }
+    }
+
+    /// The first shape with too few points, where M9 is for one: the layer that ended last has all
+    /// keywords that it needs.
+    fn short_shape(&self) -> Result<Option<ShortShape>, AllocError> {
+        let place = self.finding.place;
+        match (place.ended, place.lacking, place.keyword) {
+            (Some(Block::Layer), None, Some(layer)) => {
+                let events = events_of(self.alloc, self.tokens)?;
+                let around = block_at(events.as_slice(), Block::Layer, layer);
+                let shape = short_shape(around, self.tokens);
+                drop(events);
+                Ok(shape)
+            }
+            _ => Ok(None),
         }
     }
 
@@ -272,7 +287,7 @@ impl<'a> Reading<'a> {
         };
         let name = block.name();
         let allowed = format!(in self.alloc; "{lacking} with {takes}")?;
-        let found = format!(in self.alloc; "the END of {name}, which has no {lacking}");
+        let found = format!(in self.alloc; "{name} without {lacking}");
         self.say(found, allowed.as_str())
     }
 
@@ -282,7 +297,7 @@ impl<'a> Reading<'a> {
         let (count, kind, fewest) = (shape.points, shape.kind, shape.fewest);
         let points = if count == 1 { "point" } else { "points" };
         let found = format!(in self.alloc;
-            "the END of POINTS with {count} {points}, in a layer of TYPE {kind}"
+            "POINTS with {count} {points}, in a layer of TYPE {kind}"
         );
         match fewest {
             1 => self.say(found, "at least 1 point"),
@@ -291,7 +306,7 @@ impl<'a> Reading<'a> {
         }
     }
 
-    /// About the first item over a limit, and how many there are.
+    /// About a limit that is passed, and how many items there are.
     fn too_many(&self) -> Result<String, AllocError>
         ensures { IfOk result (λ text. IsSaid (string_bytes text)) }
     {
@@ -299,14 +314,13 @@ impl<'a> Reading<'a> {
             return self.ended();
         };
         let events = events_of(self.alloc, self.tokens)?;
-        let around = block_at(events.as_slice(), within, self.finding.offset);
+        let last = self.finding.place.last.unwrap_or(0);
+        let around = block_at(events.as_slice(), within, last);
         let count = around.iter().filter(|event| event.act == act).count();
         drop(events);
         let over = count.saturating_sub(most);
         let allowed = format!(in self.alloc; "at most {most} {items} in {whole}")?;
-        let found = format!(in self.alloc;
-            "{whole} with {count} {items}, {over} too many: the first of these"
-        );
+        let found = format!(in self.alloc; "{whole} with {count} {items}, {over} too many");
         self.say(found, allowed.as_str())
     }
 
@@ -322,6 +336,15 @@ impl<'a> Reading<'a> {
         };
         Some((act, limit_of(act)?))
     }
+}
+
+/// The token at an offset.
+fn token_at<'a>(tokens: &[Token<'a>], offset: Option<usize>) -> Option<Token<'a>> {
+    let offset = offset?;
+    tokens
+        .iter()
+        .find(|token| token.byte_offset == offset)
+        .copied()
 }
 
 /// The END of a block, as what is allowed.

@@ -117,15 +117,6 @@ fn tokens_of(takes: Takes) -> u8 {
     }
 }
 
-/// The event at which a block of a kind begins after so many others, from a token on.
-pub(crate) fn nth(events: &[Event], from: usize, block: Block, number: usize) -> Option<Event> {
-    events
-        .iter()
-        .filter(|event| event.index >= from && event.act == Act::Begins(block))
-        .nth(number)
-        .copied()
-}
-
 /// The events of the block of a kind that begins last up to an offset, without its END.
 pub(crate) fn block_at(events: &[Event], block: Block, offset: usize) -> &[Event] {
     let mut begins = 0;
@@ -147,11 +138,10 @@ static FEWEST_POINTS: [(&str, (&str, usize)); 3] = [
     ("POLYGON", ("POLYGON", 3)),
 ];
 
-/// A shape with fewer points than its layer needs: the byte offset of its END, its points, the word
-/// of the layer's kind, and the fewest points there.
+/// A shape with fewer points than its layer needs: its points, the word of the layer's kind, and
+/// the fewest points there.
 #[derive(Clone, Copy)]
 pub(crate) struct ShortShape {
-    pub(crate) end: usize,
     pub(crate) points: usize,
     pub(crate) kind: &'static str,
     pub(crate) fewest: usize,
@@ -164,13 +154,11 @@ pub(crate) fn short_shape(layer: &[Event], tokens: &[Token<'_>]) -> Option<Short
     let (kind, fewest) = choose(&FEWEST_POINTS, word.text)?;
     let mut points = 0usize;
     for event in layer {
-        let end = event.offset;
         match event.act {
             Act::Begins(Block::Points) => points = 0,
             Act::Point => points = points.saturating_add(1),
             Act::Ends(Block::Points) if points < fewest => {
                 return Some(ShortShape {
-                    end,
                     points,
                     kind,
                     fewest,

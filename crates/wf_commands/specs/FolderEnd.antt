@@ -41,7 +41,7 @@ rejection_line why = codes "not whole, " ++ why ++ codes "\n"
 abbrev pub tape_of : ℕ → Survey → Presence
 tape_of node survey = slice_index_or survey.tapes node Absent
 
--- ---- what a start on a folder would do: of a node that has it for itself, or of the nodes of a farm
+-- ---- what a start on a folder would do: of a node that has it for itself, or of a farm's nodes
 
 -- a tape that has to be sound: the node's own, or each tape of a farm's folder
 abbrev pub is_own : Option NodeFile → ℕ → Bool
