@@ -20,12 +20,13 @@ use Rattle.wf_replica.specs.LearnedList.{learned}
 use Rattle.wf_replica_command.specs.Done.{HasServed, IsDone, IsEnd, IsServedUntil}
 use Rattle.wf_replica_command.specs.Fault.{IsFromSystem, IsOfFolder, IsPlanOf, IsReplicaFault, IsAddressTaken, plan_address, fault_of, value_of}
 use Rattle.wf_replica_command.specs.Heard.{Hears}
-use Rattle.wf_replica_command.specs.ReplicaHub.{HasAnsweredByList, HasHeardNothing, HasLearned, HasOnlyGrown, IsOfFarm, IsListOnTape, IsRefused, follower_of}
+use Rattle.wf_replica_command.specs.ReplicaHub.{HasAnsweredByList, HasHeardNothing, HasLearned, HasOnlyGrown, IsOfFarm, IsListOnTape, IsRefused, state_of}
 use Rattle.wf_replica_command.specs.declared.fault.ReplicaFault.{ReplicaFault}
 use Rattle.wf_replica_command.specs.declared.fault.ReplicaFault.TheVariants as faults
 use Rattle.wf_replica_command.specs.declared.hub.ReplicaHub.{ReplicaHub}
 use Rattle.wf_replica_command.specs.declared.hub.Turn.TheVariants as turns
 use Rattle.wf_replica_command.specs.declared.plan.ReplicaPlan.{ReplicaPlan}
+use Rattle.wf_sockets.specs.declared.connection.Connection.{Ghosts as Connection}
 use Rattle.wf_tape.specs.declared.tape.Tape.{Ghosts as Tape}
 
 -- ---- the command line
@@ -116,22 +117,22 @@ of_folder plan (faults.Taken option address) is = absurd is
 of_folder plan faults.Memory is = tt
 of_folder plan (faults.Ended why) is = absurd is
 
-system_fault : (line : ReplicaLine) (plan : ReplicaPlan) (fault : ReplicaFault) → IsPlanOf line plan → IsFromSystem plan fault → IsReplicaFault line fault
-system_fault line plan (faults.BadPeer index) planned is = absurd is
-system_fault line plan (faults.PeerCount count) planned is = absurd is
-system_fault line plan (faults.BadAddress option) planned is = absurd is
-system_fault line plan faults.Name planned is = absurd is
-system_fault line plan (faults.Folder why) planned is = tt
-system_fault line plan faults.NotEmpty planned is = tt
-system_fault line plan faults.Version planned is = tt
-system_fault line plan faults.Kind planned is = tt
-system_fault line plan faults.OtherFarm planned is = tt
-system_fault line plan faults.Poll planned is = tt
-system_fault line plan (faults.Taken option address) planned is = spelled line plan option address planned is
-system_fault line plan faults.Memory planned is = tt
-system_fault line plan (faults.Ended why) planned is = absurd is
+pub planned_fault : (line : ReplicaLine) (plan : ReplicaPlan) (fault : ReplicaFault) → IsPlanOf line plan → IsFromSystem plan fault → IsReplicaFault line fault
+planned_fault line plan (faults.BadPeer index) planned is = absurd is
+planned_fault line plan (faults.PeerCount count) planned is = absurd is
+planned_fault line plan (faults.BadAddress option) planned is = absurd is
+planned_fault line plan faults.Name planned is = absurd is
+planned_fault line plan (faults.Folder why) planned is = tt
+planned_fault line plan faults.NotEmpty planned is = tt
+planned_fault line plan faults.Version planned is = tt
+planned_fault line plan faults.Kind planned is = tt
+planned_fault line plan faults.OtherFarm planned is = tt
+planned_fault line plan faults.Poll planned is = tt
+planned_fault line plan (faults.Taken option address) planned is = spelled line plan option address planned is
+planned_fault line plan faults.Memory planned is = tt
+planned_fault line plan (faults.Ended why) planned is = absurd is
 
-folder_fault : (line : ReplicaLine) (fault : ReplicaFault) → IsOfFolder fault → IsReplicaFault line fault
+pub folder_fault : (line : ReplicaLine) (fault : ReplicaFault) → IsOfFolder fault → IsReplicaFault line fault
 folder_fault line (faults.BadPeer index) is = absurd is
 folder_fault line (faults.PeerCount count) is = absurd is
 folder_fault line (faults.BadAddress option) is = absurd is
@@ -163,24 +164,21 @@ module _ {T : Type 0} (tapes : Tape T) where
   not_begun line faults.Memory is = is
   not_begun line (faults.Ended why) is = absurd is
 
-  pub folder_done : (line : ReplicaLine) (fault : ReplicaFault) → IsOfFolder fault → IsDone tapes line (Err fault)
-  folder_done line fault is = not_begun line fault (folder_fault line fault is)
-
   pub ended_so : (line : ReplicaLine) (plan : ReplicaPlan) (result : Result (Unit {0}) ReplicaFault) → IsPlanOf line plan → IsEnd tapes plan result → IsDone tapes line result
   ended_so line plan (Ok done) planned is = is
   ended_so line plan (Err (faults.Ended why)) planned is = is
-  ended_so line plan (Err (faults.BadPeer index)) planned is = not_begun line (faults.BadPeer index) (system_fault line plan (faults.BadPeer index) planned is)
-  ended_so line plan (Err (faults.PeerCount count)) planned is = not_begun line (faults.PeerCount count) (system_fault line plan (faults.PeerCount count) planned is)
-  ended_so line plan (Err (faults.BadAddress option)) planned is = not_begun line (faults.BadAddress option) (system_fault line plan (faults.BadAddress option) planned is)
-  ended_so line plan (Err faults.Name) planned is = not_begun line faults.Name (system_fault line plan faults.Name planned is)
-  ended_so line plan (Err (faults.Folder why)) planned is = not_begun line (faults.Folder why) (system_fault line plan (faults.Folder why) planned is)
-  ended_so line plan (Err faults.NotEmpty) planned is = not_begun line faults.NotEmpty (system_fault line plan faults.NotEmpty planned is)
-  ended_so line plan (Err faults.Version) planned is = not_begun line faults.Version (system_fault line plan faults.Version planned is)
-  ended_so line plan (Err faults.Kind) planned is = not_begun line faults.Kind (system_fault line plan faults.Kind planned is)
-  ended_so line plan (Err faults.OtherFarm) planned is = not_begun line faults.OtherFarm (system_fault line plan faults.OtherFarm planned is)
-  ended_so line plan (Err faults.Poll) planned is = not_begun line faults.Poll (system_fault line plan faults.Poll planned is)
-  ended_so line plan (Err (faults.Taken option address)) planned is = not_begun line (faults.Taken option address) (system_fault line plan (faults.Taken option address) planned is)
-  ended_so line plan (Err faults.Memory) planned is = not_begun line faults.Memory (system_fault line plan faults.Memory planned is)
+  ended_so line plan (Err (faults.BadPeer index)) planned is = not_begun line (faults.BadPeer index) (planned_fault line plan (faults.BadPeer index) planned is)
+  ended_so line plan (Err (faults.PeerCount count)) planned is = not_begun line (faults.PeerCount count) (planned_fault line plan (faults.PeerCount count) planned is)
+  ended_so line plan (Err (faults.BadAddress option)) planned is = not_begun line (faults.BadAddress option) (planned_fault line plan (faults.BadAddress option) planned is)
+  ended_so line plan (Err faults.Name) planned is = not_begun line faults.Name (planned_fault line plan faults.Name planned is)
+  ended_so line plan (Err (faults.Folder why)) planned is = not_begun line (faults.Folder why) (planned_fault line plan (faults.Folder why) planned is)
+  ended_so line plan (Err faults.NotEmpty) planned is = not_begun line faults.NotEmpty (planned_fault line plan faults.NotEmpty planned is)
+  ended_so line plan (Err faults.Version) planned is = not_begun line faults.Version (planned_fault line plan faults.Version planned is)
+  ended_so line plan (Err faults.Kind) planned is = not_begun line faults.Kind (planned_fault line plan faults.Kind planned is)
+  ended_so line plan (Err faults.OtherFarm) planned is = not_begun line faults.OtherFarm (planned_fault line plan faults.OtherFarm planned is)
+  ended_so line plan (Err faults.Poll) planned is = not_begun line faults.Poll (planned_fault line plan faults.Poll planned is)
+  ended_so line plan (Err (faults.Taken option address)) planned is = not_begun line (faults.Taken option address) (planned_fault line plan (faults.Taken option address) planned is)
+  ended_so line plan (Err faults.Memory) planned is = not_begun line faults.Memory (planned_fault line plan faults.Memory planned is)
 
   pub never_begun : (plan : ReplicaPlan) (fault : ReplicaFault) → IsFromSystem plan fault → IsEnd tapes plan (Err fault)
   never_begun plan (faults.BadPeer index) is = is
@@ -197,22 +195,19 @@ module _ {T : Type 0} (tapes : Tape T) where
   never_begun plan faults.Memory is = is
   never_begun plan (faults.Ended why) is = absurd is
 
-  pub folder_ended : (plan : ReplicaPlan) (fault : ReplicaFault) → IsOfFolder fault → IsEnd tapes plan (Err fault)
-  folder_ended plan fault is = never_begun plan fault (of_folder plan fault is)
-
   -- ---- what was served
 
-  has_served : (begun hub : ReplicaHub T tapes) → HasHeardNothing tapes begun → Hears begun.asker (follower_of begun) hub.asker (follower_of hub) → HasLearned tapes hub → IsListOnTape tapes hub → IsOfFarm tapes hub →
-      HasAnsweredByList tapes hub → HasOnlyGrown tapes hub → HasServed tapes
+  has_served : {N C L : Type 0} {connections : Connection C} (begun hub : ReplicaHub T N C L tapes connections) → HasHeardNothing tapes (state_of begun) → Hears begun.asker begun.clients.renderer.follower hub.asker hub.clients.renderer.follower → HasLearned tapes (state_of hub) → IsListOnTape tapes (state_of hub) → IsOfFarm tapes (state_of hub) →
+      HasAnsweredByList tapes (state_of hub) → HasOnlyGrown tapes (state_of hub) → HasServed tapes
   has_served begun hub unheard heard lived recorded of_farm answered stayed =
-      record { begun = begun; unheard = unheard; hub = hub; heard = heard; lived = lived; recorded = recorded; of_farm = of_farm; answered = answered; stayed = stayed }
+      record { begun = state_of begun; unheard = unheard; hub = state_of hub; heard = record { goes_on = heard.goes_on; heard = heard.heard; logged = heard.logged; are = heard.are }; lived = lived; recorded = recorded; of_farm = of_farm; answered = answered; stayed = stayed }
 
-  pub served_to_the_end : (begun hub : ReplicaHub T tapes) → HasHeardNothing tapes begun → Hears begun.asker (follower_of begun) hub.asker (follower_of hub) → HasLearned tapes hub → IsListOnTape tapes hub → IsOfFarm tapes hub →
-      HasAnsweredByList tapes hub → HasOnlyGrown tapes hub → IsServedUntil tapes turns.On
+  pub served_to_the_end : {N C L : Type 0} {connections : Connection C} (begun hub : ReplicaHub T N C L tapes connections) → HasHeardNothing tapes (state_of begun) → Hears begun.asker begun.clients.renderer.follower hub.asker hub.clients.renderer.follower → HasLearned tapes (state_of hub) → IsListOnTape tapes (state_of hub) → IsOfFarm tapes (state_of hub) →
+      HasAnsweredByList tapes (state_of hub) → HasOnlyGrown tapes (state_of hub) → IsServedUntil tapes turns.On
   served_to_the_end begun hub unheard heard lived recorded of_farm answered stayed = has_served begun hub unheard heard lived recorded of_farm answered stayed
 
-  pub served_until : (why : QuestionRejection) (begun hub : ReplicaHub T tapes) → HasHeardNothing tapes begun → Hears begun.asker (follower_of begun) hub.asker (follower_of hub) → HasLearned tapes hub →
-      IsListOnTape tapes hub → IsOfFarm tapes hub → HasAnsweredByList tapes hub → HasOnlyGrown tapes hub → IsRefused tapes hub → IsServedUntil tapes (turns.Ended why)
+  pub served_until : (why : QuestionRejection) {N C L : Type 0} {connections : Connection C} (begun hub : ReplicaHub T N C L tapes connections) → HasHeardNothing tapes (state_of begun) → Hears begun.asker begun.clients.renderer.follower hub.asker hub.clients.renderer.follower → HasLearned tapes (state_of hub) →
+      IsListOnTape tapes (state_of hub) → IsOfFarm tapes (state_of hub) → HasAnsweredByList tapes (state_of hub) → HasOnlyGrown tapes (state_of hub) → IsRefused tapes (state_of hub) → IsServedUntil tapes (turns.Ended why)
   unfolding has_served
   served_until why begun hub unheard heard lived recorded of_farm answered stayed refused =
       record { served = has_served begun hub unheard heard lived recorded of_farm answered stayed; refused = refused }

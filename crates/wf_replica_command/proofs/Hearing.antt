@@ -13,13 +13,14 @@ use Rattle.wf_replica.specs.declared.follower.Follower.{Follower}
 use Rattle.wf_replica.specs.declared.misfit.AnswerFault.{AnswerFault}
 use Rattle.wf_replica_command.specs.Continuation.{IsLaterReplica}
 use Rattle.wf_replica_command.specs.Heard.{AreHeard, Course, Hears, IsFewer, IsGiven, IsHeard, IsKept, IsNoted, IsRefusal, IsRefusing, IsQuiet, IsReplyTaken, course_of}
-use Rattle.wf_replica_command.specs.ReplicaHub.{HasHeardNothing}
+use Rattle.wf_replica_command.specs.ReplicaHub.{HasHeardNothing, state_of}
 use Rattle.wf_replica_command.specs.declared.asked.Asked.{Asked}
 use Rattle.wf_replica_command.specs.declared.asker.Asker.{Asker}
 use Rattle.wf_replica_command.specs.declared.hub.ReplicaHub.{ReplicaHub}
 use Rattle.wf_replica_command.specs.declared.renderer.Renderer.{Renderer}
 use Rattle.wf_replica_command.proofs.Continuation.{goes_on_twice, stays_same}
 use Rattle.wf_replica_command.proofs.Noting.{fewer_itself, fewer_same, noted_fewer, noted_for}
+use Rattle.wf_sockets.specs.declared.connection.Connection.{Ghosts as Connection}
 use Rattle.wf_tape.specs.declared.tape.Tape.{Ghosts as Tape}
 
 settled_itself : (c : Course) → IsQuiet c c
@@ -69,72 +70,9 @@ one_heard : (a b : Course) (reply : Reply) (asked : Asked) → IsHeard reply ask
 unfolding AreHeard
 one_heard a b reply asked heard = (b, heard, settled_itself b)
 
--- ---- of a replica that asks
+-- ---- a reply
 
 module _ {T : Type 0} {tapes : Tape T} where
-  -- no reply came
-  hears_none : (asker asker' : Asker) (old new : Follower T tapes) → HasLearnedNothing old new → asker'.heard.items ≡ asker.heard.items → IsFewer asker.refusals asker'.refusals →
-      Hears asker old asker' new
-  hears_none asker asker' old new same log fewer = record {
-    goes_on = stays_same old new same;
-    heard = [];
-    logged = log ∙ sym (append-nil asker.heard.items);
-    are = none_heard (course_of old asker.refusals) (course_of new asker'.refusals) (record { kept = record { list = same.list; answers = same.answers }; refusals = fewer });
-  }
-
-  -- of the replica nothing has changed
-  hears_quiet : (asker asker' : Asker) (replica : Follower T tapes) → asker'.heard.items ≡ asker.heard.items → IsFewer asker.refusals asker'.refusals → Hears asker replica asker' replica
-  hears_quiet asker asker' replica log fewer =
-      hears_none asker asker' replica replica (record { list = refl; received = refl; answers = refl }) log fewer
-
-  pub hears_nothing : (asker : Asker) (replica : Follower T tapes) → Hears asker replica asker replica
-  hears_nothing asker replica =
-      hears_none asker asker replica replica (record { list = refl; received = refl; answers = refl }) refl (fewer_itself asker.refusals)
-
-  -- nothing came, or nothing that counts
-  pub hears_still : (asker asker' : Asker) (replica : Follower T tapes) → asker'.heard.items ≡ asker.heard.items → asker'.refusals ≡ asker.refusals → Hears asker replica asker' replica
-  hears_still asker asker' replica log refusals = hears_quiet asker asker' replica log (fewer_same asker.refusals asker'.refusals refusals)
-
-  -- the connection ended
-  pub hears_end : (source : ℕ) (asker asker' : Asker) (items : List (Reply × Asked)) (replica : Follower T tapes) → IsNoted source (IsSome {T = QuestionRejection} None) asker.refusals asker'.refusals →
-      asker'.heard.items ≡ items → items ≡ asker.heard.items → Hears asker replica asker' replica
-  hears_end source asker asker' items replica noted log before =
-      hears_quiet asker asker' replica (log ∙ before) (noted_fewer source asker.refusals asker.refusals asker'.refusals noted refl)
-
-  hears_once : (asker asker' : Asker) (old new : Follower T tapes) (reply : Reply) (asked : Asked) → IsLaterReplica old new → asker'.heard.items ≡ asker.heard.items ++ (reply, asked) ∷ [] →
-      IsHeard reply asked (course_of old asker.refusals) (course_of new asker'.refusals) → Hears asker old asker' new
-  hears_once asker asker' old new reply asked goes_on log heard = record {
-    goes_on = goes_on;
-    heard = (reply, asked) ∷ [];
-    logged = log;
-    are = one_heard (course_of old asker.refusals) (course_of new asker'.refusals) reply asked heard;
-  }
-
-  pub hears_twice : (first second third : Asker) (a b c : Follower T tapes) → Hears first a second b → Hears second b third c → Hears first a third c
-  hears_twice first second third a b c one two = record {
-    goes_on = goes_on_twice a b c one.goes_on two.goes_on;
-    heard = one.heard ++ two.heard;
-    logged = two.logged ∙ ap (λ (l : List (Reply × Asked)). l ++ two.heard) one.logged ∙ append_assoc first.heard.items one.heard two.heard;
-    are = are_heard_twice (course_of a first.refusals) (course_of b second.refusals) (course_of c third.refusals) one.heard two.heard one.are two.are;
-  }
-
-  pub hears_reply : (asker asker' : Asker) (items : List (Reply × Asked)) (old new : Follower T tapes) (reply : Reply) (asked : Asked) → IsLaterReplica old new →
-      IsHeard reply asked (course_of old asker.refusals) (course_of new asker'.refusals) → items ≡ asker.heard.items ++ (reply, asked) ∷ [] → asker'.heard.items ≡ items → Hears asker old asker' new
-  hears_reply asker asker' items old new reply asked goes_on heard before log = hears_once asker asker' old new reply asked goes_on (log ∙ before) heard
-
-  -- what came, then who was silent, then what was asked
-  pub hears_turn : (first second third fourth : Asker) (a b c : Follower T tapes) → Hears first a second b → third.heard.items ≡ second.heard.items → IsFewer second.refusals third.refusals →
-      Hears third b fourth c → Hears first a fourth c
-  hears_turn first second third fourth a b c one log fewer two =
-      hears_twice first third fourth a b c (hears_twice first second third a b b one (hears_quiet second third b log fewer)) two
-
-  -- a question was put, and then something came
-  pub hears_asked : (first second third : Asker) (a b c : Follower T tapes) → HasLearnedNothing a b → second.heard.items ≡ first.heard.items → IsFewer first.refusals second.refusals →
-      Hears second b third c → Hears first a third c
-  hears_asked first second third a b c same log fewer after = hears_twice first second third a b c (hears_none first second a b same log fewer) after
-
-  -- ---- a reply
-
   pub given_by : (q : Question) (a : ReaderAnswer) (outcome : Result (Unit {0}) AnswerFault) (old new : Follower T tapes) (before after : List Bool) → AnswerLeaves (list_of old) q a outcome (list_of new) →
       answers_of new ≡ answers_of old ++ (a, q) ∷ [] → IsGiven q a (course_of old before) (course_of new after)
   given_by q a outcome old new before after leaves answers = record { outcome = outcome; leaves = leaves; answers = answers }
@@ -150,18 +88,82 @@ module _ {T : Type 0} {tapes : Tape T} where
   heard_rejection source q why refusal replica before after noted refuses =
       record { taken = record { list = refl; answers = refl }; noted = noted_for source before after noted refuses }
 
+-- ---- of a replica that asks
+
+module _ {T N C L : Type 0} {tapes : Tape T} {connections : Connection C} where
+  -- no reply came
+  hears_none : (asker asker' : Asker N C L connections) (old new : Follower T tapes) → HasLearnedNothing old new → asker'.heard.items ≡ asker.heard.items → IsFewer asker.refusals asker'.refusals →
+      Hears asker old asker' new
+  hears_none asker asker' old new same log fewer = record {
+    goes_on = stays_same old new same;
+    heard = [];
+    logged = log ∙ sym (append-nil asker.heard.items);
+    are = none_heard (course_of old asker.refusals) (course_of new asker'.refusals) (record { kept = record { list = same.list; answers = same.answers }; refusals = fewer });
+  }
+
+  -- of the replica nothing has changed
+  hears_quiet : (asker asker' : Asker N C L connections) (replica : Follower T tapes) → asker'.heard.items ≡ asker.heard.items → IsFewer asker.refusals asker'.refusals → Hears asker replica asker' replica
+  hears_quiet asker asker' replica log fewer =
+      hears_none asker asker' replica replica (record { list = refl; received = refl; answers = refl }) log fewer
+
+  pub hears_nothing : (asker : Asker N C L connections) (replica : Follower T tapes) → Hears asker replica asker replica
+  hears_nothing asker replica =
+      hears_none asker asker replica replica (record { list = refl; received = refl; answers = refl }) refl (fewer_itself asker.refusals)
+
+  -- nothing came, or nothing that counts
+  pub hears_still : (asker asker' : Asker N C L connections) (replica : Follower T tapes) → asker'.heard.items ≡ asker.heard.items → asker'.refusals ≡ asker.refusals → Hears asker replica asker' replica
+  hears_still asker asker' replica log refusals = hears_quiet asker asker' replica log (fewer_same asker.refusals asker'.refusals refusals)
+
+  -- the connection ended
+  pub hears_end : (source : ℕ) (asker asker' : Asker N C L connections) (items : List (Reply × Asked)) (replica : Follower T tapes) → IsNoted source (IsSome {T = QuestionRejection} None) asker.refusals asker'.refusals →
+      asker'.heard.items ≡ items → items ≡ asker.heard.items → Hears asker replica asker' replica
+  hears_end source asker asker' items replica noted log before =
+      hears_quiet asker asker' replica (log ∙ before) (noted_fewer source asker.refusals asker.refusals asker'.refusals noted refl)
+
+  hears_once : (asker asker' : Asker N C L connections) (old new : Follower T tapes) (reply : Reply) (asked : Asked) → IsLaterReplica old new → asker'.heard.items ≡ asker.heard.items ++ (reply, asked) ∷ [] →
+      IsHeard reply asked (course_of old asker.refusals) (course_of new asker'.refusals) → Hears asker old asker' new
+  hears_once asker asker' old new reply asked goes_on log heard = record {
+    goes_on = goes_on;
+    heard = (reply, asked) ∷ [];
+    logged = log;
+    are = one_heard (course_of old asker.refusals) (course_of new asker'.refusals) reply asked heard;
+  }
+
+  pub hears_twice : (first second third : Asker N C L connections) (a b c : Follower T tapes) → Hears first a second b → Hears second b third c → Hears first a third c
+  hears_twice first second third a b c one two = record {
+    goes_on = goes_on_twice a b c one.goes_on two.goes_on;
+    heard = one.heard ++ two.heard;
+    logged = two.logged ∙ ap (λ (l : List (Reply × Asked)). l ++ two.heard) one.logged ∙ append_assoc first.heard.items one.heard two.heard;
+    are = are_heard_twice (course_of a first.refusals) (course_of b second.refusals) (course_of c third.refusals) one.heard two.heard one.are two.are;
+  }
+
+  pub hears_reply : (asker asker' : Asker N C L connections) (items : List (Reply × Asked)) (old new : Follower T tapes) (reply : Reply) (asked : Asked) → IsLaterReplica old new →
+      IsHeard reply asked (course_of old asker.refusals) (course_of new asker'.refusals) → items ≡ asker.heard.items ++ (reply, asked) ∷ [] → asker'.heard.items ≡ items → Hears asker old asker' new
+  hears_reply asker asker' items old new reply asked goes_on heard before log = hears_once asker asker' old new reply asked goes_on (log ∙ before) heard
+
+  -- what came, then who was silent, then what was asked
+  pub hears_turn : (first second third fourth : Asker N C L connections) (a b c : Follower T tapes) → Hears first a second b → third.heard.items ≡ second.heard.items → IsFewer second.refusals third.refusals →
+      Hears third b fourth c → Hears first a fourth c
+  hears_turn first second third fourth a b c one log fewer two =
+      hears_twice first third fourth a b c (hears_twice first second third a b b one (hears_quiet second third b log fewer)) two
+
+  -- a question was put, and then something came
+  pub hears_asked : (first second third : Asker N C L connections) (a b c : Follower T tapes) → HasLearnedNothing a b → second.heard.items ≡ first.heard.items → IsFewer first.refusals second.refusals →
+      Hears second b third c → Hears first a third c
+  hears_asked first second third a b c same log fewer after = hears_twice first second third a b c (hears_none first second a b same log fewer) after
+
   -- what came afterwards leaves the replica as it is
-  pub hears_then : (first second : Asker) (a b c : Follower T tapes) → Hears first a second b → HasLearnedNothing b c → Hears first a second c
+  pub hears_then : (first second : Asker N C L connections) (a b c : Follower T tapes) → Hears first a second b → HasLearnedNothing b c → Hears first a second c
   hears_then first second a b c one same =
       hears_twice first second second a b c one (hears_none second second b c same refl (fewer_itself second.refusals))
 
   -- what it hears of its sources, and what leaves it as it is
-  pub acted : (first second : Asker) (a b c d e : Renderer T tapes) → Hears first a.follower second b.follower → c ≡ b → HasLearnedNothing c.follower d.follower → e ≡ d → Hears first a.follower second e.follower
+  pub acted : (first second : Asker N C L connections) (a b c d e : Renderer T tapes) → Hears first a.follower second b.follower → c ≡ b → HasLearnedNothing c.follower d.follower → e ≡ d → Hears first a.follower second e.follower
   acted first second a b c d e heard same served kept =
       subst (λ (r : Renderer T tapes). Hears first a.follower second r.follower) (sym kept)
       (hears_then first second a.follower c.follower d.follower (subst (λ (r : Renderer T tapes). Hears first a.follower second r.follower) (sym same) heard) served)
 
 -- a hub whose replica hasn't asked yet
-pub nothing_heard : {T : Type 0} (tapes : Tape T) (hub : ReplicaHub T tapes) (asker : Asker) → hub.asker ≡ asker → asker.heard.items ≡ [] → IsFewer [] asker.refusals → HasHeardNothing tapes hub
-nothing_heard tapes hub asker is heard refusals =
-    record { heard = ap (λ (a : Asker). a.heard.items) is ∙ heard; refusals = subst (λ (a : Asker). IsFewer [] a.refusals) (sym is) refusals }
+pub nothing_heard : {T N C L : Type 0} (tapes : Tape T) {connections : Connection C} (hub : ReplicaHub T N C L tapes connections) (asker : Asker N C L connections) → hub.asker ≡ asker → asker.heard.items ≡ [] → IsFewer [] asker.refusals → HasHeardNothing tapes (state_of hub)
+nothing_heard {N = N} {C = C} {L = L} tapes {connections = connections} hub asker is heard refusals =
+    record { heard = ap (λ (a : Asker N C L connections). a.heard.items) is ∙ heard; refusals = subst (λ (a : Asker N C L connections). IsFewer [] a.refusals) (sym is) refusals }

@@ -10,6 +10,7 @@ use Rattle.wf_replica_command.specs.Heard.{Hears}
 use Rattle.wf_replica_command.specs.declared.asker.Asker.{Asker}
 use Rattle.wf_replica_command.proofs.Continuation.{goes_on_twice, stays_same}
 use Rattle.wf_replica_command.specs.declared.renderer.Renderer.{Renderer}
+use Rattle.wf_sockets.specs.declared.connection.Connection.{Ghosts as Connection}
 use Rattle.wf_tape.specs.declared.tape.Tape.{Ghosts as Tape}
 
 module _ {T : Type 0} (tapes : Tape T) where
@@ -28,7 +29,7 @@ module _ {T : Type 0} (tapes : Tape T) where
   still_in_order replicas old new on are = ∥∥₁_map are (λ they. later replicas old new on they)
 
   -- where the present one hears its sources
-  pub still_heard : (replicas : List (Renderer T tapes × ℕ)) (asker asker' : Asker) (old new : Follower T tapes) → Hears asker old asker' new → ∥ AreInOrder tapes replicas old ∥₁ →
+  pub still_heard : {N C L : Type 0} {connections : Connection C} (replicas : List (Renderer T tapes × ℕ)) (asker asker' : Asker N C L connections) (old new : Follower T tapes) → Hears asker old asker' new → ∥ AreInOrder tapes replicas old ∥₁ →
       ∥ AreInOrder tapes replicas new ∥₁
   still_heard replicas asker asker' old new heard are = still_in_order replicas old new heard.goes_on are
 

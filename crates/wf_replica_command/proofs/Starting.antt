@@ -1,14 +1,13 @@
 -- The calls of a start, one after the other.
-use Rattle.std.proofs.Common.{◌≡◌, ◌∙◌, ℕ, List, ◌∷◌, ap, inl, inr, refl, subst, sym}
+use Rattle.std.proofs.Common.{◌≡◌, ◌⊎◌, ◌∙◌, ℕ, List, ◌∷◌, ap, inl, inr, refl, subst, sym}
 use Rattle.std.specs.Prelude.{None, Result, Err}
 use Rattle.wf_line.specs.declared.replica_line.ReplicaLine.{ReplicaLine}
-use Rattle.wf_replica_command.specs.Fault.{IsOfFolder, IsReplicaFault}
-use Rattle.wf_replica_command.specs.Start.{HasServedClients, IsBegun, IsClaimed, IsReplicaRun, IsStarted, IsTapeLookedFor, IsUnclaimed}
+use Rattle.wf_replica_command.specs.Fault.{IsReplicaFault}
+use Rattle.wf_replica_command.specs.Start.{HasServedClients, IsClaimed, IsReplicaRun, IsStarted, IsTapeLookedFor, IsUnclaimed, IsUnstarted}
 use Rattle.wf_replica_command.specs.declared.fault.ReplicaFault.{ReplicaFault}
 use Rattle.wf_replica_command.specs.declared.fault.ReplicaFault.TheVariants as faults
 use Rattle.wf_store.specs.Call.{Call, OnlyReads, locked, counted, read, opened, replaced, failed, failed_at}
 use Rattle.wf_store.specs.CallTheorems.{reads_both}
-use Rattle.wf_store.specs.declared.fault.FolderFault.{FolderFault}
 use Rattle.wf_store.specs.declared.file_name.FileName.TheVariants.{Farm, ReplicaTape}
 
 -- ---- the file `farm`
@@ -35,23 +34,39 @@ tape_unopened old looked new reads is = subst (λ (calls : List Call). IsTapeLoo
 
 -- ---- a start
 
--- a folder's errors end no replica that served
-of_folder : (fault : ReplicaFault) → IsOfFolder fault → HasServedClients (Err fault) → ⊥
-of_folder (faults.Ended why) is has = absurd is
-of_folder (faults.BadPeer index) is has = absurd has
-of_folder (faults.PeerCount count) is has = absurd has
-of_folder (faults.BadAddress option) is has = absurd has
-of_folder faults.Name is has = absurd has
-of_folder (faults.Folder why) is has = absurd has
-of_folder faults.NotEmpty is has = absurd has
-of_folder faults.Version is has = absurd has
-of_folder faults.Kind is has = absurd has
-of_folder faults.OtherFarm is has = absurd has
-of_folder faults.Poll is has = absurd has
-of_folder (faults.Taken option address) is has = absurd has
-of_folder faults.Memory is has = absurd has
+pub begun_by : (text : List ℕ) (held claimed new : List Call) → IsClaimed text held claimed → IsTapeLookedFor claimed new → IsStarted text held new
+begun_by text held claimed new farm tape = record { claimed = claimed; farm = farm; tape = tape }
 
--- nor do bad words
+pub started_by : (text : List ℕ) (held claimed new : List Call) → IsClaimed text held claimed → IsTapeLookedFor claimed new → IsStarted text held new ⊎ IsUnclaimed held new
+started_by text held claimed new farm tape = inl (begun_by text held claimed new farm tape)
+
+-- a folder that isn't taken
+pub not_claimed : (text : List ℕ) (held new : List Call) → IsUnclaimed held new → IsStarted text held new ⊎ IsUnclaimed held new
+not_claimed text held new is = inr is
+
+-- the folder was locked before
+pub started_on : (text : List ℕ) (old held new : List Call) → held ≡ locked ∷ old → IsStarted text held new → IsStarted text (locked ∷ old) new
+started_on text old held new is started = subst (λ (calls : List Call). IsStarted text calls new) is started
+
+pub unstarted_on : (text : List ℕ) (old held new : List Call) → held ≡ locked ∷ old → IsStarted text held new ⊎ IsUnclaimed held new → IsUnstarted text old new
+unstarted_on text old held new is why =
+    elim (subst (λ (calls : List Call). IsStarted text calls new ⊎ IsUnclaimed calls new) is why) [ inl started ↦ inl started | inr unclaimed ↦ inr (inl unclaimed) ]
+
+-- it couldn't be locked
+pub not_locked : (text : List ℕ) (old new : List Call) → new ≡ failed ∷ old → IsUnstarted text old new
+not_locked text old new is = inr (inr (inl is))
+
+-- a word of the command line is bad
+pub not_touched : (text : List ℕ) (calls : List Call) → IsUnstarted text calls calls
+not_touched text calls = inr (inr (inr refl))
+
+-- a replica that started has, where it doesn't begin to serve
+pub started_so : (text : List ℕ) (old new : List Call) → IsStarted text (locked ∷ old) new → IsUnstarted text old new
+started_so text old new started = inl started
+
+-- ---- a run
+
+-- what ends a replica that served isn't why another doesn't start
 bad_words : (line : ReplicaLine) (fault : ReplicaFault) → IsReplicaFault line fault → HasServedClients (Err fault) → ⊥
 bad_words line (faults.Ended why) is has = absurd is
 bad_words line (faults.BadPeer index) is has = absurd has
@@ -67,28 +82,8 @@ bad_words line faults.Poll is has = absurd has
 bad_words line (faults.Taken option address) is has = absurd has
 bad_words line faults.Memory is has = absurd has
 
--- a folder that is a replica's, and what came of it
-pub begun_so : (text : List ℕ) (held claimed new : List Call) (result : Result (Unit {0}) ReplicaFault) → IsClaimed text held claimed → IsTapeLookedFor claimed new → IsBegun text held new result
-begun_so text held claimed new result farm tape =
-    let started : IsStarted text held new = record { claimed = claimed; farm = farm; tape = tape } in
-    record { served = λ _. started; others = inl started }
+pub run_served : (text : List ℕ) (old new : List Call) (result : Result (Unit {0}) ReplicaFault) → IsStarted text (locked ∷ old) new → IsReplicaRun text old new result
+run_served text old new result started = record { served = λ _. started; others = inl started }
 
--- a folder that isn't taken
-pub not_begun : (text : List ℕ) (held new : List Call) (fault : ReplicaFault) → IsOfFolder fault → IsUnclaimed held new → IsBegun text held new (Err fault)
-not_begun text held new fault is unclaimed = record { served = λ has. absurd (of_folder fault is has); others = inr unclaimed }
-
--- ---- a run
-
--- the folder was locked
-pub run_so : (text : List ℕ) (old held new : List Call) (result : Result (Unit {0}) ReplicaFault) → held ≡ locked ∷ old → IsBegun text held new result → IsReplicaRun text old new result
-run_so text old held new result is begun =
-    let here : IsBegun text (locked ∷ old) new result = subst (λ (calls : List Call). IsBegun text calls new result) is begun in
-    record { served = here.served; others = elim here.others [ inl started ↦ inl started | inr unclaimed ↦ inr (inl unclaimed) ] }
-
--- it wasn't
-pub not_locked : (text : List ℕ) (old new : List Call) (fault : FolderFault) → new ≡ failed ∷ old → IsReplicaRun text old new (Err (faults.Folder fault))
-not_locked text old new fault is = record { served = λ has. absurd has; others = inr (inr (inl is)) }
-
--- a word of the command line is bad
-pub not_run : (text : List ℕ) (calls : List Call) (line : ReplicaLine) (fault : ReplicaFault) → IsReplicaFault line fault → IsReplicaRun text calls calls (Err fault)
-not_run text calls line fault is = record { served = λ has. absurd (bad_words line fault is has); others = inr (inr (inr refl)) }
+pub not_run : (line : ReplicaLine) (text : List ℕ) (old new : List Call) (fault : ReplicaFault) → IsReplicaFault line fault → IsUnstarted text old new → IsReplicaRun text old new (Err fault)
+not_run line text old new fault is unstarted = record { served = λ has. absurd (bad_words line fault is has); others = unstarted }

@@ -2,11 +2,9 @@
 use Rattle.std.specs.Prelude.{ℕ, Result, Ok, Err}
 use Rattle.wf_line.specs.declared.replica_line.ReplicaLine.{ReplicaLine}
 use Rattle.wf_replica_command.specs.Fault.{IsFromSystem, IsReplicaFault, fault_status}
-use Rattle.wf_replica_command.specs.Heard.{Hears}
-use Rattle.wf_replica_command.specs.ReplicaHub.{HasAnsweredByList, HasHeardNothing, HasLearned, HasOnlyGrown, IsOfFarm, IsListOnTape, IsRefused, follower_of}
+use Rattle.wf_replica_command.specs.ReplicaHub.{HasAnsweredByList, HasHeard, HasHeardNothing, HasLearned, HasOnlyGrown, IsOfFarm, IsListOnTape, IsRefused, ReplicaState}
 use Rattle.wf_replica_command.specs.declared.fault.ReplicaFault.{ReplicaFault}
 use Rattle.wf_replica_command.specs.declared.fault.ReplicaFault.TheVariants as faults
-use Rattle.wf_replica_command.specs.declared.hub.ReplicaHub.{ReplicaHub}
 use Rattle.wf_replica_command.specs.declared.hub.Turn.{Turn}
 use Rattle.wf_replica_command.specs.declared.hub.Turn.TheVariants as turns
 use Rattle.wf_replica_command.specs.declared.plan.ReplicaPlan.{ReplicaPlan}
@@ -18,10 +16,10 @@ module _ {T : Type 0} (tapes : Tape T) where
   -- and what its tape has; each client was answered from the list as it then was; and the list
   -- never went back.
   pub record HasServed : Type 0 where
-    pub begun : ReplicaHub T tapes
+    pub begun : ReplicaState tapes
     pub unheard : HasHeardNothing tapes begun
-    pub hub : ReplicaHub T tapes
-    pub heard : Hears begun.asker (follower_of begun) hub.asker (follower_of hub)
+    pub hub : ReplicaState tapes
+    pub heard : HasHeard tapes begun hub
     pub lived : HasLearned tapes hub
     pub recorded : IsListOnTape tapes hub
     pub of_farm : IsOfFarm tapes hub

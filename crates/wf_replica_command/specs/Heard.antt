@@ -14,6 +14,7 @@ use Rattle.wf_replica.specs.declared.misfit.AnswerFault.{AnswerFault}
 use Rattle.wf_replica_command.specs.Continuation.{IsLaterReplica}
 use Rattle.wf_replica_command.specs.declared.asked.Asked.{Asked}
 use Rattle.wf_replica_command.specs.declared.asker.Asker.{Asker}
+use Rattle.wf_sockets.specs.declared.connection.Connection.{Ghosts as Connection}
 use Rattle.wf_tape.specs.declared.tape.Tape.{Ghosts as Tape}
 
 -- a replica's list, the answers that it was given, and for each of its sources whether it refuses
@@ -78,7 +79,7 @@ AreHeard old [] new = IsQuiet old new
 AreHeard old (x ∷ heard) new = (next : Course) × IsHeard x.0 x.1 old next × AreHeard next heard new
 
 -- The replica goes on by what it hears of its sources.
-pub record Hears {T : Type 0} {tapes : Tape T} (old_asker : Asker) (old : Follower T tapes) (new_asker : Asker) (new : Follower T tapes) : Type 0 where
+pub record Hears {T N C L : Type 0} {tapes : Tape T} {connections : Connection C} (old_asker : Asker N C L connections) (old : Follower T tapes) (new_asker : Asker N C L connections) (new : Follower T tapes) : Type 0 where
   pub goes_on : IsLaterReplica old new
   pub heard : List (Reply × Asked)
   pub logged : new_asker.heard.items ≡ old_asker.heard.items ++ heard

@@ -29,17 +29,16 @@ pub record IsStarted (text : List ℕ) (held new : List Call) : Type 0 where
   pub farm : IsClaimed text held claimed
   pub tape : IsTapeLookedFor claimed new
 
+-- No replica started, or it ended before it served: its folder was locked, and it started there or
+-- the folder wasn't taken; or it wasn't locked, or not touched.
+abbrev pub IsUnstarted : List ℕ → List Call → List Call → Type 0
+IsUnstarted text old new = IsStarted text (locked ∷ old) new ⊎ IsUnclaimed (locked ∷ old) new ⊎ (new ≡ failed ∷ old) ⊎ (new ≡ old)
+
 -- The replica served: for all its turns, or until its sources ended it.
 abbrev pub HasServedClients : Result (Unit {0}) ReplicaFault → Type 0
 HasServedClients (Ok done) = ⊤
 HasServedClients (Err (faults.Ended why)) = ⊤
 HasServedClients (Err fault) = ⊥
-
--- What a run did to a folder that it had locked: a replica started, or, if it didn't serve, the
--- folder wasn't taken.
-pub record IsBegun (text : List ℕ) (held new : List Call) (result : Result (Unit {0}) ReplicaFault) : Type 0 where
-  pub served : HasServedClients result → IsStarted text held new
-  pub others : IsStarted text held new ⊎ IsUnclaimed held new
 
 -- What a run did to its folder: it was locked first, and then as above; or, if the replica didn't
 -- serve, it wasn't locked, or not touched.

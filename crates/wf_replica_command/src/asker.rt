@@ -10,14 +10,15 @@ use std::net::SocketAddr;
 use wf_past::Past;
 use wf_reader::{Answerer, QuestionRejection, Reply};
 use wf_replica::{Asking, Refusals};
+use wf_sockets::Network;
 
 /// Whom a replica asks, and what it has heard of the farm. A clause sees a log that only proofs
 /// read: each reply to a question that was open, with that question.
 #[derive(Drop)]
-pub(crate) struct Asker {
+pub(crate) struct Asker<N: Network> {
     pub(crate) sources: Vec<SocketAddr>,
     pub(crate) asking: Asking,
-    pub(crate) source: Option<SourceConnection>,
+    pub(crate) source: Option<SourceConnection<N::Connection>>,
     // the one to which the connection is, and whether the log's last line about it says that it is
     // asked
     pub(crate) of: usize,

@@ -15,6 +15,7 @@ use std::time::Clock;
 use wf_operator::PictureCounts;
 use wf_past::Past;
 use wf_replica::Follower;
+use wf_sockets::Network;
 use wf_tape::Tape;
 use wf_visitors::{Context, Visitors};
 
@@ -24,20 +25,20 @@ const MOST_SERVED: usize = 8;
 /// A replica and its clients. A clause sees a log that only proofs read: for each client that was
 /// answered, in order, the replica as it then was.
 #[derive(Drop)]
-pub struct ReplicaClients<T: Tape> {
-    pub(crate) visitors: Visitors,
+pub struct ReplicaClients<T: Tape, N: Network> {
+    pub(crate) visitors: Visitors<N>,
     pub(crate) renderer: Renderer<T>,
     pub(crate) asked: Past<Renderer<T>, usize>,
     ghost answered: { ∥ AreAnswered T.Tape asked.items (responses_of visitors) ∥₁ },
     ghost in_order: { ∥ AreInOrder T.Tape asked.items renderer.follower ∥₁ },
 }
 
-impl<T: Tape + Drop> ReplicaClients<T> {
+impl<T: Tape + Drop, N: Network> ReplicaClients<T, N> {
     ghost use Rattle.std.specs.Prelude.{[]};
 
     /// Nobody was answered yet.
     #[tactic(auto, using(crate::proofs::Answers::none_answered, crate::proofs::Order::none_in_order))]
-    pub(crate) fn new(visitors: Visitors, follower: Follower<T>) -> Self
+    pub(crate) fn new(visitors: Visitors<N>, follower: Follower<T>) -> Self
         requires { responses_of visitors ≡ [] }
         ensures { result.renderer.follower ≡ follower }
     {
@@ -66,8 +67,8 @@ impl<T: Tape + Drop> ReplicaClients<T> {
     #[tactic(auto, using(crate::proofs::Order::still_heard))]
     pub(crate) fn ask<R: Net + Clock + Eprint + AllocGlobal>(
         &mut self,
-        context: &Context<'_, '_, R>,
-        asker: &mut Asker,
+        context: &Context<'_, '_, R, N>,
+        asker: &mut Asker<N>,
     )
         ensures { Hears asker.old self.old.renderer.follower asker.new self.new.renderer.follower }
     {
@@ -75,14 +76,17 @@ impl<T: Tape + Drop> ReplicaClients<T> {
     }
 
     /// Accepts clients.
-    pub(crate) fn accept<R: Clock + Eprint + AllocGlobal>(&mut self, context: &Context<'_, '_, R>)
+    pub(crate) fn accept<R: Clock + Eprint + AllocGlobal>(
+        &mut self,
+        context: &Context<'_, '_, R, N>,
+    )
         ensures { self.new.renderer ≡ self.old.renderer }
     {
         self.visitors.accept(context);
     }
 
     /// What came for the client in a slot, or was taken by it.
-    pub(crate) fn turn<R: AllocGlobal>(&mut self, context: &Context<'_, '_, R>, index: usize)
+    pub(crate) fn turn<R: AllocGlobal>(&mut self, context: &Context<'_, '_, R, N>, index: usize)
         ensures { self.new.renderer ≡ self.old.renderer }
     {
         self.visitors.turn(context, index);
@@ -99,7 +103,7 @@ impl<T: Tape + Drop> ReplicaClients<T> {
     #[tactic(auto, using(crate::proofs::Continuation::same_itself, crate::proofs::Continuation::same_twice))]
     pub(crate) fn serve<R: Clock + Eprint + AllocGlobal>(
         &mut self,
-        context: &Context<'_, '_, R>,
+        context: &Context<'_, '_, R, N>,
     ) -> bool
         ensures { HasLearnedNothing self.old.renderer.follower self.new.renderer.follower }
     {
@@ -116,7 +120,7 @@ impl<T: Tape + Drop> ReplicaClients<T> {
     #[tactic(auto, using(crate::proofs::Answers::one_more_answered, crate::proofs::Order::next_in_order, crate::proofs::Order::stays_in_order, crate::proofs::Order::kept))]
     fn serve_one<R: Clock + Eprint + AllocGlobal>(
         &mut self,
-        context: &Context<'_, '_, R>,
+        context: &Context<'_, '_, R, N>,
         index: usize,
     )
         ensures { HasLearnedNothing self.old.renderer.follower self.new.renderer.follower }

@@ -19,10 +19,11 @@ use wf_folder::FarmName;
 use wf_past::Past;
 use wf_reader::{Answerer, MOST_DISTANCE, Question, QuestionRejection, ReaderAnswer, Reply};
 use wf_replica::{AnswerFault, Asking, Follower, Misfit, Refusals};
+use wf_sockets::Network;
 use wf_tape::Tape;
 use wf_visitors::Context;
 
-impl Asker {
+impl<N: Network> Asker<N> {
     /// Nobody was asked yet. The first is that of this number, counted round. `is_new`: the replica
     /// begins with no map. The only error is allocation failure.
     #[tactic(auto, using(crate::proofs::Noting::none_refuses, crate::proofs::Noting::one_each))]
@@ -84,7 +85,7 @@ impl Asker {
     #[tactic(auto, using(crate::proofs::Hearing::hears_turn))]
     pub(crate) fn go_on<R: Net + Clock + Eprint + AllocGlobal, T: Tape + Drop>(
         &mut self,
-        context: &Context<'_, '_, R>,
+        context: &Context<'_, '_, R, N>,
         follower: &mut Follower<T>,
     )
         ensures { Hears self.old follower.old self.new follower.new }
@@ -96,7 +97,7 @@ impl Asker {
 
     /// Leaves a source that was silent for too long.
     #[tactic(auto, using(crate::proofs::Noting::noted_fewer, crate::proofs::Noting::fewer_same))]
-    fn give_up<R: Clock + Eprint>(&mut self, context: &Context<'_, '_, R>)
+    fn give_up<R: Clock + Eprint>(&mut self, context: &Context<'_, '_, R, N>)
         ensures heard { self.new.heard.items ≡ self.old.heard.items }
         ensures refusals { IsFewer self.old.refusals self.new.refusals }
     {
@@ -109,7 +110,7 @@ impl Asker {
     #[tactic(auto, using(crate::proofs::Hearing::hears_still, crate::proofs::Hearing::hears_end, crate::proofs::Hearing::hears_reply))]
     fn receive<R: Net + Clock + Eprint + AllocGlobal, T: Tape + Drop>(
         &mut self,
-        context: &Context<'_, '_, R>,
+        context: &Context<'_, '_, R, N>,
         follower: &mut Follower<T>,
     )
         ensures { Hears self.old follower.old self.new follower.new }
@@ -132,7 +133,7 @@ impl Asker {
     #[tactic(auto, using(crate::proofs::Continuation::stays, crate::proofs::Hearing::heard_answer, crate::proofs::Hearing::heard_rejection))]
     fn take_reply<R: Clock + Eprint + AllocGlobal, T: Tape + Drop>(
         &mut self,
-        context: &Context<'_, '_, R>,
+        context: &Context<'_, '_, R, N>,
         follower: &mut Follower<T>,
         question: &Question,
         reply: Reply,
@@ -158,7 +159,7 @@ impl Asker {
     #[tactic(auto, using(crate::proofs::Continuation::goes_on_by, crate::proofs::Hearing::given_by, crate::proofs::Noting::noted_never, crate::proofs::Noting::noted_misfit))]
     fn take_answer<R: Clock + Eprint + AllocGlobal, T: Tape + Drop>(
         &mut self,
-        context: &Context<'_, '_, R>,
+        context: &Context<'_, '_, R, N>,
         follower: &mut Follower<T>,
         question: &Question,
         answer: &ReaderAnswer,
@@ -187,7 +188,7 @@ impl Asker {
     #[tactic(auto, using(crate::proofs::Noting::noted_nothing))]
     fn rest<R: Clock + Eprint>(
         &mut self,
-        context: &Context<'_, '_, R>,
+        context: &Context<'_, '_, R, N>,
         published: Seq,
         answer: &ReaderAnswer,
     )
@@ -212,7 +213,7 @@ impl Asker {
     }
 
     /// Ends the connection to a source that has brought nothing for long.
-    fn pass<R: Clock + Eprint>(&mut self, context: &Context<'_, '_, R>)
+    fn pass<R: Clock + Eprint>(&mut self, context: &Context<'_, '_, R, N>)
         ensures heard { self.new.heard.items ≡ self.old.heard.items }
         ensures refusals { self.new.refusals ≡ self.old.refusals }
     {
@@ -227,7 +228,7 @@ impl Asker {
     #[tactic(auto, using(crate::proofs::Noting::noted_there))]
     fn leave<R: Clock + Eprint>(
         &mut self,
-        context: &Context<'_, '_, R>,
+        context: &Context<'_, '_, R, N>,
         why: SourceEnd,
         refusal: Option<QuestionRejection>,
     )
@@ -244,7 +245,7 @@ impl Asker {
     }
 
     /// Logs that the connection to the source has ended.
-    fn log_lost<R: Clock + Eprint>(&mut self, context: &Context<'_, '_, R>, why: SourceEnd)
+    fn log_lost<R: Clock + Eprint>(&mut self, context: &Context<'_, '_, R, N>, why: SourceEnd)
         ensures heard { self.new.heard.items ≡ self.old.heard.items }
         ensures refusals { self.new.refusals ≡ self.old.refusals }
         ensures of { self.new.of ≡ self.old.of }
@@ -281,7 +282,7 @@ impl Asker {
     #[tactic(auto, using(crate::proofs::Hearing::hears_nothing, crate::proofs::Hearing::hears_asked))]
     fn ask<R: Net + Clock + Eprint + AllocGlobal, T: Tape + Drop>(
         &mut self,
-        context: &Context<'_, '_, R>,
+        context: &Context<'_, '_, R, N>,
         follower: &mut Follower<T>,
     )
         ensures { Hears self.old follower.old self.new follower.new }
@@ -297,7 +298,7 @@ impl Asker {
     #[tactic(auto, using(crate::proofs::Noting::noted_fewer, crate::proofs::Noting::fewer_same, crate::proofs::Continuation::same_itself, crate::proofs::Continuation::same_by))]
     fn put<R: Net + Clock + Eprint + AllocGlobal, T: Tape + Drop>(
         &mut self,
-        context: &Context<'_, '_, R>,
+        context: &Context<'_, '_, R, N>,
         follower: &mut Follower<T>,
     )
         ensures same { HasLearnedNothing follower.old follower.new }
@@ -330,7 +331,7 @@ impl Asker {
     /// a connection.
     fn connect<R: Net + Clock + Eprint + AllocGlobal>(
         &mut self,
-        context: &Context<'_, '_, R>,
+        context: &Context<'_, '_, R, N>,
     ) -> bool
         ensures heard { self.new.heard.items ≡ self.old.heard.items }
         ensures refusals { self.new.refusals ≡ self.old.refusals }
@@ -361,8 +362,8 @@ impl Asker {
 }
 
 /// Logs what was learned since it had published that, and whether its tape has failed meanwhile.
-fn log_learned<R: Clock + Eprint, T: Tape + Drop>(
-    context: &Context<'_, '_, R>,
+fn log_learned<R: Clock + Eprint, T: Tape + Drop, N>(
+    context: &Context<'_, '_, R, N>,
     follower: &Follower<T>,
     before: Seq,
     had_tape: bool,

@@ -1,6 +1,5 @@
 //! What a replica tells its operator.
 
-use crate::asker::Asker;
 use std::alloc::AllocError;
 use std::rt::Files;
 use wf_ballot::Seq;
@@ -19,7 +18,10 @@ pub(crate) struct ReplicaFacts<'a, R> {
     pub(crate) started: StartTime,
     pub(crate) history: &'a History,
     pub(crate) digests: &'a Digests,
-    pub(crate) asker: &'a Asker,
+    pub(crate) is_connected: bool,
+    pub(crate) distance: u8,
+    pub(crate) received: u16,
+    pub(crate) is_new: bool,
     pub(crate) requests: &'a Counts,
     pub(crate) pictures: PictureCounts,
     pub(crate) unkept: u64,
@@ -54,8 +56,8 @@ impl<'a, R: Files> Operated for ReplicaFacts<'a, R> {
 
     fn later(&self) -> Option<u16> {
         // one that began with no map isn't ready before it has what a source has
-        if self.is_behind || self.asker.is_new {
-            Some(self.asker.received)
+        if self.is_behind || self.is_new {
+            Some(self.received)
         } else {
             None
         }
@@ -64,7 +66,7 @@ impl<'a, R: Files> Operated for ReplicaFacts<'a, R> {
     fn push_metrics(&self, text: &mut String) -> Result<(), AllocError> {
         let published = self.history.published().number();
         self.started.push_to(text)?;
-        push_sequences(text, published, self.asker.received.max(published))?;
+        push_sequences(text, published, self.received.max(published))?;
         push_replica(text, self)?;
         push_open(text, self.clients as u64, self.readers as u64)?;
         push_requests(text, self.requests)?;
@@ -79,13 +81,13 @@ fn push_replica<R>(text: &mut String, facts: &ReplicaFacts<'_, R>) -> Result<(),
         text,
         "wfarm_sources_connected",
         "1 where a node of --peers is connected",
-        facts.asker.is_connected() as u64,
+        facts.is_connected as u64,
     )?;
     gauge(
         text,
         "wfarm_distance",
         "Replicas between this one and a node, itself counted",
-        facts.asker.answerer.distance as u64,
+        facts.distance as u64,
     )?;
     gauge(
         text,

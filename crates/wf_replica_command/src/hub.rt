@@ -1,8 +1,8 @@
-//! One thread that waits for its sockets, turn after turn.
-ghost use Rattle.std.specs.Prelude.{◌≡◌, [], IfErr, IfOk};
+//! One thread that answers its sockets, turn after turn.
+ghost use Rattle.std.specs.Prelude.{◌≡◌, ◌≤◌, [], IfErr, IfOk};
 ghost use Rattle.wf_replica_command.specs.Fault.{IsFromSystem};
 ghost use Rattle.wf_replica_command.specs.Heard.{Hears};
-ghost use Rattle.wf_replica_command.specs.ReplicaHub.{HasAnsweredByList, HasHeardNothing, HasLearned, HasOnlyGrown, IsOfFarm, IsListOnTape, IsTurn, follower_of};
+ghost use Rattle.wf_replica_command.specs.ReplicaHub.{HasAnsweredByList, HasHeardNothing, HasLearned, HasOnlyGrown, IsOfFarm, IsListOnTape, IsTurn, state_of};
 ghost use Rattle.wf_visitors.specs.Visitors.{responses_of};
 
 use crate::asker::Asker;
@@ -11,16 +11,18 @@ use crate::facts::ReplicaFacts;
 use crate::fault::ReplicaFault;
 use crate::parts::{OPERATORS, ReplicaStart, bind};
 use crate::plan::ReplicaPlan;
+use crate::ready::ReadyReplica;
 use crate::token::ReplicaSocket;
 use std::alloc::AllocError;
 use std::net::{Net, SocketAddr};
 use std::rt::Files;
 use std::time::Clock;
+use wf_learner::History;
 use wf_operator::{Behind, Operator, StartTime};
 use wf_reader::QuestionRejection;
 use wf_readers_port::{PortView, ReadersPort};
 use wf_replica::{Follower, what_is_learned_is_served};
-use wf_sockets::SystemNetwork;
+use wf_sockets::{Network, NetworkError, SystemNetwork};
 use wf_tape::Tape;
 use wf_timing::Ticker;
 use wf_visitors::{Context, Log, Visitors, now};
@@ -31,14 +33,14 @@ const MOST_READY: usize = 256;
 /// The time between two ticks, in milliseconds.
 const TICK_MILLIS: u64 = 100;
 
-/// A replica with its clients, the source that it asks, and who only reads.
+/// A replica with its clients, the source that it asks, and who only reads, over a network.
 #[derive(Drop)]
-pub struct ReplicaHub<T: Tape> {
-    network: SystemNetwork,
-    operators: Visitors,
-    readers: ReadersPort,
-    asker: Asker,
-    clients: ReplicaClients<T>,
+pub struct ReplicaHub<T: Tape, N: Network = SystemNetwork> {
+    network: N,
+    operators: Visitors<N>,
+    readers: ReadersPort<N>,
+    asker: Asker<N>,
+    clients: ReplicaClients<T, N>,
     desk: OperatorDesk,
     ticks: Ticker,
     time: u64,
@@ -55,8 +57,8 @@ struct OperatorDesk {
 }
 
 /// How a turn ended.
-#[derive(Clone, Copy, PartialEq, Eq)]
-pub(crate) enum Turn {
+#[derive(Clone, Copy, Debug, PartialEq, Eq)]
+pub enum Turn {
     /// The replica goes on.
     On,
     /// It has to end: all of its sources are of another farm, or have another history.
@@ -64,26 +66,77 @@ pub(crate) enum Turn {
 }
 
 impl<T: Tape + Drop> ReplicaHub<T> {
-    /// Binds the addresses of a replica, which asks the source of this number first, counted round.
-    /// Err: why it doesn't begin; the replica is dropped.
-    #[tactic(auto, using(crate::proofs::Hearing::nothing_heard))]
+    /// Binds the addresses of a replica of the system. Err: why it doesn't begin; the replica is
+    /// dropped.
     pub(crate) fn new<R: Net + Clock + AllocGlobal>(
         rt: &R,
-        plan: ReplicaPlan,
-        tape: String,
-        first: usize,
-        follower: Follower<T>,
+        ready: ReadyReplica<T>,
     ) -> Result<Self, ReplicaFault>
-        ensures begun { IfOk result (HasHeardNothing T.Tape) }
-        ensures fault { IfErr result (IsFromSystem plan) }
+        ensures begun { IfOk result (λ hub. HasHeardNothing T.Tape (state_of hub)) }
+        ensures fault { IfErr result (IsFromSystem ready.plan) }
     {
-        let time = now(rt);
+        match SystemNetwork::new(rt) {
+            Ok(network) => ReplicaHub::on(rt, network, ready, now(rt)),
+            Err(error) => {
+                let fault = fault_of(error, &ready.plan);
+                drop(ready);
+                Err(fault)
+            }
+        }
+    }
+
+    /// One turn: waits until a socket is ready or something is due, and does a bounded part of what
+    /// there is to do.
+    pub(crate) fn go_on<R: Net + Files + Clock + Eprint + AllocGlobal>(
+        &mut self,
+        rt: &R,
+        log: &Log<'_, R>,
+    ) -> Turn
+        // Whatever came, the list is what was heard, message after message, and what the tape has.
+        ensures lived { HasLearned T.Tape (state_of self.new) }
+        ensures recorded { IsListOnTape T.Tape (state_of self.new) }
+        ensures of_farm { IsOfFarm T.Tape (state_of self.new) }
+        // Each response that any client was sent is the one to exactly what had come of its
+        // request, over the list as it then was.
+        ensures answered { HasAnsweredByList T.Tape (state_of self.new) }
+        // It never goes back, and goes on by what it hears of its sources.
+        ensures stayed { HasOnlyGrown T.Tape (state_of self.new) }
+        ensures heard { Hears self.old.asker self.old.clients.renderer.follower self.new.asker self.new.clients.renderer.follower }
+        // It has to end only where all of its sources refuse it.
+        ensures ended { IsTurn T.Tape result (state_of self.new) }
+    {
+        let mut tokens = [0usize; MOST_READY];
+        let millis = self.patience(now(rt));
+        let count = self.network.wait(millis, &mut tokens);
+        self.turn(rt, log, &tokens[..count], now(rt))
+    }
+}
+
+impl<T: Tape + Drop, N: Network + Drop> ReplicaHub<T, N> {
+    /// Binds the addresses of a replica on a network, at this time in milliseconds. Err: why it
+    /// doesn't begin; the replica is dropped.
+    #[tactic(auto, using(crate::proofs::Hearing::nothing_heard))]
+    pub(crate) fn on<R: Net + Clock + AllocGlobal>(
+        rt: &R,
+        network: N,
+        ready: ReadyReplica<T>,
+        time: u64,
+    ) -> Result<Self, ReplicaFault>
+        ensures begun { IfOk result (λ hub. HasHeardNothing T.Tape (state_of hub)) }
+        ensures fault { IfErr result (IsFromSystem ready.plan) }
+    {
+        let ReadyReplica {
+            plan,
+            follower,
+            tape,
+            first,
+        } = ready;
         let desk = OperatorDesk {
             started: StartTime::now(rt),
             tape,
             behind: Behind::default(),
         };
-        match bind(rt, &plan) {
+        match bind(rt, &plan, network) {
             Ok(begun) => {
                 let ReplicaPlan { farm, sources, .. } = plan;
                 let is_new = follower.history().published().number() == 0;
@@ -111,65 +164,69 @@ impl<T: Tape + Drop> ReplicaHub<T> {
         self.clients.visitors.address(&self.network)
     }
 
+    /// What the replica has published.
+    pub(crate) fn history(&self) -> &History
+        ensures { result.now ≡ self.now.clients.renderer.follower.maps.shelf }
+    {
+        self.clients.renderer.follower.history()
+    }
+
+    /// Whether what it has published is on its tape.
+    pub(crate) fn has_tape(&self) -> bool {
+        self.clients.renderer.follower.has_tape()
+    }
+
     /// The replica's list is what it has heard and what its tape has, each client that was answered
     /// was answered from it as it then was, and it never went back, always. The call does nothing.
     #[tactic(auto, using(crate::proofs::Faults::of_farm))]
     pub(crate) fn always_lived(&self)
-        ensures lived { HasLearned T.Tape self.now }
-        ensures recorded { IsListOnTape T.Tape self.now }
-        ensures of_farm { IsOfFarm T.Tape self.now }
-        ensures answered { HasAnsweredByList T.Tape self.now }
-        ensures stayed { HasOnlyGrown T.Tape self.now }
+        ensures lived { HasLearned T.Tape (state_of self.now) }
+        ensures recorded { IsListOnTape T.Tape (state_of self.now) }
+        ensures of_farm { IsOfFarm T.Tape (state_of self.now) }
+        ensures answered { HasAnsweredByList T.Tape (state_of self.now) }
+        ensures stayed { HasOnlyGrown T.Tape (state_of self.now) }
     {
         what_is_learned_is_served::<T>();
         self.clients.always_served();
     }
 
-    /// One turn: waits until a socket is ready or something is due, and does a bounded part of what
-    /// there is to do.
-    pub(crate) fn go_on<R: Net + Files + Clock + Eprint + AllocGlobal>(
+    /// For how long the next turn may be waited for at most where no socket is ready, in
+    /// milliseconds: until something is due, and not at all if there is more to do.
+    pub(crate) fn patience(&self, time: u64) -> u64
+        ensures { result ≤ 100 }
+    {
+        if self.is_busy {
+            0
+        } else {
+            let tick = self.ticks.due.saturating_sub(time).min(TICK_MILLIS);
+            tick.min(self.asker.left(time))
+        }
+    }
+
+    /// One turn, at this time in milliseconds, for the sockets with these tokens, which may be
+    /// ready: does a bounded part of what there is to do, and waits for nothing.
+    pub(crate) fn turn<R: Net + Files + Clock + Eprint + AllocGlobal>(
         &mut self,
         rt: &R,
         log: &Log<'_, R>,
+        ready: &[usize],
+        time: u64,
     ) -> Turn
-        // Whatever came, the list is what was heard, message after message, and what the tape has.
-        ensures lived { HasLearned T.Tape self.new }
-        ensures recorded { IsListOnTape T.Tape self.new }
-        ensures of_farm { IsOfFarm T.Tape self.new }
-        // Each response that any client was sent is the one to exactly what had come of its
-        // request, over the list as it then was.
-        ensures answered { HasAnsweredByList T.Tape self.new }
-        // It never goes back, and goes on by what it hears of its sources.
-        ensures stayed { HasOnlyGrown T.Tape self.new }
-        ensures heard { Hears self.old.asker (follower_of self.old) self.new.asker (follower_of self.new) }
-        // It has to end only where all of its sources refuse it.
-        ensures ended { IsTurn T.Tape result self.new }
+        ensures lived { HasLearned T.Tape (state_of self.new) }
+        ensures recorded { IsListOnTape T.Tape (state_of self.new) }
+        ensures of_farm { IsOfFarm T.Tape (state_of self.new) }
+        ensures answered { HasAnsweredByList T.Tape (state_of self.new) }
+        ensures stayed { HasOnlyGrown T.Tape (state_of self.new) }
+        ensures heard { Hears self.old.asker self.old.clients.renderer.follower self.new.asker self.new.clients.renderer.follower }
+        ensures ended { IsTurn T.Tape result (state_of self.new) }
     {
-        let mut ready = [0usize; MOST_READY];
-        let count = self.wait(rt, &mut ready);
-        self.time = now(rt).max(self.time);
-        self.is_busy = self.act(rt, log, ready.split_at(count.min(MOST_READY)).0);
+        self.time = time.max(self.time);
+        self.is_busy = self.act(rt, log, ready);
         self.always_lived();
         match self.asker.end() {
             Some(why) => Turn::Ended(why),
             None => Turn::On,
         }
-    }
-
-    /// Waits until a socket is ready or something is due; not at all if there is more to do.
-    /// Returns the number of sockets that are ready, whose tokens are at the front of the buffer.
-    fn wait<R: Clock>(&mut self, rt: &R, tokens: &mut [usize; MOST_READY]) -> usize
-        ensures clients { self.new.clients ≡ self.old.clients }
-        ensures asker { self.new.asker ≡ self.old.asker }
-    {
-        let millis = if self.is_busy {
-            0
-        } else {
-            let time = now(rt);
-            let tick = self.ticks.due.saturating_sub(time).min(TICK_MILLIS);
-            tick.min(self.asker.left(time))
-        };
-        self.network.wait(millis, tokens)
     }
 
     /// Does what the sockets that are ready ask for, and what the clock does. Returns whether there
@@ -181,7 +238,7 @@ impl<T: Tape + Drop> ReplicaHub<T> {
         log: &'x Log<'x, R>,
         ready: &[usize],
     ) -> bool
-        ensures { Hears self.old.asker (follower_of self.old) self.new.asker (follower_of self.new) }
+        ensures { Hears self.old.asker self.old.clients.renderer.follower self.new.asker self.new.clients.renderer.follower }
     {
         let ReplicaHub {
             network,
@@ -209,14 +266,24 @@ impl<T: Tape + Drop> ReplicaHub<T> {
     }
 }
 
+/// Why there is no hub of a plan where there is no network.
+fn fault_of(error: NetworkError, _plan: &ReplicaPlan) -> ReplicaFault
+    ensures { IsFromSystem _plan.now result }
+{
+    match error {
+        NetworkError::Poll => ReplicaFault::Poll,
+        NetworkError::Memory => ReplicaFault::Memory,
+    }
+}
+
 /// A hub of these parts.
-fn assemble<T: Tape + Drop>(
-    begun: ReplicaStart,
-    asker: Asker,
+fn assemble<T: Tape + Drop, N: Network>(
+    begun: ReplicaStart<N>,
+    asker: Asker<N>,
     follower: Follower<T>,
     desk: OperatorDesk,
     time: u64,
-) -> ReplicaHub<T>
+) -> ReplicaHub<T, N>
     requires { responses_of begun.visitors ≡ [] }
     ensures { result.asker ≡ asker }
 {
@@ -241,12 +308,12 @@ fn assemble<T: Tape + Drop>(
 }
 
 /// Does what the sockets that are ready ask for.
-fn act_on_each<R: Net + Clock + Eprint + AllocGlobal, T: Tape + Drop>(
-    context: &Context<'_, '_, R>,
-    asker: &Asker,
-    clients: &mut ReplicaClients<T>,
-    operators: &mut Visitors,
-    readers: &mut ReadersPort,
+fn act_on_each<R: Net + Clock + Eprint + AllocGlobal, T: Tape + Drop, N: Network>(
+    context: &Context<'_, '_, R, N>,
+    asker: &Asker<N>,
+    clients: &mut ReplicaClients<T, N>,
+    operators: &mut Visitors<N>,
+    readers: &mut ReadersPort<N>,
     ready: &[usize],
 )
     ensures { clients.new.renderer ≡ clients.old.renderer }
@@ -257,12 +324,12 @@ fn act_on_each<R: Net + Clock + Eprint + AllocGlobal, T: Tape + Drop>(
 }
 
 /// Does what a ready socket asks for. What came from the source was taken before.
-fn act_on<R: Net + Clock + Eprint + AllocGlobal, T: Tape + Drop>(
-    context: &Context<'_, '_, R>,
-    asker: &Asker,
-    clients: &mut ReplicaClients<T>,
-    operators: &mut Visitors,
-    readers: &mut ReadersPort,
+fn act_on<R: Net + Clock + Eprint + AllocGlobal, T: Tape + Drop, N: Network>(
+    context: &Context<'_, '_, R, N>,
+    asker: &Asker<N>,
+    clients: &mut ReplicaClients<T, N>,
+    operators: &mut Visitors<N>,
+    readers: &mut ReadersPort<N>,
     token: usize,
 )
     ensures { clients.new.renderer ≡ clients.old.renderer }
@@ -281,11 +348,11 @@ fn act_on<R: Net + Clock + Eprint + AllocGlobal, T: Tape + Drop>(
 }
 
 /// Answers a reader, from what the replica has published.
-fn answer_reader<R: Net + Clock + Eprint + AllocGlobal, T: Tape + Drop>(
-    context: &Context<'_, '_, R>,
-    asker: &Asker,
+fn answer_reader<R: Net + Clock + Eprint + AllocGlobal, T: Tape + Drop, N: Network>(
+    context: &Context<'_, '_, R, N>,
+    asker: &Asker<N>,
     follower: &Follower<T>,
-    readers: &mut ReadersPort,
+    readers: &mut ReadersPort<N>,
     index: usize,
 ) {
     let published = PortView {
@@ -297,12 +364,12 @@ fn answer_reader<R: Net + Clock + Eprint + AllocGlobal, T: Tape + Drop>(
 }
 
 /// Accepts whoever comes, and ends the phases whose time is over, if a tick is due.
-fn tick<R: Net + Clock + Eprint + AllocGlobal, T: Tape + Drop>(
-    context: &Context<'_, '_, R>,
+fn tick<R: Net + Clock + Eprint + AllocGlobal, T: Tape + Drop, N: Network>(
+    context: &Context<'_, '_, R, N>,
     ticks: &mut Ticker,
-    clients: &mut ReplicaClients<T>,
-    operators: &mut Visitors,
-    readers: &mut ReadersPort,
+    clients: &mut ReplicaClients<T, N>,
+    operators: &mut Visitors<N>,
+    readers: &mut ReadersPort<N>,
 )
     ensures { clients.new.renderer ≡ clients.old.renderer }
 {
@@ -318,12 +385,12 @@ fn tick<R: Net + Clock + Eprint + AllocGlobal, T: Tape + Drop>(
 }
 
 /// Answers requests of operators that are whole, a bounded number of them.
-fn answer_operators<R: Files + Clock + Eprint + AllocGlobal, T: Tape + Drop>(
-    context: &Context<'_, '_, R>,
-    operators: &mut Visitors,
-    readers: &ReadersPort,
-    asker: &Asker,
-    clients: &ReplicaClients<T>,
+fn answer_operators<R: Files + Clock + Eprint + AllocGlobal, T: Tape + Drop, N: Network>(
+    context: &Context<'_, '_, R, N>,
+    operators: &mut Visitors<N>,
+    readers: &ReadersPort<N>,
+    asker: &Asker<N>,
+    clients: &ReplicaClients<T, N>,
     desk: &mut OperatorDesk,
 ) {
     let follower = &clients.renderer.follower;
@@ -334,7 +401,10 @@ fn answer_operators<R: Files + Clock + Eprint + AllocGlobal, T: Tape + Drop>(
         started: desk.started,
         history: follower.history(),
         digests: follower.digests(),
-        asker,
+        is_connected: asker.is_connected(),
+        distance: asker.answerer.distance,
+        received: asker.received,
+        is_new: asker.is_new,
         requests: clients.visitors.counts(),
         pictures: clients.renderer.pictures,
         unkept: follower.cache().unkept(),

@@ -2,7 +2,9 @@
 //! serves the public.
 //!
 //! [`run`] runs a parsed command line and returns its error, whose `Display` is the line for
-//! standard error and whose [`ReplicaFault::status`] is the exit status. What a replica knows is
+//! standard error and whose [`ReplicaFault::status`] is the exit status. [`RunningReplica`] is a
+//! replica that [`start_replica`] has started, stepped by its caller over any network and at times
+//! that it is handed; `run` steps one over the network of the system. What a replica knows is
 //! `wf_replica`'s `Follower`; its clients, its operator's port and its readers' port are those of a
 //! node (`wf_visitors`, `wf_operator`, `wf_readers_port`).
 //!
@@ -45,10 +47,15 @@ mod hub;
 mod open_question;
 mod parts;
 mod plan;
+mod ready;
 mod renderer;
+mod running_replica;
 mod source;
+mod start;
 mod token;
 
 pub use command::run;
 pub use fault::ReplicaFault;
+pub use hub::Turn;
+pub use running_replica::{RunningReplica, start_replica};
 pub use wf_address::AddressOption;

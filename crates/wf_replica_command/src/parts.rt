@@ -10,7 +10,7 @@ use std::alloc::Global;
 use std::net::{Net, SocketAddr};
 use wf_address::AddressOption;
 use wf_readers_port::ReadersPort;
-use wf_sockets::{Network, NetworkError, SystemListener, SystemNetwork};
+use wf_sockets::Network;
 use wf_visitors::Visitors;
 
 /// The most clients at once.
@@ -24,30 +24,30 @@ const READERS: usize = 64;
 
 /// All of a replica's sockets but its source's.
 #[derive(Drop)]
-pub(crate) struct ReplicaStart {
-    pub(crate) network: SystemNetwork,
-    pub(crate) visitors: Visitors,
-    pub(crate) operators: Visitors,
-    pub(crate) readers: ReadersPort,
+pub(crate) struct ReplicaStart<N: Network> {
+    pub(crate) network: N,
+    pub(crate) visitors: Visitors<N>,
+    pub(crate) operators: Visitors<N>,
+    pub(crate) readers: ReadersPort<N>,
 }
 
 /// A network, and the listeners on it.
 #[derive(Drop)]
-struct ReplicaDoors {
-    network: SystemNetwork,
-    http: SystemListener,
-    admin: Option<SystemListener>,
-    readers: Option<SystemListener>,
+struct ReplicaDoors<N: Network> {
+    network: N,
+    http: N::Listener,
+    admin: Option<N::Listener>,
+    readers: Option<N::Listener>,
 }
 
 /// A listener at an address.
-fn listen_at<R: Net>(
+fn listen_at<R: Net, N: Network>(
     rt: &R,
-    network: &SystemNetwork,
+    network: &N,
     address: SocketAddr,
     socket: ReplicaSocket,
     option: AddressOption,
-) -> Result<SystemListener, ReplicaFault>
+) -> Result<N::Listener, ReplicaFault>
     ensures { IfErr result (IsAddressTaken option (Some address)) }
 {
     match network.listen(rt, address, socket.token()) {
@@ -57,13 +57,13 @@ fn listen_at<R: Net>(
 }
 
 /// A listener at an address, if there is an address.
-fn listen_if<R: Net>(
+fn listen_if<R: Net, N: Network>(
     rt: &R,
-    network: &SystemNetwork,
+    network: &N,
     address: Option<SocketAddr>,
     socket: ReplicaSocket,
     option: AddressOption,
-) -> Result<Option<SystemListener>, ReplicaFault>
+) -> Result<Option<N::Listener>, ReplicaFault>
     ensures { IfErr result (IsAddressTaken option address) }
 {
     match address {
@@ -75,24 +75,13 @@ fn listen_if<R: Net>(
     }
 }
 
-/// Binds the addresses of a replica.
-fn doors_of<R: Net + AllocGlobal>(rt: &R, plan: &ReplicaPlan) -> Result<ReplicaDoors, ReplicaFault>
-    ensures { IfErr result (IsFromSystem plan.now) }
-{
-    match SystemNetwork::new(rt) {
-        Ok(network) => doors_at(rt, plan, network),
-        Err(NetworkError::Poll) => Err(ReplicaFault::Poll),
-        Err(NetworkError::Memory) => Err(ReplicaFault::Memory),
-    }
-}
-
 /// Binds the addresses of a replica on a network.
 #[tactic(auto, using(crate::proofs::Faults::http_taken, crate::proofs::Faults::admin_taken, crate::proofs::Faults::readers_taken))]
-fn doors_at<R: Net>(
+fn doors_of<R: Net, N: Network + Drop>(
     rt: &R,
     plan: &ReplicaPlan,
-    network: SystemNetwork,
-) -> Result<ReplicaDoors, ReplicaFault>
+    network: N,
+) -> Result<ReplicaDoors<N>, ReplicaFault>
     ensures { IfErr result (IsFromSystem plan.now) }
 {
     let http = listen_at(
@@ -126,7 +115,10 @@ fn doors_at<R: Net>(
 
 /// All of a replica's sockets but its source's, with these listeners. The only error is allocation
 /// failure.
-fn begin_at(alloc: Global, doors: ReplicaDoors) -> Result<ReplicaStart, ReplicaFault>
+fn begin_at<N: Network + Drop>(
+    alloc: Global,
+    doors: ReplicaDoors<N>,
+) -> Result<ReplicaStart<N>, ReplicaFault>
     ensures new { IfOk result (λ begun. responses_of begun.visitors ≡ []) }
     ensures memory { IfErr result (λ why. why ≡ ReplicaFault.Memory) }
 {
@@ -147,16 +139,17 @@ fn begin_at(alloc: Global, doors: ReplicaDoors) -> Result<ReplicaStart, ReplicaF
     })
 }
 
-/// Binds the addresses of a replica. Err: one of them is taken or not permitted, the system gives
-/// no poll, or an allocation fails.
-pub(crate) fn bind<R: Net + AllocGlobal>(
+/// Binds the addresses of a replica on a network. Err: one of them is taken or not permitted, or an
+/// allocation fails.
+pub(crate) fn bind<R: Net + AllocGlobal, N: Network + Drop>(
     rt: &R,
     plan: &ReplicaPlan,
-) -> Result<ReplicaStart, ReplicaFault>
+    network: N,
+) -> Result<ReplicaStart<N>, ReplicaFault>
     ensures new { IfOk result (λ begun. responses_of begun.visitors ≡ []) }
     ensures fault { IfErr result (IsFromSystem plan.now) }
 {
-    match doors_of(rt, plan) {
+    match doors_of(rt, plan, network) {
         Ok(doors) => begin_at(rt.alloc(), doors),
         Err(fault) => Err(fault),
     }

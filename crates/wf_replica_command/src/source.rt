@@ -11,7 +11,7 @@ use std::alloc::{AllocError, Global};
 use std::net::{Net, SocketAddr};
 use wf_past::Past;
 use wf_reader::{Question, Reply, ReplyFault, decode_reply, reply_length};
-use wf_sockets::{Connection, Moved, Network, SystemConnection, SystemNetwork};
+use wf_sockets::{Connection, Moved, Network};
 
 /// The most bytes of a piece.
 const PIECE_BYTES: usize = 16_384;
@@ -21,8 +21,8 @@ const MOST_PIECES: usize = 64;
 
 /// The connection to a source: the question that has no reply yet, and what has come of its reply.
 #[derive(Drop)]
-pub(crate) struct SourceConnection {
-    connection: SystemConnection,
+pub(crate) struct SourceConnection<C: Connection> {
+    connection: C,
     question: Option<OpenQuestion>,
     came: Vec<u8>,
 }
@@ -38,14 +38,14 @@ pub(crate) enum SourceTurn {
     Ended(SourceEnd),
 }
 
-impl SourceConnection {
+impl<C: Connection + Drop> SourceConnection<C> {
     /// A connection in progress, watched. None: the system rejects it.
-    pub(crate) fn connect<R: Net>(
+    pub(crate) fn connect<R: Net, N: Network<Connection = C>>(
         rt: &R,
         alloc: Global,
-        network: &SystemNetwork,
+        network: &N,
         address: SocketAddr,
-    ) -> Option<SourceConnection> {
+    ) -> Option<Self> {
         let mut connection = network.connect(rt, address)?;
         connection.send_at_once();
         if network.watch(&mut connection, ReplicaSocket::Source.token()) {
@@ -71,10 +71,10 @@ impl SourceConnection {
     /// Writes what is left of the question, and reads what came of its reply. Whatever comes while
     /// no question is open ends the connection. The reply is logged, with this number of the
     /// source.
-    pub(crate) fn turn(
+    pub(crate) fn turn<N: Network<Connection = C>>(
         &mut self,
         alloc: Global,
-        network: &SystemNetwork,
+        network: &N,
         source: usize,
         heard: &mut Past<Reply, Asked>,
     ) -> SourceTurn
@@ -133,10 +133,10 @@ impl SourceConnection {
 
 /// Writes what is left of a question, and reads what came of its reply, which is taken in behind
 /// what came before. None: more is needed.
-fn converse(
+fn converse<N: Network>(
     alloc: Global,
-    network: &SystemNetwork,
-    connection: &mut SystemConnection,
+    network: &N,
+    connection: &mut N::Connection,
     asked: &mut OpenQuestion,
     came: &mut Vec<u8>,
 ) -> Result<Option<Reply>, SourceEnd> {
@@ -166,7 +166,7 @@ fn converse(
 }
 
 /// Writes what is left of a question. Returns why the connection has ended, if it has.
-fn send(connection: &mut SystemConnection, asked: &mut OpenQuestion) -> Option<SourceEnd> {
+fn send<C: Connection>(connection: &mut C, asked: &mut OpenQuestion) -> Option<SourceEnd> {
     for _ in 0..u64::MAX {
         if asked.rest().is_empty() {
             return None;

@@ -1,0 +1,17 @@
+//! A replica that is ready to be served.
+
+use crate::plan::ReplicaPlan;
+use wf_replica::Follower;
+use wf_tape::Tape;
+
+/// A replica that is ready to be served: its folder is locked and says that it is this replica's,
+/// and it has what its tape has.
+#[derive(Drop)]
+pub(crate) struct ReadyReplica<T: Tape> {
+    pub(crate) plan: ReplicaPlan,
+    pub(crate) follower: Follower<T>,
+    // the path of its tape
+    pub(crate) tape: String,
+    // the number of the source that it asks first, counted round
+    pub(crate) first: usize,
+}
