@@ -2,10 +2,10 @@
 """Plays farms of real nodes on a simulated network, disks and clock, with seeds that the table of CI hasn't.
 
 The program of `crates/wf_test_simulation` plays them, as many as fit into the minutes, each with a plan
-that is drawn from its seed: how many nodes, for how long, and which faults how often. The first play that
-violates what a farm promises ends it: its case is printed, and a smaller one, of which nodes, seconds and
-faults were left out as long as it still violates. `--renew` plays the table of CI in place of that, and
-puts what was counted there into it, unless a play violates.
+that is drawn from its seed: how many nodes and replicas, for how long, and which faults how often. The first
+play that violates what a farm promises ends it: its case is printed, and a smaller one, of which seconds,
+replicas and faults were left out as long as it still violates. `--renew` plays the table of CI in place of
+that, and puts what was counted there into it, unless a play violates.
 """
 
 import pathlib
@@ -61,7 +61,11 @@ def plan_of(seed: int) -> Plan:
     kinds |= {kind: draw.randint(1, most) for kind, most in PER_MILLION.items() if draw.random() < 0.5}
     kinds |= {"delay": draw.choice((1, 10, 40, 200)), "pause": draw.choice((300, 1_500, 4_000))}
     plan = Plan(draw.choice((1, 2, 3, 3, 3, 4, 5, 5, 7)), draw.choice((5, 10, 20, 40)), kinds)
-    return plan.having(**{draw.choice(RELAPSES): 1}) if plan.nodes > 2 and draw.random() < 0.2 else plan
+    if plan.nodes > 2 and draw.random() < 0.2:
+        plan = plan.having(**{draw.choice(RELAPSES): 1})
+    if draw.random() < 0.5:
+        plan = plan.having(replicas=draw.randint(1, 3), emptied=draw.randint(0, 1))
+    return plan
 
 
 def case_of(seed: int, plan: Plan) -> str:
@@ -104,7 +108,7 @@ def smaller(seed: int, plan: Plan, violates: Callable[[int, Plan], bool]) -> Pla
     plan = plan.having(last=last)
     first = last + 1 - least(0, last, lambda number: violates(seed, plan.having(first=last + 1 - number)))
     plan = plan.having(first=first)
-    for kind in [*WEIGHTS, *PER_MILLION]:
+    for kind in [*WEIGHTS, *PER_MILLION, "emptied", "replicas"]:
         fewer = plan.having(**{f"no-{kind}": 1}) if kind in WEIGHTS else plan.without(kind)
         if kind in plan.kinds and violates(seed, fewer):
             plan = fewer

@@ -1,10 +1,11 @@
-//! A client of a node: it publishes and asks what has become of that, or looks at maps, or is an
+//! A client of a process: it publishes and asks what has become of that, or looks at maps, or is an
 //! operator or a reader of the history.
 
 use crate::dice::Dice;
 use crate::exchange::{Ending, Exchange, Stage, head_of, number_behind, text_of};
 use crate::ledger::{Ledger, Seen};
 use crate::names::{Port, address_at};
+use crate::process::Process;
 use crate::requests::{
     AGREE, BEGIN, CAPABILITIES, METRICS, READINESS, STATUS, bytes_of, picture_request,
     publish_request, question,
@@ -37,6 +38,9 @@ pub(crate) enum Role {
 /// Each of them.
 pub(crate) const ROLES: [Role; 4] = [Role::Publisher, Role::Viewer, Role::Operator, Role::Reader];
 
+/// Those of the clients of a replica.
+pub(crate) const REPLICA_ROLES: [Role; 3] = [Role::Viewer, Role::Operator, Role::Reader];
+
 /// What a client wants to know.
 #[derive(Clone, Copy)]
 enum Goal {
@@ -60,10 +64,10 @@ enum Goal {
     Reply,
 }
 
-/// A client of a node.
+/// A client of a process.
 #[derive(Drop)]
 pub(crate) struct Client<'a> {
-    node: u8,
+    process: Process,
     role: Role,
     goal: Goal,
     exchange: Option<Exchange<'a>>,
@@ -80,9 +84,9 @@ pub(crate) struct Client<'a> {
 
 impl<'a> Client<'a> {
     /// A client that begins at this time.
-    pub(crate) fn new(node: u8, role: Role, next: u64) -> Self {
+    pub(crate) fn new(process: Process, role: Role, next: u64) -> Self {
         Client {
-            node,
+            process,
             role,
             goal: Goal::Nothing,
             exchange: None,
@@ -95,9 +99,9 @@ impl<'a> Client<'a> {
         }
     }
 
-    /// The node of which it is.
-    pub(crate) fn node(&self) -> u8 {
-        self.node
+    /// The process of which it is.
+    pub(crate) fn process(&self) -> Process {
+        self.process
     }
 
     /// Whether it has had the answer that it wants since all faults are over.
@@ -135,7 +139,7 @@ impl<'a> Client<'a> {
         self.next = time;
         self.is_served = false;
         self.is_healing = true;
-        self.has_joiner = has_joiner;
+        self.has_joiner = has_joiner && !self.process.is_replica();
     }
 
     /// Closes its connection, if it has one.
@@ -158,7 +162,7 @@ impl<'a> Client<'a> {
         self.next = scene.time.saturating_add(ASKING_MILLIS);
         self.goal = self.next_goal(dice, ledger);
         let (address, ending) = self.target();
-        match request_for(scene.alloc, self.node, self.goal, self.told, self.digest) {
+        match request_for(scene.alloc, self.process, self.goal, self.told, self.digest) {
             Ok(request) => self.keep(Exchange::begin(scene, address, ending, request)),
             Err(_) => ledger.cut(),
         }
@@ -217,10 +221,11 @@ impl<'a> Client<'a> {
 
     /// Where it asks, and by what the response is known to be whole.
     fn target(&self) -> (SocketAddr, Ending) {
+        let host = self.process.host();
         match self.role {
-            Role::Publisher | Role::Viewer => (address_at(self.node, Port::Http), Ending::Close),
-            Role::Operator => (address_at(self.node, Port::Admin), Ending::Close),
-            Role::Reader => (address_at(self.node, Port::Readers), Ending::Length),
+            Role::Publisher | Role::Viewer => (address_at(host, Port::Http), Ending::Close),
+            Role::Operator => (address_at(host, Port::Admin), Ending::Close),
+            Role::Reader => (address_at(host, Port::Readers), Ending::Length),
         }
     }
 
@@ -310,17 +315,17 @@ impl<'a> Client<'a> {
                 self.is_served = true;
                 self.told = sequence;
                 ledger.answers.documents = ledger.answers.documents.saturating_add(1);
-                ledger.note_answer(self.node, sequence, Seen::Capabilities, response);
+                ledger.note_answer(self.process, sequence, Seen::Capabilities, response);
             }
             None => ledger.answers.rejected = ledger.answers.rejected.saturating_add(1),
         }
     }
 
-    /// Takes the picture at a sequence.
+    /// Takes the picture at a sequence. A replica that lost its tape may not have it any more.
     fn take_picture(&mut self, response: &[u8], sequence: u16, ledger: &mut Ledger) {
-        if has_succeeded(response) {
+        if has_succeeded(response) && !is_exception(response) {
             ledger.answers.pictures = ledger.answers.pictures.saturating_add(1);
-            ledger.note_answer(self.node, sequence, Seen::Picture, response);
+            ledger.note_answer(self.process, sequence, Seen::Picture, response);
         } else {
             ledger.answers.rejected = ledger.answers.rejected.saturating_add(1);
         }
@@ -333,7 +338,7 @@ impl<'a> Client<'a> {
             self.is_served = true;
         } else if text_of(response).contains("suspended: ") {
             self.is_served = true;
-            ledger.note_suspended(self.node);
+            ledger.note_suspended(self.process.host());
         }
     }
 
@@ -359,7 +364,7 @@ impl<'a> Client<'a> {
         let mut sequence = self.told;
         for canon in answer.definitions() {
             sequence = sequence.saturating_add(1);
-            ledger.note_text(self.node, sequence, canon.text());
+            ledger.note_text(self.process, sequence, canon.text());
         }
         if sequence == answer.published().number() {
             self.told = sequence;
@@ -371,7 +376,7 @@ impl<'a> Client<'a> {
 /// The request by which a client learns what it wants to.
 fn request_for(
     alloc: Global,
-    node: u8,
+    process: Process,
     goal: Goal,
     told: u16,
     digest: [u8; 32],
@@ -383,7 +388,7 @@ fn request_for(
         Goal::Picture { sequence } => picture_request(alloc, sequence),
         Goal::Readiness => bytes_of(alloc, READINESS),
         Goal::Metrics => bytes_of(alloc, METRICS),
-        Goal::Replacement => bytes_of(alloc, if node == 0 { BEGIN } else { AGREE }),
+        Goal::Replacement => bytes_of(alloc, if process.host() == 0 { BEGIN } else { AGREE }),
         Goal::Reply => question(alloc, told, digest),
     }
 }
@@ -394,6 +399,11 @@ fn has_succeeded(response: &[u8]) -> bool {
         Some(head) => head.starts_with("HTTP/1.1 200 "),
         None => false,
     }
+}
+
+/// Whether a response is an error of the map service, which has the status of success.
+fn is_exception(response: &[u8]) -> bool {
+    text_of(response).contains("<ServiceException")
 }
 
 /// The sequence that stands behind the first of these marks in a text.

@@ -1,6 +1,7 @@
 //! What was seen of a farm, and what that violates.
 
 use crate::exchange::{number_behind, text_of};
+use crate::process::Process;
 use std::alloc::{AllocError, Global};
 use thiserror::Error;
 use wf_ballot::Slot;
@@ -13,36 +14,42 @@ const MOST_TOLD: usize = 8;
 /// What a farm has to keep, and didn't.
 #[derive(Clone, Copy, Debug, Error)]
 pub(crate) enum Violation {
-    /// Two nodes, or one at two times, have different maps at a sequence.
-    #[error("node {0} has another map at {1}")]
-    TwoMaps(u8, u16),
+    /// Two processes, or one at two times, have different maps at a sequence.
+    #[error("{0} has another map at {1}")]
+    TwoMaps(Process, u16),
     /// A map is published that nobody has sent.
-    #[error("node {0} has a map at {1} that nobody published")]
-    NobodysMap(u8, u16),
-    /// A node has published fewer sequences than before.
-    #[error("node {0} went back from {1} to {2}")]
-    WentBack(u8, u16, u16),
+    #[error("{0} has a map at {1} that nobody published")]
+    NobodysMap(Process, u16),
+    /// A replica has a map at a sequence at which no node has one.
+    #[error("{0} has a map at {1} before any node")]
+    Ahead(Process, u16),
+    /// A process has published fewer sequences than before.
+    #[error("{0} went back from {1} to {2}")]
+    WentBack(Process, u16, u16),
     /// The map that a node reported as published at a sequence isn't there.
     #[error("{0} hasn't the map {1} that was reported there")]
     OtherMap(u16, u32),
     /// Two answers to a request about a sequence differ.
-    #[error("node {0} has other capabilities or another picture at {1}")]
-    TwoAnswers(u8, u16),
-    /// A node didn't start, and its process ended with this status.
-    #[error("node {0} didn't start: status {1}")]
-    NotStarted(u8, u8),
+    #[error("{0} has other capabilities or another picture at {1}")]
+    TwoAnswers(Process, u16),
+    /// A process didn't start, and ended with this status.
+    #[error("{0} didn't start: status {1}")]
+    NotStarted(Process, u8),
+    /// All of a replica's sources refused it.
+    #[error("{0} has to end")]
+    Ended(Process),
     /// A sound node was refused by a peer.
     #[error("node {0} is suspended")]
     Suspended(u8),
     /// A node started on a folder that isn't its last one, and wasn't refused.
     #[error("node {0} isn't refused")]
     NotRefused(u8),
-    /// A client of a node had no answer in time, once all faults were over.
-    #[error("node {0} isn't healed")]
-    NotHealed(u8),
-    /// A node hasn't published as many sequences as others then.
-    #[error("node {0} has published {1} of {2}")]
-    NotEqual(u8, u16, usize),
+    /// A client of a process had no answer in time, once all faults were over.
+    #[error("{0} isn't healed")]
+    NotHealed(Process),
+    /// A process hasn't published as many sequences as others then.
+    #[error("{0} has published {1} of {2}")]
+    NotEqual(Process, u16, usize),
 }
 
 /// A request about a sequence, whose answer is one at all nodes.
@@ -157,39 +164,42 @@ impl Ledger {
         self.reports.len()
     }
 
-    /// Notes what a node has published, of which so many sequences were noted. Returns how many it
-    /// has.
-    pub(crate) fn note_list(&mut self, node: u8, history: &History, noted: u16) -> u16 {
+    /// Notes what a process has published, of which so many sequences were noted. Returns how many
+    /// it has.
+    pub(crate) fn note_list(&mut self, process: Process, history: &History, noted: u16) -> u16 {
         let published = history.published().number();
         if published < noted {
-            self.violate(Violation::WentBack(node, noted, published));
+            self.violate(Violation::WentBack(process, noted, published));
         }
         for index in 0..published.saturating_sub(noted) {
             let sequence = noted.saturating_add(index).saturating_add(1);
             if let Some(slot) = Slot::new(sequence) {
                 if let Some(canon) = history.canon(slot) {
-                    self.note_text(node, sequence, canon.text());
+                    self.note_text(process, sequence, canon.text());
                 }
             }
         }
         published
     }
 
-    /// Notes a map that a node has published.
-    pub(crate) fn note_text(&mut self, node: u8, sequence: u16, text: &[u8]) {
+    /// Notes a map that a process has published.
+    pub(crate) fn note_text(&mut self, process: Process, sequence: u16, text: &[u8]) {
         match self.texts.get((sequence as usize).saturating_sub(1)) {
             Some(known) => if known.as_slice() != text {
-                self.violate(Violation::TwoMaps(node, sequence));
+                self.violate(Violation::TwoMaps(process, sequence));
             },
-            None => self.note_new_text(node, sequence, text),
+            None => self.note_new_text(process, sequence, text),
         }
     }
 
-    /// Notes a map that no node had published before.
-    fn note_new_text(&mut self, node: u8, sequence: u16, text: &[u8]) {
+    /// Notes a map that nobody had published before.
+    fn note_new_text(&mut self, process: Process, sequence: u16, text: &[u8]) {
+        if process.is_replica() {
+            self.violate(Violation::Ahead(process, sequence));
+        }
         match number_behind(text_of(text), "NAME \"m") {
             Some(map) if map < self.maps => {}
-            _ => self.violate(Violation::NobodysMap(node, sequence)),
+            _ => self.violate(Violation::NobodysMap(process, sequence)),
         }
         if self.keep_text(text).is_err() {
             self.cut();
@@ -231,12 +241,18 @@ impl Ledger {
         }
     }
 
-    /// Notes what a node answered to a request about a sequence.
-    pub(crate) fn note_answer(&mut self, node: u8, sequence: u16, request: Seen, answer: &[u8]) {
+    /// Notes what a process answered to a request about a sequence.
+    pub(crate) fn note_answer(
+        &mut self,
+        process: Process,
+        sequence: u16,
+        request: Seen,
+        answer: &[u8],
+    ) {
         let digest = digest_of(NO_BYTES, answer);
         match known_in(self.seen.as_slice(), sequence, request) {
             Some(known) => if known != digest {
-                self.violate(Violation::TwoAnswers(node, sequence));
+                self.violate(Violation::TwoAnswers(process, sequence));
             },
             None => if self.seen.push((sequence, request, digest)).is_err() {
                 self.cut();

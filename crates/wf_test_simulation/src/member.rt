@@ -1,10 +1,13 @@
-//! A node of a simulated farm: its folder, and its process while it runs.
+//! A node of a simulated farm: its host, and its process while it runs.
 
 use crate::dice::Dice;
+use crate::host::{Host, MOST_READY};
 use crate::ledger::{Ledger, Violation};
 use crate::machine::Machine;
 use crate::names::{Names, init_line};
 use crate::plan::Relapse;
+use crate::process::Process;
+use crate::schedule::Stroke;
 use std::cell::RefCell;
 use wf_ballot::NodeId;
 use wf_loop::Log;
@@ -12,34 +15,20 @@ use wf_node_command::{RunningNode, run};
 use wf_simulation::{SimulatedNetwork, World};
 use wf_store::{FileName, MemoryFolder, MemoryStore, Store};
 
-/// The most sockets of a turn.
-const MOST_READY: usize = 64;
-
-/// A node: its folder, which outlives its process.
+/// A node: its host, which outlives its process.
 #[derive(Drop)]
 pub(crate) struct Member<'a> {
-    number: u8,
-    folder: &'a MemoryFolder,
+    host: Host<'a>,
     process: Option<RunningNode<MemoryStore<'a>, SimulatedNetwork<'a>>>,
-    // when its next turn is due, or its next start
-    due: u64,
-    // by how much its clock is ahead, in milliseconds
-    ahead: u64,
-    // how many sequences it had published when that was noted last
-    published: u16,
     // how many messages its processes that have ended had for others
     messages: u64,
-    // whether a call of its disks is to fail, and how many have
-    will_fail: bool,
-    failed: u64,
     // whether its folder isn't its last one, and whether it didn't start on that
     has_relapsed: bool,
     is_refused: bool,
 }
 
 impl<'a> Member<'a> {
-    /// A node that is to be started at this time, on its folder, which is made. Its clock is ahead
-    /// by as many minutes as its number says.
+    /// A node that is to be started at this time, on its folder, which is made.
     pub(crate) fn new<R: Eprint>(
         machine: &Machine<'_, R>,
         folder: &'a MemoryFolder,
@@ -49,15 +38,9 @@ impl<'a> Member<'a> {
     ) -> Self {
         make_folder(machine, folder, number, nodes, false);
         Member {
-            number,
-            folder,
+            host: Host::new(number, folder, due),
             process: None,
-            due,
-            ahead: u64::from(number).saturating_mul(60_000),
-            published: 0,
             messages: 0,
-            will_fail: false,
-            failed: 0,
             has_relapsed: false,
             is_refused: false,
         }
@@ -65,22 +48,22 @@ impl<'a> Member<'a> {
 
     /// Its number.
     pub(crate) fn number(&self) -> u8 {
-        self.number
+        self.host.number
+    }
+
+    /// It as a process of the farm.
+    pub(crate) fn own(&self) -> Process {
+        Process::Node(self.host.number)
     }
 
     /// When its next turn is due, or its next start.
     pub(crate) fn due(&self) -> u64 {
-        self.due
+        self.host.due
     }
 
     /// How many sequences it has published.
     pub(crate) fn published(&self) -> u16 {
-        self.published
-    }
-
-    /// Whether it runs.
-    pub(crate) fn runs(&self) -> bool {
-        self.process.is_some()
+        self.host.published
     }
 
     /// Whether it didn't start on a folder that was replaced.
@@ -97,50 +80,37 @@ impl<'a> Member<'a> {
         self.messages.saturating_add(running)
     }
 
-    /// It is started by this time at the latest.
-    pub(crate) fn hasten(&mut self, time: u64) {
-        self.due = self.due.min(time);
-    }
-
-    /// This call of its disks from now fails, and keeps so much.
-    pub(crate) fn fail_disk(&mut self, call: usize, kept: usize) {
-        self.folder.set_failure(call, kept);
-        self.will_fail = true;
-    }
-
-    /// No call of its disks fails any more.
-    pub(crate) fn mend_disk(&mut self) {
-        self.folder.set_failure(0, 0);
-        self.will_fail = false;
-    }
-
     /// How many calls of its disks have failed.
     pub(crate) fn failed(&self) -> u64 {
-        self.failed
+        self.host.failed()
     }
 
-    /// Counts the call of its disks that has failed, if one has.
-    fn count_failure(&mut self) {
-        if self.will_fail && !self.folder.will_fail() {
-            self.will_fail = false;
-            self.failed = self.failed.saturating_add(1);
+    /// A fault happens to it. Returns whether it ran.
+    pub(crate) fn fail(&mut self, world: &RefCell<World>, time: u64, stroke: &Stroke) -> bool {
+        if self.process.is_none() {
+            return false;
         }
+        if self.host.fail(world, time, stroke) {
+            self.end();
+        }
+        true
     }
 
-    /// Its process ends, and its sockets are closed. It is started again at this time.
-    pub(crate) fn kill(&mut self, due: u64) {
+    /// Its process ends, and its sockets are closed.
+    fn end(&mut self) {
         self.messages = self.messages();
-        self.due = due;
         self.process = None;
     }
 
-    /// Its power is cut, and it is turned on again at this time.
-    pub(crate) fn cut(&mut self, world: &RefCell<World>, older: usize, kept: usize, due: u64) {
-        if let Ok(mut world) = world.try_borrow_mut() {
-            world.turn_off(self.number as usize);
-        }
-        self.kill(due);
-        self.folder.cut(older, kept);
+    /// Its process ends, and is started again at this time.
+    pub(crate) fn kill(&mut self, due: u64) {
+        self.end();
+        self.host.due = due;
+    }
+
+    /// All faults are over: it is started by this time at the latest.
+    pub(crate) fn heal(&mut self, time: u64) {
+        self.host.heal(time);
     }
 
     /// Copies its files into another folder.
@@ -148,27 +118,21 @@ impl<'a> Member<'a> {
         for file in [
             FileName::Farm,
             FileName::Heard,
-            FileName::NodeTape(self.number),
+            FileName::NodeTape(self.host.number),
         ] {
-            copy_file(self.folder, folder, file);
+            copy_file(self.host.folder, folder, file);
         }
-    }
-
-    /// Its clock jumps ahead by so many milliseconds.
-    pub(crate) fn jump(&mut self, millis: u64) {
-        self.ahead = self.ahead.saturating_add(millis);
-        self.due = 0;
     }
 
     /// Its process ends, and is started at this time on another folder in place of its own.
     pub(crate) fn relapse(&mut self, how: Relapse, folder: &'a MemoryFolder, due: u64) {
         self.kill(due);
         if let Relapse::Tape | Relapse::Gone = how {
-            copy_file(self.folder, folder, FileName::Farm);
-            copy_file(self.folder, folder, FileName::Heard);
+            copy_file(self.host.folder, folder, FileName::Farm);
+            copy_file(self.host.folder, folder, FileName::Heard);
         }
-        self.folder = folder;
-        self.published = 0;
+        self.host.folder = folder;
+        self.host.published = 0;
         self.has_relapsed = how.is_refused();
     }
 
@@ -184,18 +148,18 @@ impl<'a> Member<'a> {
     ) -> bool {
         let time = machine.millis();
         if self.process.is_none() {
-            if self.due <= time && !self.is_refused {
+            if self.host.due <= time && !self.is_refused {
                 self.start(machine, world, names, dice, ledger);
             }
             return false;
         }
         let mut tokens = [0usize; MOST_READY];
-        let count = take_ready(world, self.number as usize, &mut tokens);
-        if count == 0 && time < self.due {
+        let count = self.host.take_ready(world, &mut tokens);
+        if count == 0 && time < self.host.due {
             return false;
         }
         self.step(machine, tokens.get(..count).unwrap_or(&[]), ledger);
-        self.count_failure();
+        self.host.count_failure();
         if self.is_over() {
             self.kill(time);
         }
@@ -205,14 +169,15 @@ impl<'a> Member<'a> {
     /// The process takes a turn for these sockets.
     fn step<R: Eprint>(&mut self, machine: &Machine<'_, R>, ready: &[usize], ledger: &mut Ledger) {
         let time = machine.millis();
-        let own = time.saturating_add(self.ahead);
+        let clock = self.host.clock(time);
+        let own = self.own();
         if let Some(process) = &mut self.process {
-            machine.set_millis(own);
-            process.turn(machine, &Log::new(machine, true), ready, own);
+            machine.set_millis(clock);
+            process.turn(machine, &Log::new(machine, true), ready, clock);
             machine.set_millis(time);
-            self.due = time.saturating_add(process.patience(own).max(1));
+            self.host.due = time.saturating_add(process.patience(clock).max(1));
             let history = process.process().node().history();
-            self.published = ledger.note_list(self.number, history, self.published);
+            self.host.published = ledger.note_list(own, history, self.host.published);
         }
     }
 
@@ -234,20 +199,16 @@ impl<'a> Member<'a> {
         ledger: &mut Ledger,
     ) {
         let time = machine.millis();
-        if let Ok(mut world) = world.try_borrow_mut() {
-            world.turn_on(self.number as usize);
-        }
-        self.mend_disk();
-        self.folder.set_bits(dice.bits());
-        let network = SimulatedNetwork::new(world, self.number as usize);
-        let store = MemoryStore::new(self.folder);
-        let line = names.node_line(self.number as usize);
-        let own = time.saturating_add(self.ahead);
-        match RunningNode::start(machine, network, store, &line, own) {
+        self.host.turn_on(world, dice.bits());
+        let number = self.host.number as usize;
+        let network = SimulatedNetwork::new(world, number);
+        let store = MemoryStore::new(self.host.folder);
+        let line = names.node_line(number);
+        match RunningNode::start(machine, network, store, &line, self.host.clock(time)) {
             Ok(process) => {
-                self.due = time;
+                self.host.due = time;
                 let history = process.process().node().history();
-                let published = ledger.note_list(self.number, history, 0);
+                let published = ledger.note_list(self.own(), history, 0);
                 self.process = Some(process);
                 self.begin(published, ledger);
             }
@@ -260,20 +221,20 @@ impl<'a> Member<'a> {
 
     /// It has started, and has published so far.
     fn begin(&mut self, published: u16, ledger: &mut Ledger) {
-        if published < self.published {
-            ledger.violate(Violation::WentBack(self.number, self.published, published));
+        if published < self.host.published {
+            ledger.violate(Violation::WentBack(self.own(), self.host.published, published));
         }
-        self.published = published;
+        self.host.published = published;
     }
 
     /// It didn't start, and ended with this status.
     fn stay(&mut self, status: u8, time: u64, ledger: &mut Ledger) {
-        self.due = time.saturating_add(1_000);
+        self.host.due = time.saturating_add(1_000);
         if self.has_relapsed {
             self.is_refused = true;
-            self.due = u64::MAX;
+            self.host.due = u64::MAX;
         } else {
-            ledger.violate(Violation::NotStarted(self.number, status));
+            ledger.violate(Violation::NotStarted(self.own(), status));
         }
     }
 }
@@ -311,23 +272,4 @@ fn copy_file(from: &MemoryFolder, to: &MemoryFolder, file: FileName) {
     }
     drop(source);
     drop(target);
-}
-
-/// Puts the tokens of the sockets of a host that may be ready to the front of a buffer, and returns
-/// how many they are.
-fn take_ready(world: &RefCell<World>, host: usize, tokens: &mut [usize]) -> usize {
-    let Ok(mut world) = world.try_borrow_mut() else {
-        return 0;
-    };
-    let mut count = 0usize;
-    for token in tokens.iter_mut() {
-        match world.take_ready(host) {
-            Some(ready) => {
-                *token = ready;
-                count = count.saturating_add(1);
-            }
-            None => return count,
-        }
-    }
-    count
 }

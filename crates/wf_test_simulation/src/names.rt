@@ -1,9 +1,10 @@
-//! The command lines of the nodes, and their addresses.
+//! The command lines of the processes, and their addresses.
 ghost use Rattle.wf_line.specs.NodeLine.{IsNodeCommandInRange, IsNodeInRange};
+ghost use Rattle.wf_line.specs.ProcessLine.{IsReplicaInRange};
 
 use std::alloc::{AllocError, Global};
 use std::net::SocketAddr;
-use wf_line::{InitLine, NodeCommand, NodeLine};
+use wf_line::{InitLine, NodeCommand, NodeLine, ReplicaLine};
 use wf_simulation::address_of;
 
 /// The name of the farm.
@@ -12,7 +13,10 @@ pub(crate) const FARM: &str = "simulated";
 /// The port of a node for its peers.
 const PEER_PORT: u16 = 7_000;
 
-/// A port of a node to which others come.
+/// The port of a process for its readers.
+const READERS_PORT: u16 = 9_100;
+
+/// A port of a process to which others come.
 #[derive(Clone, Copy)]
 pub(crate) enum Port {
     /// Clients come there.
@@ -23,46 +27,49 @@ pub(crate) enum Port {
     Readers,
 }
 
-/// The addresses of the nodes of a farm, as its command lines have them.
+/// The addresses of the processes of a farm, as its command lines have them: those of a host at its
+/// index, and of all nodes where peers come, and readers.
 #[derive(Drop)]
 pub(crate) struct Names {
     peers: String,
+    sources: String,
     http: Vec<String>,
     admin: Vec<String>,
     readers: Vec<String>,
 }
 
-/// The addresses of so many nodes at a port.
-fn addresses(alloc: Global, nodes: u8, port: Port) -> Result<Vec<String>, AllocError> {
+/// The addresses of so many hosts at a port.
+fn addresses(alloc: Global, hosts: u8, port: Port) -> Result<Vec<String>, AllocError> {
     let mut addresses = Vec::new(alloc);
-    for node in 0..nodes {
-        addresses.push(address_at(node, port).to_string(alloc)?)?;
+    for host in 0..hosts {
+        addresses.push(address_at(host, port).to_string(alloc)?)?;
     }
     Ok(addresses)
 }
 
-/// The addresses of so many nodes for their peers, with commas between them.
-fn peer_addresses(alloc: Global, nodes: u8) -> Result<String, AllocError> {
-    let mut peers = String::new(alloc);
+/// The addresses of so many nodes at a port, with commas between them.
+fn list_of(alloc: Global, nodes: u8, port: u16) -> Result<String, AllocError> {
+    let mut list = String::new(alloc);
     for node in 0..nodes {
         if node != 0 {
-            peers.push_str(",")?;
+            list.push_str(",")?;
         }
-        let peer = address_of(node as usize, PEER_PORT).to_string(alloc)?;
-        peers.push_str(peer.as_str())?;
-        drop(peer);
+        let address = address_of(node as usize, port).to_string(alloc)?;
+        list.push_str(address.as_str())?;
+        drop(address);
     }
-    Ok(peers)
+    Ok(list)
 }
 
 impl Names {
-    /// Those of a farm of so many nodes.
-    pub(crate) fn new(alloc: Global, nodes: u8) -> Result<Names, AllocError> {
+    /// Those of a farm of so many nodes, on so many hosts.
+    pub(crate) fn new(alloc: Global, nodes: u8, hosts: u8) -> Result<Names, AllocError> {
         Ok(Names {
-            peers: peer_addresses(alloc, nodes)?,
-            http: addresses(alloc, nodes, Port::Http)?,
-            admin: addresses(alloc, nodes, Port::Admin)?,
-            readers: addresses(alloc, nodes, Port::Readers)?,
+            peers: list_of(alloc, nodes, PEER_PORT)?,
+            sources: list_of(alloc, nodes, READERS_PORT)?,
+            http: addresses(alloc, hosts, Port::Http)?,
+            admin: addresses(alloc, hosts, Port::Admin)?,
+            readers: addresses(alloc, hosts, Port::Readers)?,
         })
     }
 
@@ -83,6 +90,22 @@ impl Names {
             may_replace: true,
         }
     }
+
+    /// The command line that serves the replica of a host.
+    pub(crate) fn replica_line(&self, host: usize) -> ReplicaLine<'_>
+        ensures { IsReplicaInRange result }
+    {
+        ReplicaLine {
+            state: "folder",
+            farm: FARM,
+            peers: self.sources.as_str(),
+            http: text_at(self.http.as_slice(), host),
+            readers: Some(text_at(self.readers.as_slice(), host)),
+            admin: Some(text_at(self.admin.as_slice(), host)),
+            cache: 1,
+            log: true,
+        }
+    }
 }
 
 /// The text at an index, an empty one if there is none.
@@ -93,14 +116,14 @@ fn text_at(texts: &[String], index: usize) -> &str {
     }
 }
 
-/// The address of a node at a port.
-pub(crate) fn address_at(node: u8, port: Port) -> SocketAddr {
+/// The address of a host at a port.
+pub(crate) fn address_at(host: u8, port: Port) -> SocketAddr {
     let port = match port {
         Port::Http => 8_000,
         Port::Admin => 9_000,
-        Port::Readers => 9_100,
+        Port::Readers => READERS_PORT,
     };
-    address_of(node as usize, port)
+    address_of(host as usize, port)
 }
 
 /// The command line that makes the folder of a node of so many, which joins in the place of a lost

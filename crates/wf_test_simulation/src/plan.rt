@@ -6,11 +6,11 @@ use wf_test_table::{CaseWords, Unanswered};
 /// What goes wrong at a time, once.
 #[derive(Clone, Copy)]
 pub(crate) enum Fault {
-    /// A node and all others don't reach each other, in silence, for a time.
+    /// A process and all others don't reach each other, in silence, for a time.
     Alone,
-    /// What a node sends to another, or to the clients, doesn't come for a time.
+    /// What a process sends to another, or to the clients, doesn't come for a time.
     OneWay,
-    /// A node is killed, and started again.
+    /// A process is killed, and started again.
     Kill,
     /// Its power is cut, and it is started again.
     Cut,
@@ -68,11 +68,20 @@ impl Relapse {
 /// How many nodes a farm has whose case doesn't say it, by its seed.
 const NODES: [u8; 8] = [3, 5, 4, 5, 7, 5, 3, 2];
 
-/// A play: its seed, how many nodes, for how long, and what goes wrong.
+/// How many replicas a farm has whose case leaves that to its seed.
+const REPLICAS: [u8; 8] = [0, 2, 0, 1, 0, 3, 0, 1];
+
+/// The most replicas of a farm.
+const MOST_REPLICAS: u32 = 3;
+
+/// A play: its seed, how many nodes and replicas, for how long, and what goes wrong.
 #[derive(Clone, Copy)]
 pub(crate) struct Plan {
     pub(crate) seed: u64,
     pub(crate) nodes: u8,
+    pub(crate) replicas: u8,
+    /// Whether their number is the seed's.
+    pub(crate) has_any_replicas: bool,
     pub(crate) seconds: u64,
     pub(crate) network: Faults,
     /// Between two faults there are so many milliseconds at most.
@@ -86,6 +95,8 @@ pub(crate) struct Plan {
     /// What becomes of the folder of node 0, and whether all nodes are killed then.
     pub(crate) relapse: Relapse,
     pub(crate) kills_all: bool,
+    /// Whether the first replica loses its folder in the middle.
+    pub(crate) loses_replica: bool,
     /// Whether the log is printed.
     pub(crate) is_printed: bool,
 }
@@ -96,6 +107,8 @@ impl Plan {
         let mut plan = Plan {
             seed: 0,
             nodes: words.byte()?,
+            replicas: 0,
+            has_any_replicas: false,
             seconds: u64::from(words.number()?),
             network: Faults::NONE,
             pause: 1_500,
@@ -105,6 +118,7 @@ impl Plan {
             last: u32::MAX,
             relapse: Relapse::Nothing,
             kills_all: false,
+            loses_replica: false,
             is_printed: false,
         };
         for _ in 0..u32::MAX {
@@ -118,7 +132,8 @@ impl Plan {
         Ok(plan)
     }
 
-    /// The play of a seed by this plan. A plan of 0 nodes leaves their number to the seed.
+    /// The play of a seed by this plan. A plan of 0 nodes leaves their number to the seed, and so
+    /// does one of more than 3 replicas.
     pub(crate) fn of_seed(&self, seed: u64) -> Plan {
         let mut plan = *self;
         plan.seed = seed;
@@ -126,7 +141,26 @@ impl Plan {
             let index = seed.checked_rem(8).unwrap_or(0) as usize;
             plan.nodes = NODES.get(index).copied().unwrap_or(3);
         }
+        if plan.has_any_replicas {
+            let index = (seed / 8).checked_rem(8).unwrap_or(0) as usize;
+            plan.replicas = REPLICAS.get(index).copied().unwrap_or(0);
+        }
         plan
+    }
+
+    /// How many hosts there are: those of the nodes, that of the clients, and those of the replicas.
+    pub(crate) fn hosts(&self) -> u8 {
+        self.nodes.saturating_add(1).saturating_add(self.replicas)
+    }
+
+    /// The host of the clients.
+    pub(crate) fn client_host(&self) -> u8 {
+        self.nodes
+    }
+
+    /// The host of the process of this index, that of a node or of a replica.
+    pub(crate) fn host_at(&self, index: usize) -> usize {
+        index.saturating_add((self.nodes as usize <= index) as usize)
     }
 
     /// Sets how much there is of a kind.
@@ -155,10 +189,18 @@ impl Plan {
             "gone" => self.relapse = Relapse::Gone,
             "replaced" => self.relapse = Relapse::Replaced,
             "all" => self.kills_all = number != 0,
+            "replicas" => self.set_replicas(number),
+            "emptied" => self.loses_replica = number != 0,
             "log" => self.is_printed = number != 0,
             _ => return set_network(&mut self.network, kind, number),
         }
         Ok(())
+    }
+
+    /// Sets how many replicas there are.
+    fn set_replicas(&mut self, number: u32) {
+        self.has_any_replicas = MOST_REPLICAS < number;
+        self.replicas = u8::try_from(number.min(MOST_REPLICAS)).unwrap_or(0);
     }
 
     /// Whether the fault of this number, counted from 1, and of this kind happens.

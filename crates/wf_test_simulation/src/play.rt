@@ -1,12 +1,14 @@
 //! A play: a farm, its clients, and what goes wrong, from one moment to the next.
 
-use crate::client::{Client, ROLES};
+use crate::client::{Client, REPLICA_ROLES, ROLES};
 use crate::dice::Dice;
 use crate::ledger::{Ledger, Violation};
 use crate::machine::Machine;
 use crate::member::{Member, make_folder};
 use crate::names::Names;
 use crate::plan::{Fault, Plan, Relapse};
+use crate::process::Process;
+use crate::replica::Replica;
 use crate::requests::JOINER_BITS;
 use crate::scene::Scene;
 use crate::schedule::{Schedule, Stroke};
@@ -27,6 +29,9 @@ const HEALING_MILLIS: u64 = 5_000;
 /// or where a folder joins.
 const SILENT_MILLIS: u64 = 12_000;
 
+/// For how long replicas heal at most once the nodes are healed, in milliseconds.
+const REPLICA_MILLIS: u64 = 5_000;
+
 /// The stream of the generator: another one than that of the network.
 const STREAM: u64 = 7;
 
@@ -41,6 +46,7 @@ pub(crate) struct Play<'a, R> {
     dice: Dice,
     schedule: Schedule,
     members: Vec<Member<'a>>,
+    replicas: Vec<Replica<'a>>,
     clients: Vec<Client<'a>>,
     ledger: Ledger,
     // how often each fault happened
@@ -65,16 +71,15 @@ pub(crate) fn run_play<R: Eprint>(
     answer: &mut Transcript,
 ) -> Result<Outcome, AllocError> {
     let machine = Machine::new(rt, alloc, plan.is_printed);
-    let hosts = (plan.nodes as usize).saturating_add(1);
     let world = RefCell::new(World::new(
         alloc,
         plan.seed,
         plan.network,
-        hosts,
-        connections(plan.nodes),
+        plan.hosts() as usize,
+        connections(&plan),
     )?);
-    let names = Names::new(alloc, plan.nodes)?;
-    let folders = folders_of(alloc, plan.nodes)?;
+    let names = Names::new(alloc, plan.nodes, plan.hosts())?;
+    let folders = folders_of(alloc, &plan)?;
     let mut play = Play::new(&machine, &world, &names, folders.as_slice(), plan);
     play.run();
     let outcome = play.finish(before, answer);
@@ -82,20 +87,22 @@ pub(crate) fn run_play<R: Eprint>(
     outcome
 }
 
-/// The most connections of the network, for so many nodes: one from each to each other, and eight
-/// for the clients of each, of which four are at most.
-fn connections(nodes: u8) -> usize {
-    let nodes = nodes as usize;
+/// The most connections of the network: one from each node to each other, and eight for the clients
+/// of each, of which four are at most; and eight for each replica, of which three are its clients.
+fn connections(plan: &Plan) -> usize {
+    let nodes = plan.nodes as usize;
     nodes
         .saturating_mul(nodes.saturating_add(7))
         .saturating_add(8)
+        .saturating_add((plan.replicas as usize).saturating_mul(8))
 }
 
-/// A folder for each node, and one more.
-fn folders_of(alloc: Global, nodes: u8) -> Result<Vec<MemoryFolder>, AllocError> {
+/// A folder for each host, that of the clients for another one of node 0, and one more for another
+/// one of the first replica.
+fn folders_of(alloc: Global, plan: &Plan) -> Result<Vec<MemoryFolder>, AllocError> {
     let mut folders = Vec::new(alloc);
-    for _ in 0..(nodes as usize).saturating_add(1) {
-        folders.push(MemoryFolder::new(alloc, nodes)?)?;
+    for _ in 0..(plan.hosts() as usize).saturating_add(1) {
+        folders.push(MemoryFolder::new(alloc, plan.nodes)?)?;
     }
     Ok(folders)
 }
@@ -119,6 +126,7 @@ impl<'a, R: Eprint> Play<'a, R> {
             dice: Dice::new(plan.seed, STREAM),
             schedule: Schedule::new(plan),
             members: Vec::new(alloc),
+            replicas: Vec::new(alloc),
             clients: Vec::new(alloc),
             ledger: Ledger::new(alloc),
             faults: [0; 6],
@@ -126,7 +134,7 @@ impl<'a, R: Eprint> Play<'a, R> {
         }
     }
 
-    /// Makes the folder of each node, and its clients.
+    /// Makes the folder of each node, the replicas, and the clients of each.
     fn populate(&mut self) -> Result<(), AllocError> {
         let folders = self.folders;
         for (number, folder) in (0..self.plan.nodes).zip(folders) {
@@ -137,13 +145,31 @@ impl<'a, R: Eprint> Play<'a, R> {
                 .push(Member::new(self.machine, folder, number, nodes, start))?;
             for role in ROLES {
                 let start = self.dice.millis(500, 2_000);
-                self.clients.push(Client::new(number, role, start))?;
+                self.clients
+                    .push(Client::new(Process::Node(number), role, start))?;
+            }
+        }
+        for (host, folder) in (0..self.plan.hosts()).zip(folders) {
+            if self.plan.client_host() < host {
+                self.add_replica(host, folder)?;
             }
         }
         Ok(())
     }
 
-    /// Plays: faults happen for the plan's time, and then the farm heals.
+    /// Adds the replica of a host, and its clients.
+    fn add_replica(&mut self, host: u8, folder: &'a MemoryFolder) -> Result<(), AllocError> {
+        let start = self.dice.millis(0, 500);
+        self.replicas.push(Replica::new(host, folder, start))?;
+        for role in REPLICA_ROLES {
+            let start = self.dice.millis(500, 2_000);
+            self.clients
+                .push(Client::new(Process::Replica(host), role, start))?;
+        }
+        Ok(())
+    }
+
+    /// Plays: faults happen for the plan's time, and then the nodes heal, and then the replicas.
     fn run(&mut self) {
         if self.populate().is_err() {
             self.ledger.cut();
@@ -152,10 +178,13 @@ impl<'a, R: Eprint> Play<'a, R> {
         let middle = end / 2;
         self.run_until(middle);
         self.save();
+        self.lose_replica(middle);
         self.run_until(end);
         self.relapse(end);
         self.heal(end);
-        self.run_healing(end.saturating_add(self.patience()));
+        self.run_healing(end.saturating_add(self.patience()), false);
+        let healed = self.machine.millis();
+        self.run_healing(healed.saturating_add(REPLICA_MILLIS), true);
         self.judge();
     }
 
@@ -170,10 +199,10 @@ impl<'a, R: Eprint> Play<'a, R> {
         }
     }
 
-    /// Goes on until that moment at the latest, or until all is healed.
-    fn run_healing(&mut self, latest: u64) {
+    /// Goes on until that moment at the latest, or until all nodes are healed, or all processes.
+    fn run_healing(&mut self, latest: u64, of_replicas: bool) {
         for _ in 0..MOST_MOMENTS {
-            if latest <= self.machine.millis() || self.is_healed() {
+            if latest <= self.machine.millis() || self.is_healed(of_replicas) {
                 return;
             }
             self.step(latest);
@@ -189,13 +218,13 @@ impl<'a, R: Eprint> Play<'a, R> {
         }
     }
 
-    /// Goes on to the next moment at which something is due, that time at the latest; each node and
-    /// each client does what it has to do.
+    /// Goes on to the next moment at which something is due, that time at the latest; each process
+    /// and each client does what it has to do.
     fn step(&mut self, latest: u64) {
         let time = self.next_moment().min(latest);
         self.machine.set_millis(time);
         let is_news = self.advance(time);
-        self.turn_members(is_news);
+        self.turn_processes(is_news);
         self.turn_clients(is_news);
     }
 
@@ -221,19 +250,27 @@ impl<'a, R: Eprint> Play<'a, R> {
         for member in &self.members {
             due = due.min(member.due());
         }
+        for replica in &self.replicas {
+            due = due.min(replica.due());
+        }
         for client in &self.clients {
             due = due.min(client.due());
         }
         due.max(self.machine.millis().saturating_add(1))
     }
 
-    /// Each node for which there may be news takes its turn, the first one by chance.
-    fn turn_members(&mut self, is_news: bool) {
-        let count = self.members.len();
+    /// Each process for which there may be news takes its turn, the first one by chance.
+    fn turn_processes(&mut self, is_news: bool) {
+        let nodes = self.members.len();
+        let count = nodes.saturating_add(self.replicas.len());
         let first = self.dice.index(count);
         for offset in 0..count {
             let index = first.saturating_add(offset).checked_rem(count).unwrap_or(0);
-            self.turn_member(index, is_news);
+            if index < nodes {
+                self.turn_member(index, is_news);
+            } else {
+                self.turn_replica(index.saturating_sub(nodes), is_news);
+            }
         }
     }
 
@@ -256,12 +293,31 @@ impl<'a, R: Eprint> Play<'a, R> {
         }
     }
 
+    /// A replica takes its turn.
+    fn turn_replica(&mut self, index: usize, is_news: bool) {
+        if let Some(replica) = self.replicas.get_mut(index) {
+            if !is_news && self.machine.millis() < replica.due() {
+                return;
+            }
+            let taken = replica.turn(
+                self.machine,
+                self.world,
+                self.names,
+                &mut self.dice,
+                &mut self.ledger,
+            );
+            if taken {
+                self.turns = self.turns.saturating_add(1);
+            }
+        }
+    }
+
     /// Each client does what it has to do.
     fn turn_clients(&mut self, is_news: bool) {
         let scene = Scene {
             alloc: self.machine.alloc(),
             world: self.world,
-            host: self.plan.nodes as usize,
+            host: self.plan.client_host() as usize,
             time: self.machine.millis(),
         };
         for client in self.clients.iter_mut() {
@@ -285,35 +341,33 @@ impl<'a, R: Eprint> Play<'a, R> {
     /// A fault happens. Returns whether it could.
     fn fail(&mut self, stroke: &Stroke) -> bool {
         match stroke.fault {
-            Fault::Alone => self.cut_off(stroke.node, stroke.until),
-            Fault::OneWay => self.block(stroke.node, stroke.other, stroke.until),
-            _ => return self.fail_member(stroke),
+            Fault::Alone => self.cut_off(stroke.host, stroke.until),
+            Fault::OneWay => self.block(stroke.host, stroke.other, stroke.until),
+            _ => return self.fail_process(stroke),
         }
         true
     }
 
-    /// A node ends, or its disk fails, or its clock jumps. Returns whether it ran.
-    fn fail_member(&mut self, stroke: &Stroke) -> bool {
-        let Some(member) = self.members.get_mut(stroke.node) else {
-            return false;
-        };
-        if !member.runs() {
-            return false;
+    /// A process ends, or its disk fails, or its clock jumps. Returns whether it ran.
+    fn fail_process(&mut self, stroke: &Stroke) -> bool {
+        let time = self.machine.millis();
+        if let Some(member) = self.members.get_mut(stroke.host) {
+            return member.fail(self.world, time, stroke);
         }
-        match stroke.fault {
-            Fault::Kill => member.kill(stroke.back),
-            Fault::Cut => member.cut(self.world, stroke.older, stroke.kept, stroke.back),
-            Fault::Jump => member.jump(stroke.until.saturating_sub(self.machine.millis())),
-            _ => member.fail_disk(stroke.call, stroke.kept),
+        let first = self.members.len().saturating_add(1);
+        match self.replicas.get_mut(stroke.host.saturating_sub(first)) {
+            Some(replica) => replica.fail(self.world, time, stroke),
+            None => false,
         }
-        true
     }
 
-    /// A node and all others don't reach each other until then.
-    fn cut_off(&self, node: usize, until: u64) {
-        for other in 0..self.members.len() {
-            self.block(node, other, until);
-            self.block(other, node, until);
+    /// A process and all others don't reach each other until then. Its clients do.
+    fn cut_off(&self, host: usize, until: u64) {
+        for other in 0..self.plan.hosts() {
+            if other != self.plan.client_host() {
+                self.block(host, other as usize, until);
+                self.block(other as usize, host, until);
+            }
         }
     }
 
@@ -327,9 +381,25 @@ impl<'a, R: Eprint> Play<'a, R> {
     /// Copies the files of node 0, if they are to be put back later.
     fn save(&self) {
         if self.plan.relapse.is_copied() {
-            if let (Some(member), Some(spare)) = (self.members.first(), self.folders.last()) {
+            if let (Some(member), Some(spare)) = (self.members.first(), self.spare()) {
                 member.copy_into(spare);
             }
+        }
+    }
+
+    /// The folder that takes the place of that of node 0, if one does.
+    fn spare(&self) -> Option<&'a MemoryFolder> {
+        self.folders.get(self.plan.client_host() as usize)
+    }
+
+    /// The first replica begins on an empty folder, if the plan says so.
+    fn lose_replica(&mut self, time: u64) {
+        if !self.plan.loses_replica {
+            return;
+        }
+        let folders = self.folders;
+        if let (Some(replica), Some(spare)) = (self.replicas.get_mut(0), folders.last()) {
+            replica.lose(spare, time);
         }
     }
 
@@ -343,8 +413,8 @@ impl<'a, R: Eprint> Play<'a, R> {
         if self.plan.relapse == Relapse::Nothing {
             return;
         }
-        let folders = self.folders;
-        if let (Some(member), Some(spare)) = (self.members.get_mut(0), folders.last()) {
+        let spare = self.spare();
+        if let (Some(member), Some(spare)) = (self.members.get_mut(0), spare) {
             if self.plan.relapse == Relapse::Replaced {
                 spare.set_bits(JOINER_BITS);
                 make_folder(self.machine, spare, 0, self.plan.nodes, true);
@@ -353,21 +423,23 @@ impl<'a, R: Eprint> Play<'a, R> {
         }
     }
 
-    /// All faults are over: each node that was ended is started, all reach each other, and the
+    /// All faults are over: each process that was ended is started, all reach each other, and the
     /// clients begin anew.
     fn heal(&mut self, time: u64) {
         self.schedule.end();
         if let Ok(mut world) = self.world.try_borrow_mut() {
             world.set_faults(Faults::NONE);
         }
-        for host in 0..self.members.len().saturating_add(1) {
-            for other in 0..self.members.len().saturating_add(1) {
-                self.block(host, other, 0);
+        for host in 0..self.plan.hosts() {
+            for other in 0..self.plan.hosts() {
+                self.block(host as usize, other as usize, 0);
             }
         }
         for member in self.members.iter_mut() {
-            member.hasten(time);
-            member.mend_disk();
+            member.heal(time);
+        }
+        for replica in self.replicas.iter_mut() {
+            replica.heal(time);
         }
         for client in self.clients.iter_mut() {
             client.heal(time, self.plan.relapse == Relapse::Replaced);
@@ -375,11 +447,17 @@ impl<'a, R: Eprint> Play<'a, R> {
     }
 
     /// Whether each sound node has published as many sequences as any, and its clients were served,
-    /// and any other is refused.
-    fn is_healed(&self) -> bool {
+    /// and any other is refused; and whether each replica has and its were, if that is asked.
+    fn is_healed(&self, of_replicas: bool) -> bool {
         let most = self.ledger.published();
         for client in &self.clients {
-            if is_sound(&self.plan, client.node()) && !client.is_served() {
+            let counts = of_replicas || !client.process().is_replica();
+            if counts && is_sound(&self.plan, client.process()) && !client.is_served() {
+                return false;
+            }
+        }
+        for replica in &self.replicas {
+            if of_replicas && replica.published() as usize != most {
                 return false;
             }
         }
@@ -395,8 +473,13 @@ impl<'a, R: Eprint> Play<'a, R> {
     fn judge(&mut self) {
         let most = self.ledger.published();
         for client in &self.clients {
-            if is_sound(&self.plan, client.node()) && !client.is_served() {
-                self.ledger.violate(Violation::NotHealed(client.node()));
+            if is_sound(&self.plan, client.process()) && !client.is_served() {
+                self.ledger.violate(Violation::NotHealed(client.process()));
+            }
+        }
+        for replica in &self.replicas {
+            if replica.published() as usize != most {
+                self.ledger.violate(Violation::NotEqual(replica.own(), replica.published(), most));
             }
         }
         for member in &self.members {
@@ -427,9 +510,14 @@ impl<'a, R: Eprint> Play<'a, R> {
         let [alone, one_way, kills, cuts, _, jumps] = self.faults;
         let mut messages = 0u64;
         let mut disks = 0u64;
+        let mut learned = 0u64;
         for member in &self.members {
             messages = messages.saturating_add(member.messages());
             disks = disks.saturating_add(member.failed());
+        }
+        for replica in &self.replicas {
+            disks = disks.saturating_add(replica.failed());
+            learned = learned.saturating_add(u64::from(replica.published()));
         }
         Tally::of([
             self.ledger.published() as u64,
@@ -444,6 +532,8 @@ impl<'a, R: Eprint> Play<'a, R> {
             self.turns,
             messages,
             self.machine.lines(),
+            self.replicas.len() as u64,
+            learned,
             alone,
             one_way,
             kills,
@@ -471,9 +561,9 @@ impl<'a, R: Eprint> Play<'a, R> {
     }
 }
 
-/// Whether a node has its own folder at the end, so that it has to heal.
-fn is_sound(plan: &Plan, node: u8) -> bool {
-    !plan.relapse.is_refused() || node != 0
+/// Whether a process has its own folder at the end, so that it has to heal.
+fn is_sound(plan: &Plan, process: Process) -> bool {
+    !plan.relapse.is_refused() || process.host() != 0
 }
 
 /// What a node violates at the end, where so many sequences are published: a sound one has all of
@@ -486,7 +576,7 @@ fn violation_of(
 ) -> Option<Violation> {
     let number = member.number();
     let is_suspended = ledger.is_suspended(number);
-    if !is_sound(plan, number) {
+    if !is_sound(plan, member.own()) {
         let is_refused = if plan.relapse.is_unstartable() {
             member.is_refused()
         } else {
@@ -502,7 +592,7 @@ fn violation_of(
         return Some(Violation::Suspended(number));
     }
     if member.published() as usize != most {
-        return Some(Violation::NotEqual(number, member.published(), most));
+        return Some(Violation::NotEqual(member.own(), member.published(), most));
     }
     None
 }

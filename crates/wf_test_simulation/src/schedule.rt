@@ -13,8 +13,8 @@ pub(crate) struct Stroke {
     /// Which it is, and its index in `FAULTS`.
     pub(crate) fault: Fault,
     pub(crate) kind: usize,
-    /// The node at which it happens, and another one, or the clients.
-    pub(crate) node: usize,
+    /// The host at which it happens, and another one, or that of the clients.
+    pub(crate) host: usize,
     pub(crate) other: usize,
     /// Until when others aren't reached, and when a process is started again.
     pub(crate) until: u64,
@@ -76,10 +76,10 @@ impl Schedule {
 
     /// Draws the next one. None: the plan has no weights.
     fn draw(&mut self, time: u64) -> Option<Stroke> {
-        let nodes = self.plan.nodes as usize;
+        let hosts = self.plan.hosts() as usize;
         let kind = self.plan.fault_at(self.dice.below(self.plan.total()));
-        let node = self.dice.index(nodes);
-        let other = self.dice.index(nodes.saturating_add(1));
+        let host = self.plan.host_at(self.dice.index(hosts.saturating_sub(1)));
+        let other = self.dice.index(hosts);
         let until = time.saturating_add(self.dice.millis(200, 8_000));
         let back = time.saturating_add(self.dice.millis(1, 3_000));
         let call = self.dice.index(10).saturating_add(1);
@@ -92,7 +92,7 @@ impl Schedule {
         Some(Stroke {
             fault: *fault,
             kind,
-            node,
+            host,
             other,
             until,
             back,

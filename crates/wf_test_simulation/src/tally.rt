@@ -3,7 +3,7 @@
 use wf_test_table::Transcript;
 
 /// What is counted, in this order.
-const WORDS: [&str; 27] = [
+const WORDS: [&str; 29] = [
     "published",
     "reported",
     "accepted",
@@ -16,6 +16,8 @@ const WORDS: [&str; 27] = [
     "turns",
     "messages",
     "lines",
+    "replicas",
+    "learned",
     "alone",
     "one-way",
     "kills",
@@ -36,17 +38,17 @@ const WORDS: [&str; 27] = [
 /// How often what happened, in a play or in several.
 #[derive(Clone, Copy)]
 pub(crate) struct Tally {
-    counts: [u64; 27],
+    counts: [u64; 29],
 }
 
 impl Tally {
     /// Nothing happened.
     pub(crate) fn new() -> Self {
-        Tally { counts: [0; 27] }
+        Tally { counts: [0; 29] }
     }
 
     /// So much happened, in the order of the words.
-    pub(crate) fn of(counts: [u64; 27]) -> Self {
+    pub(crate) fn of(counts: [u64; 29]) -> Self {
         Tally { counts }
     }
 

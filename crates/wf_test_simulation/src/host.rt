@@ -1,0 +1,131 @@
+//! A host of a simulated farm, on which a process runs.
+
+use crate::plan::Fault;
+use crate::schedule::Stroke;
+use std::cell::RefCell;
+use wf_simulation::World;
+use wf_store::MemoryFolder;
+
+/// The most sockets of a turn.
+pub(crate) const MOST_READY: usize = 64;
+
+/// A host: its folder, which outlives its process, its clock, and when its process does something.
+#[derive(Drop)]
+pub(crate) struct Host<'a> {
+    pub(crate) number: u8,
+    pub(crate) folder: &'a MemoryFolder,
+    /// When the next turn is due, or the next start.
+    pub(crate) due: u64,
+    /// How many sequences its process had published when that was noted last.
+    pub(crate) published: u16,
+    // by how much its clock is ahead, in milliseconds
+    ahead: u64,
+    // whether a call of its disks is to fail, and how many have
+    will_fail: bool,
+    failed: u64,
+}
+
+impl<'a> Host<'a> {
+    /// A host whose process is to be started at this time. Its clock is ahead by as many minutes as
+    /// its number says.
+    pub(crate) fn new(number: u8, folder: &'a MemoryFolder, due: u64) -> Self {
+        Host {
+            number,
+            folder,
+            due,
+            published: 0,
+            ahead: u64::from(number).saturating_mul(60_000),
+            will_fail: false,
+            failed: 0,
+        }
+    }
+
+    /// The time of its clock.
+    pub(crate) fn clock(&self, time: u64) -> u64 {
+        time.saturating_add(self.ahead)
+    }
+
+    /// How many calls of its disks have failed.
+    pub(crate) fn failed(&self) -> u64 {
+        self.failed
+    }
+
+    /// It is turned on, unless it is, and no call of its disks fails. Random bits are these.
+    pub(crate) fn turn_on(&mut self, world: &RefCell<World>, bits: [u8; 16]) {
+        if let Ok(mut world) = world.try_borrow_mut() {
+            world.turn_on(self.number as usize);
+        }
+        self.mend_disk();
+        self.folder.set_bits(bits);
+    }
+
+    /// A fault happens. Returns whether the process ends by it.
+    pub(crate) fn fail(&mut self, world: &RefCell<World>, time: u64, stroke: &Stroke) -> bool {
+        match stroke.fault {
+            Fault::Kill => self.due = stroke.back,
+            Fault::Cut => {
+                self.cut(world, stroke.older, stroke.kept);
+                self.due = stroke.back;
+            }
+            Fault::Jump => {
+                self.ahead = self.ahead.saturating_add(stroke.until.saturating_sub(time));
+                self.due = 0;
+                return false;
+            }
+            _ => {
+                self.folder.set_failure(stroke.call, stroke.kept);
+                self.will_fail = true;
+                return false;
+            }
+        }
+        true
+    }
+
+    /// Its power is cut.
+    fn cut(&self, world: &RefCell<World>, older: usize, kept: usize) {
+        if let Ok(mut world) = world.try_borrow_mut() {
+            world.turn_off(self.number as usize);
+        }
+        self.folder.cut(older, kept);
+    }
+
+    /// No call of its disks fails any more.
+    fn mend_disk(&mut self) {
+        self.folder.set_failure(0, 0);
+        self.will_fail = false;
+    }
+
+    /// All faults are over: no call of its disks fails any more, and its process is started by this
+    /// time at the latest.
+    pub(crate) fn heal(&mut self, time: u64) {
+        self.due = self.due.min(time);
+        self.mend_disk();
+    }
+
+    /// Counts the call of its disks that has failed, if one has.
+    pub(crate) fn count_failure(&mut self) {
+        if self.will_fail && !self.folder.will_fail() {
+            self.will_fail = false;
+            self.failed = self.failed.saturating_add(1);
+        }
+    }
+
+    /// Puts the tokens of its sockets that may be ready to the front of a buffer, and returns how
+    /// many they are.
+    pub(crate) fn take_ready(&self, world: &RefCell<World>, tokens: &mut [usize]) -> usize {
+        let Ok(mut world) = world.try_borrow_mut() else {
+            return 0;
+        };
+        let mut count = 0usize;
+        for token in tokens.iter_mut() {
+            match world.take_ready(self.number as usize) {
+                Some(ready) => {
+                    *token = ready;
+                    count = count.saturating_add(1);
+                }
+                None => return count,
+            }
+        }
+        count
+    }
+}
