@@ -4,8 +4,8 @@
     python3 tools/try_edits.py wf_ballot                    every mutant of the crate
     python3 tools/try_edits.py wf_ballot half_is_a_majority one mutant, or several by their names
     python3 tools/try_edits.py --changed origin/main        every mutant of each crate whose code or specs
-    differ from a commit python3 tools/try_edits.py --applies                    only whether each mutant of
-    every crate still applies
+                                                            differ from a commit
+    python3 tools/try_edits.py --applies                    only whether each mutant of every crate applies
 
 CI tries a mutant in `must-fail/NAME.edit`; those of the table `must-fail/by-hand.edits.md` are tried only
 here. Each is applied to a copy of the crate, and the prover has to reject the copy: the test is CI's own. In
