@@ -8,7 +8,7 @@ use Rattle.wf_model.specs.declared.action.Action.TheVariants as action
 use Rattle.wf_tape.specs.declared.tape.Tape.{Ghosts as Tape}
 use Rattle.wf_actor.specs.Farm.{Step, items, steps_of, steps_by, AreOwn, ArePeersAmong, AreCarried, AreMembers, ProcessesAreFarm, LifeIsPart, PartIsFirst, RunsAreOwn}
 use Rattle.wf_actor.specs.Life.{AreOwnAmong, AreOwnReceived}
-use Rattle.wf_actor.specs.Sent.{AreAmong}
+use Rattle.wf_wire.specs.Post.{AreAmong}
 use Rattle.wf_actor.specs.declared.actor.Origin.{Origin}
 use Rattle.wf_actor.specs.declared.actor.Origin.TheVariants.{Own, Peer}
 use Rattle.wf_actor.proofs.Lists.{in_left, in_right, in_either}
@@ -21,7 +21,7 @@ delivers_sent emitted sent origin (action.Propose d) among own peers = tt
 delivers_sent emitted sent origin action.Retry among own peers = tt
 delivers_sent emitted sent origin action.CatchUp among own peers = tt
 delivers_sent emitted sent Own (action.Deliver m) among own peers = among m (own m (inl refl))
-delivers_sent emitted sent (Peer peer) (action.Deliver m) among own peers = peers m (inl refl)
+delivers_sent emitted sent (Peer peer stream) (action.Deliver m) among own peers = peers m (inl refl)
 
 -- what process i has returned after a step of process p
 reported_after : ℕ → ℕ → List Message → List Message → List Message
@@ -103,7 +103,7 @@ part_is_first tapes = λ read_from began node part durable empty. subst (λ byte
 
 among_more : (emitted more : List Message) (origin : Origin) (messages : List Message) → AreAmong emitted more → AreOwnAmong emitted origin messages → AreOwnAmong more origin messages
 among_more emitted more Own messages among own = λ m there. among m (own m there)
-among_more emitted more (Peer peer) messages among own = tt
+among_more emitted more (Peer peer stream) messages among own = tt
 
 own_more : (emitted more : List Message) (steps : List Step) → AreAmong emitted more → AreOwn emitted steps → AreOwn more steps
 unfolding AreOwn

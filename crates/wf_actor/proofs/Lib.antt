@@ -3,13 +3,8 @@ mod Growth
 mod Halts
 mod Runs
 mod Lives
-mod Offers
-mod Posted
-mod Unlinked
 mod Dispatches
 mod Receipt
-mod Changes
 mod Fronts
-mod Arrivals
 mod Farms
 mod Responses

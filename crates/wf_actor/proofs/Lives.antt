@@ -17,7 +17,8 @@ use Rattle.wf_node.specs.OpenedNode.{IsRead}
 use Rattle.wf_node.specs.Step.{IsTransition, IsSameNode, transition_of}
 use Rattle.wf_node.specs.declared.fault.NodeFault.{NodeFault}
 use Rattle.wf_tape.specs.declared.tape.Tape.{Ghosts as Tape}
-use Rattle.wf_actor.specs.Life.{all_from, delivered, logged, AreOwnAmong, AreOwnReceived, IsLife, IsOpenedFrom}
+use Rattle.wf_actor.specs.Life.{all_from, delivered, AreOwnAmong, AreOwnReceived, IsLife, IsOpenedFrom}
+use Rattle.wf_wire.specs.Post.{logged}
 use Rattle.wf_actor.specs.declared.actor.Origin.{Origin}
 use Rattle.wf_actor.specs.declared.actor.Origin.TheVariants.{Own}
 use Rattle.wf_actor.proofs.Runs.{received_more, delivered_more}

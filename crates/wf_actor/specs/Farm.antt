@@ -6,7 +6,7 @@ use Rattle.wf_codec.specs.declared.message.Message.{Message}
 use Rattle.wf_node.specs.Node.{Node}
 use Rattle.wf_tape.specs.declared.tape.Tape.{Ghosts as Tape}
 use Rattle.wf_actor.specs.Life.{AreOwnAmong, IsLife}
-use Rattle.wf_actor.specs.Sent.{AreAmong}
+use Rattle.wf_wire.specs.Post.{AreAmong}
 use Rattle.wf_actor.specs.declared.actor.Origin.{Origin}
 use Rattle.wf_actor.specs.declared.actor.Origin.TheVariants.{Own, Peer}
 
@@ -46,7 +46,7 @@ AreOwn emitted (step ∷ steps) = AreOwnAmong emitted step.origin (given_to step
 -- each message that comes from a peer is one of these
 abbrev pub ArePeersAmong : List Message → Origin → List Message → Type 0
 ArePeersAmong sent Own messages = ⊤
-ArePeersAmong sent (Peer peer) messages = AreAmong messages sent
+ArePeersAmong sent (Peer peer stream) messages = AreAmong messages sent
 
 -- Each message that a step delivers from a peer is one of these, or earlier steps returned it, by
 -- whichever process. That is what connections promise that carry only what was written to them.

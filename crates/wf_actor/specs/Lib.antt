@@ -1,11 +1,7 @@
-pub mod Target
 pub mod Backlog
-pub mod Offer
-pub mod Link
 pub mod Life
 pub mod Start
 pub mod Sent
 pub mod Process
-pub mod OutboxWrites
 pub mod Farm
 pub mod Responses

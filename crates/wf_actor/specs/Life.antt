@@ -1,6 +1,5 @@
 -- The life of a node in a process: its acts since it was opened, and where its inputs came from.
-use Rattle.std.specs.Prelude.{◌≡◌, ℕ, ⊤, List, [], ◌∷◌, ◌++◌, map, Vec}
-use Rattle.std.specs.declared.alloc.Global.{Global}
+use Rattle.std.specs.Prelude.{◌≡◌, ℕ, ⊤, List, [], ◌∷◌, ◌++◌, map}
 use Rattle.wf_codec.specs.declared.message.Message.{Message}
 use Rattle.wf_career.specs.Run.{Act, Run, AreDone, IsOpened, given_to, last, outputs}
 use Rattle.wf_model.specs.Chosen.{IsIn}
@@ -8,11 +7,6 @@ use Rattle.wf_node.specs.Node.{Node}
 use Rattle.wf_tape.specs.declared.tape.Tape.{Ghosts as Tape}
 use Rattle.wf_actor.specs.declared.actor.Origin.{Origin}
 use Rattle.wf_actor.specs.declared.actor.Origin.TheVariants.{Own, Peer}
-
--- the messages of a log of lists
-unfoldable pub logged : List (Vec Message Global × ℕ) → List Message
-logged [] = []
-logged (entry ∷ log) = entry.0.items ++ logged log
 
 -- the messages with where they came from
 abbrev pub all_from : Origin → List Message → List (Message × Origin)
@@ -27,7 +21,7 @@ delivered (act ∷ acts) (origin ∷ origins) = all_from origin (given_to act.in
 -- each message that comes from the process itself is one of these
 abbrev pub AreOwnAmong : List Message → Origin → List Message → Type 0
 AreOwnAmong emitted Own messages = (m : Message) → IsIn m messages → IsIn m emitted
-AreOwnAmong emitted (Peer peer) messages = ⊤
+AreOwnAmong emitted (Peer peer stream) messages = ⊤
 
 -- Each act has its origin, and each message of its own that an act delivers is one of these, or was
 -- returned by an earlier act.

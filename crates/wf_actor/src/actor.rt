@@ -1,5 +1,7 @@
 ghost use Rattle.std.specs.Prelude.{◌≡◌, ◌∷◌, []};
-ghost use Rattle.wf_actor.specs.Life.{logged, IsLife};
+ghost use Rattle.wf_actor.specs.Life.{IsLife};
+ghost use Rattle.wf_actor.specs.Sent.{AreGivenCome};
+ghost use Rattle.wf_wire.specs.Post.{logged};
 
 use crate::cached::CachedNode;
 use crate::note::{note, report};
@@ -8,6 +10,7 @@ use wf_ballot::NodeId;
 use wf_codec::Message;
 use wf_edge::Served;
 use wf_journal::OpenFault;
+use wf_mail::Receiver;
 use wf_node::{Input, Node, NodeFault};
 use wf_past::Past;
 use wf_stream::{Sink, Source};
@@ -15,12 +18,12 @@ use wf_tape::Tape;
 use wf_wms::Cache;
 
 /// Where an input of a node comes from.
-#[derive(Clone, Copy, Debug, PartialEq, Eq)]
+#[derive(Drop)]
 pub enum Origin {
     /// The process: an action of its own, or a message that its own node returned.
     Own,
-    /// The receiver of that peer.
-    Peer(NodeId),
+    /// A connection from that peer, with what had come on it by then, which only proofs read.
+    Peer(NodeId, Past<Vec<u8>, Receiver>),
 }
 
 /// A node and its life since it was opened. A clause sees the node, and logs that only proofs read:
@@ -34,11 +37,13 @@ pub struct Actor<T: Tape> {
     pub(crate) given: Past<Message, Origin>,
     pub(crate) emitted: Past<Vec<Message>, usize>,
     ghost lived: { ∥ IsLife T.Tape read_from.items began.items given.items (logged emitted.items) node ∥₁ },
+    ghost received: { ∥ AreGivenCome given.items ∥₁ },
 }
 
 impl<T: Tape> Actor<T> {
     ghost use Rattle.std.specs.Prelude.{◌++◌, ◌<◌, ◌≤◌, ◌≢◌, false, List, IfOk, IfErr};
     ghost use Rattle.wf_actor.specs.Life.{all_from, AreOwnAmong, IsOpenedFrom};
+    ghost use Rattle.wf_actor.specs.Sent.{AreCome};
     ghost use Rattle.wf_actor.specs.Start.{IsOpened};
     ghost use Rattle.wf_def.specs.Definition.{Definition};
     ghost use Rattle.wf_career.specs.Run.{given_to};
@@ -139,7 +144,8 @@ impl<T: Tape> Actor<T> {
         input: Input,
         origin: Origin,
     ) -> Result<Vec<Message>, NodeFault>
-        requires { ∥ AreOwnAmong (logged self.old.emitted.items) origin (given_to input) ∥₁ }
+        requires own { ∥ AreOwnAmong (logged self.old.emitted.items) origin (given_to input) ∥₁ }
+        requires come { ∥ AreCome origin (given_to input) ∥₁ }
         ensures answer { IsStepResult T.Tape (view input) self.old.node result self.new.node }
         ensures read_from { self.new.read_from.items ≡ self.old.read_from.items }
         ensures began { self.new.began.items ≡ self.old.began.items }
@@ -148,7 +154,8 @@ impl<T: Tape> Actor<T> {
         ensures emitted { logged self.new.emitted.items ≡
             logged self.old.emitted.items ++ outputs_by result }
     {
-        note(&mut self.given, &input, origin);
+        note(&mut self.given, &input, &origin);
+        drop(origin);
         let answer = self.node.step(alloc, input);
         report(&mut self.emitted, &answer);
         answer
@@ -182,10 +189,12 @@ impl<T: Tape> Actor<T> {
         served
     }
 
-    /// Its life, always. The call does nothing.
+    /// Its life, always: and what was given to it from a peer came on a connection from that peer.
+    /// The call does nothing.
     pub fn always_lived(&self)
-        ensures { ∥ IsLife T.Tape self.now.read_from.items self.now.began.items
+        ensures lived { ∥ IsLife T.Tape self.now.read_from.items self.now.began.items
             self.now.given.items (logged self.now.emitted.items) self.now.node ∥₁ }
+        ensures received { ∥ AreGivenCome self.now.given.items ∥₁ }
     {
         let _ = &self.began;
     }

@@ -1,7 +1,8 @@
 //! What logs note of a step.
 
 ghost use Rattle.std.specs.Prelude.{◌≡◌, ◌++◌};
-ghost use Rattle.wf_actor.specs.Life.{all_from, logged};
+ghost use Rattle.wf_actor.specs.Life.{all_from};
+ghost use Rattle.wf_wire.specs.Post.{logged};
 ghost use Rattle.wf_career.specs.Run.{given_to};
 ghost use Rattle.wf_delivery.specs.Reachability.{outputs_by};
 
@@ -11,11 +12,11 @@ use wf_node::{Input, NodeFault};
 use wf_past::Past;
 
 /// Notes the message that the input delivers, if it does, with where it comes from.
-pub(crate) fn note(given: &mut Past<Message, Origin>, input: &Input, origin: Origin)
-    ensures { given.new.items ≡ given.old.items ++ all_from origin (given_to input.now) }
+pub(crate) fn note(given: &mut Past<Message, Origin>, input: &Input, origin: &Origin)
+    ensures { given.new.items ≡ given.old.items ++ all_from origin.now (given_to input.now) }
 {
     match input {
-        Input::Deliver(message) => *given = given.and(message, &origin),
+        Input::Deliver(message) => *given = given.and(message, origin),
         Input::Propose(_) | Input::Retry | Input::CatchUp => {}
     }
 }

@@ -1,14 +1,12 @@
 ghost use Rattle.std.specs.Prelude.{◌≡◌, ◌<◌, ◌≤◌, length};
-ghost use Rattle.wf_actor.specs.Life.{logged};
+ghost use Rattle.wf_wire.specs.Post.{logged};
 ghost use Rattle.wf_delivery.specs.NodeInput.{reports_halt};
-ghost use Rattle.wf_actor.specs.Sent.{AreArrivedCome, AreGivenCome, AreSent};
+ghost use Rattle.wf_actor.specs.Sent.{AreGivenCome, AreSent};
 
 use crate::actor::{Actor, Origin};
 use crate::backlog::Backlog;
-use crate::link::Link;
-use crate::parts::{ProcessParts, make_room, send};
+use crate::parts::{ProcessParts, make_room, post};
 use crate::reopening::ReopenFault;
-use crate::target::{Target, reply_target};
 use std::alloc::{AllocError, Global};
 use wf_ballot::NodeId;
 use wf_canon::Canon;
@@ -17,39 +15,35 @@ use wf_journal::OpenFault;
 use wf_node::{Input, Node, NodeFault};
 use wf_past::Past;
 use wf_tape::Tape;
+use wf_wire::{PeerMessage, Post, Target, reply_target};
 use wf_wms::Cache;
 
 /// One node of a farm in a process of its own. A clause sees its actor, its own messages that wait
-/// for it, the ends of its connections by node, and logs that only proofs read: what the receivers
-/// returned, with the peer; and the runs that have ended.
+/// for it, the posts that wait to be given to those that they are for, and a log that only proofs
+/// read: the runs that have ended.
 #[derive(Drop)]
 pub struct Process<T: Tape> {
     pub(crate) actor: Actor<T>,
     pub(crate) n: u8,
-    pub(crate) backlog: Backlog,
-    pub(crate) links: Vec<Link>,
+    pub(crate) backlog: Backlog<Message>,
+    pub(crate) posts: Backlog<Post>,
     pub(crate) pictures: usize,
-    pub(crate) came: Past<Vec<Message>, NodeId>,
     pub(crate) ended: Past<Actor<T>, usize>,
     ghost most: { n ≤ 64 },
     ghost some_pictures: { 1 ≤ pictures },
     ghost most_pictures: { pictures ≤ 64 },
     ghost among: { actor.node.n ≡ n },
     ghost member: { actor.node.id < n },
-    ghost linked: { length links.items ≡ n },
-    ghost sent: { ∥ AreSent backlog.messages.items links.items (logged actor.emitted.items) ∥₁ },
-    ghost received: { ∥ AreGivenCome came.items actor.given.items ∥₁ },
-    ghost arrived: { ∥ AreArrivedCome came.items links.items ∥₁ },
+    ghost sent: { ∥ AreSent backlog.messages.items posts.messages.items (logged actor.emitted.items) ∥₁ },
 }
 
 impl<T: Tape> Process<T> {
-    ghost use Rattle.std.specs.Prelude.{◌≢◌, ◌++◌, ◌∷◌, [], None, IfErr, IfOk, IfSome};
+    ghost use Rattle.std.specs.Prelude.{◌≢◌, ◌++◌, ◌∷◌, [], List, None, IfErr, IfOk, IfSome};
     ghost use Rattle.wf_actor.specs.Start.{IsOpened};
-    ghost use Rattle.wf_actor.specs.Process.{waiting_in, ReceivesOwn, IsActed, IsJustOpened, IsReceived, IsOwnPopped};
+    ghost use Rattle.wf_actor.specs.Process.{posts_in, waiting_in, ReceivesOwn, IsActed, IsFirstGiven, IsJustOpened, IsReceived, IsOwnPopped};
     ghost use Rattle.wf_actor.specs.Life.{AreOwnAmong, IsLife};
     ghost use Rattle.wf_actor.specs.Sent.{AreCome};
-    ghost use Rattle.wf_actor.specs.declared.target.Target.TheVariants as target;
-    ghost use Rattle.wf_actor.specs.Link.{AreUnlinked};
+    ghost use Rattle.wf_wire.specs.declared.target.Target.TheVariants as target;
     ghost use Rattle.wf_actor.specs.declared.actor.Origin.TheVariants as origin;
     ghost use Rattle.wf_career.specs.Run.{given_to};
     ghost use Rattle.wf_codec.specs.declared.message.Message.TheVariants as message;
@@ -59,10 +53,10 @@ impl<T: Tape> Process<T> {
     ghost use Rattle.wf_node.specs.OpenedNode.{IsWhyBad};
     ghost use Rattle.wf_node.specs.Node.{volatile_of};
     ghost use Rattle.wf_tape.specs.Change.{Stays};
+    ghost use Rattle.wf_wire.specs.declared.post.Post as posting;
     ghost use Rattle.wf_wms.specs.CachedPictures.{AllCached};
 
-    /// Node `id` of `n` on its tape, with a cache for `pictures` pictures. No message waits, and
-    /// there are no connections. An error returns the tape: those of [`Node::open`], and P3 also if
+    /// Node `id` of `n` on its tape, with a cache for `pictures` pictures. Nothing waits. An error returns the tape: those of [`Node::open`], and P3 also if
     /// there is no memory for the process, before the tape is read.
     pub fn open(
         alloc: Global,
@@ -88,7 +82,7 @@ impl<T: Tape> Process<T> {
         ensures images { T.durable →
             IfErr result (λ e. Follows ReadsSame (T.images tape) (T.images e.0)) }
     {
-        let Ok((parts, cache)) = make_room(alloc, n, pictures) else {
+        let Ok((parts, cache)) = make_room(alloc, pictures) else {
             return Err((tape, OpenFault::Memory));
         };
         match Actor::open(alloc, tape, id, n, cache) {
@@ -100,14 +94,14 @@ impl<T: Tape> Process<T> {
         }
     }
 
-    /// A new process of this actor: nothing waits, and there are no connections.
+    /// A new process of this actor: nothing waits.
     fn assemble(actor: Actor<T>, n: u8, pictures: usize, parts: ProcessParts) -> Process<T>
         requires most { n ≤ 64 }
         requires some_pictures { 1 ≤ pictures }
         requires most_pictures { pictures ≤ 64 }
         requires among { actor.node.n ≡ n }
         requires member { actor.node.id < n }
-        requires links { AreUnlinked n parts.links.items }
+        requires posts { parts.posts.messages.items ≡ [] }
         requires backlog { parts.backlog.messages.items ≡ [] }
         requires began { actor.began.items ≡ (actor.node, 0) ∷ [] }
         requires given { actor.given.items ≡ [] }
@@ -117,14 +111,13 @@ impl<T: Tape> Process<T> {
         ensures begun { IsJustOpened result }
         ensures ended { result.ended.items ≡ [] }
     {
-        let ProcessParts { backlog, links } = parts;
+        let ProcessParts { backlog, posts } = parts;
         Process {
             actor,
             n,
             backlog,
-            links,
+            posts,
             pictures,
-            came: Past::new(),
             ended: Past::new(),
         }
     }
@@ -168,8 +161,8 @@ impl<T: Tape> Process<T> {
         self.backlog.len()
     }
 
-    /// Proposes a definition for the next sequence. Its messages go to every node, the process's
-    /// own too. Err: N2 to N4 if the step table rejects the proposal, N5 if the node is halted, and
+    /// Proposes a definition for the next sequence. Its messages wait for every node, the
+    /// process's own too. Err: N2 to N4 if the step table rejects the proposal, N5 if the node is halted, and
     /// then nothing has changed; N1 if an allocation failed, N6 if the tape did.
     pub fn propose(&mut self, alloc: Global, canon: Canon) -> Result<(), NodeFault>
         ensures { IsActed T.Tape (action.Propose canon) origin.Own target.Everyone
@@ -178,8 +171,8 @@ impl<T: Tape> Process<T> {
         self.act(alloc, Input::Propose(canon), Origin::Own, Target::Everyone)
     }
 
-    /// Begins the running proposal anew, in a new round if it needs one. Its messages go to every
-    /// node. Err: N7 if no proposal runs, otherwise as of [`Process::propose`].
+    /// Begins the running proposal anew, in a new round if it needs one. Its messages wait for
+    /// every node. Err: N7 if no proposal runs, otherwise as of [`Process::propose`].
     pub fn retry(&mut self, alloc: Global) -> Result<(), NodeFault>
         ensures { IsActed T.Tape action.Retry origin.Own target.Everyone
             self.old result self.new }
@@ -196,7 +189,7 @@ impl<T: Tape> Process<T> {
         self.act(alloc, Input::CatchUp, Origin::Own, Target::Only(peer))
     }
 
-    /// Delivers the first of its own messages that wait to the node. The answer goes to whom it is
+    /// Delivers the first of its own messages that wait to the node. The answer waits for whom it is
     /// for. None: no message waits. Err: N1, and the message is lost, as if the network had lost
     /// it; N5 or N6.
     pub fn handle_own(&mut self, alloc: Global) -> Option<Result<(), NodeFault>>
@@ -214,6 +207,39 @@ impl<T: Tape> Process<T> {
         }
     }
 
+    /// Delivers a message that came from a peer to the node. The answer waits for whom it is for.
+    /// Err: N1, and the message is lost, as if the network had lost it; N5 or N6.
+    pub fn deliver(&mut self, alloc: Global, message: PeerMessage) -> Result<(), NodeFault>
+        ensures { IsReceived T.Tape message.message (origin.Peer message.from message.stream)
+            message.from self.old result self.new }
+    {
+        let (message, from, stream) = message.into_parts();
+        self.give(alloc, message, Origin::Peer(from, stream), from)
+    }
+
+    /// The first of the posts that wait to be given to those that they are for.
+    pub fn first_post(&self) -> Option<&Post>
+        ensures { IfSome result (λ post. (rest : List posting.Post) ×
+            (posts_in self.now ≡ post.now ∷ rest)) }
+    {
+        self.posts.first()
+    }
+
+    /// The first post was given to the peers that it is for. If it is for the node itself too, its
+    /// messages wait for that now, as far as there is room.
+    pub fn finish_post(&mut self)
+        ensures { IsFirstGiven (posts_in self.old) self.old self.new }
+    {
+        let own = usize::from(self.node().id().number());
+        match self.posts.pop() {
+            Some(post) if post.target().includes(own) => {
+                self.backlog.extend(post.into_messages());
+            }
+            Some(post) => drop(post),
+            None => {}
+        }
+    }
+
     /// Takes out the first of its own messages that wait.
     fn pop_own(&mut self) -> Option<Message>
         ensures some { IfSome result (λ m. IsOwnPopped m self.old self.new) }
@@ -226,7 +252,7 @@ impl<T: Tape> Process<T> {
         }
     }
 
-    /// Delivers a message to the node, which comes from that node. The answer goes to whom it is
+    /// Delivers a message to the node, which comes from that node. The answer waits for whom it is
     /// for.
     pub(crate) fn give(
         &mut self,
@@ -236,14 +262,14 @@ impl<T: Tape> Process<T> {
         from: NodeId,
     ) -> Result<(), NodeFault>
         requires own { ∥ AreOwnAmong (logged self.old.actor.emitted.items) origin (message ∷ []) ∥₁ }
-        requires come { ∥ AreCome self.old.came.items origin (message ∷ []) ∥₁ }
+        requires come { ∥ AreCome origin (message ∷ []) ∥₁ }
         ensures { IsReceived T.Tape message origin from self.old result self.new }
     {
         let target = reply_target(&message, from);
         self.act(alloc, Input::Deliver(message), origin, target)
     }
 
-    /// Gives the node an input, which comes from there, and its messages to whom they are for.
+    /// Gives the node an input, which comes from there. Its messages wait for whom they are for.
     fn act(
         &mut self,
         alloc: Global,
@@ -252,13 +278,18 @@ impl<T: Tape> Process<T> {
         target: Target,
     ) -> Result<(), NodeFault>
         requires own { ∥ AreOwnAmong (logged self.old.actor.emitted.items) origin (given_to input) ∥₁ }
-        requires come { ∥ AreCome self.old.came.items origin (given_to input) ∥₁ }
+        requires come { ∥ AreCome origin (given_to input) ∥₁ }
         ensures { IsActed T.Tape input origin target self.old result self.new }
     {
-        let own = self.node().id();
         match self.actor.step(alloc, input, origin) {
             Ok(messages) => {
-                send(&mut self.backlog, &mut self.links, own, messages, target);
+                post(
+                    alloc,
+                    &mut self.posts,
+                    messages,
+                    target,
+                    &self.actor.emitted,
+                );
                 Ok(())
             }
             Err(fault) => Err(fault),
@@ -274,15 +305,15 @@ impl<T: Tape> Process<T> {
         self.actor.always_lived();
     }
 
-    /// Always: what was put into any outbox, and what waits for the node itself, the node returned
-    /// in this run; and what was given to it from a peer, a receiver of that peer returned. The
+    /// Always: what waits for the node itself, and what is in the posts that wait, the node returned
+    /// in this run; and what was given to it from a peer came on a connection from that peer. The
     /// call does nothing.
     pub fn always_received(&self)
-        ensures sent { ∥ AreSent (waiting_in self.now) self.now.links.items
+        ensures sent { ∥ AreSent (waiting_in self.now) (posts_in self.now)
             (logged self.now.actor.emitted.items) ∥₁ }
-        ensures received { ∥ AreGivenCome self.now.came.items self.now.actor.given.items ∥₁ }
+        ensures received { ∥ AreGivenCome self.now.actor.given.items ∥₁ }
     {
-        let _ = &self.came;
+        self.actor.always_lived();
     }
 }
 
@@ -296,8 +327,7 @@ impl<T: Tape + Drop> Process<T> {
     ghost use Rattle.wf_node.specs.Reopening.{HasStoredAs};
 
     /// The process of a node that was opened elsewhere, and has moved to its tape
-    /// (`Node::move_to`), with a cache for `pictures` pictures. No message waits, and there are no
-    /// connections. Its life is from the records that the tape has now. Err: there is no memory for
+    /// (`Node::move_to`), with a cache for `pictures` pictures. Nothing waits. Its life is from the records that the tape has now. Err: there is no memory for
     /// the process, and the node is dropped.
     pub fn of(alloc: Global, node: Node<T>, pictures: usize) -> Result<Process<T>, AllocError>
         requires nodes { node.n ≤ 64 }
@@ -317,7 +347,7 @@ impl<T: Tape + Drop> Process<T> {
         ensures ended { IfOk result (λ process. process.ended.items ≡ []) }
     {
         let n = node.n();
-        let Ok((parts, cache)) = make_room(alloc, n, pictures) else {
+        let Ok((parts, cache)) = make_room(alloc, pictures) else {
             drop(node);
             return Err(AllocError);
         };
@@ -325,8 +355,7 @@ impl<T: Tape + Drop> Process<T> {
     }
 
     /// The process in its next run, on a tape from which its node is opened, once its own has
-    /// failed: nothing waits, there are no connections, and this run is the last of those that have
-    /// ended. It is the node that it was: it has stored what this node has, or that and the record
+    /// failed: nothing waits, and this run is the last of those that have ended. It is the node that it was: it has stored what this node has, or that and the record
     /// of the step within which the tape failed. That is compared, so it holds of any tape. Err:
     /// the tape doesn't open, or isn't what this node left; it is dropped.
     pub fn reopen(&self, alloc: Global, tape: T) -> Result<Process<T>, ReopenFault>

@@ -1,12 +1,12 @@
 //! Clients of a process.
 
-use crate::parts::send;
+use crate::parts::post;
 use crate::process::Process;
-use crate::target::Target;
 use std::alloc::Global;
 use wf_edge::{Outcome, Served};
 use wf_stream::{Sink, Source};
 use wf_tape::Tape;
+use wf_wire::Target;
 
 impl<T: Tape> Process<T> {
     ghost use Rattle.wf_actor.specs.Process.{IsServedBy};
@@ -16,7 +16,7 @@ impl<T: Tape> Process<T> {
 
     /// Serves one request, as [`wf_edge::serve_one_cached`] does: what reads is answered by the
     /// node's history and the pictures that are kept; POST /publish is an act if its checks pass,
-    /// and its messages go to every node, whether or not the response is written. Where the reader
+    /// and its messages wait for every node, whether or not the response is written. Where the reader
     /// fails before the request is complete, nothing is written and nothing has changed.
     pub fn serve<S: Source, K: Sink>(
         &mut self,
@@ -31,15 +31,14 @@ impl<T: Tape> Process<T> {
         ensures reads { CountsReceiving result (S.failures source.old) (S.failures source.new) }
         ensures writes { CountsCompleting result (K.failures sink.old) (K.failures sink.new) }
     {
-        let own = self.node().id();
         let served = self.actor.serve(alloc, source, sink);
         let Served { outcome, messages } = served;
-        send(
-            &mut self.backlog,
-            &mut self.links,
-            own,
+        post(
+            alloc,
+            &mut self.posts,
             messages,
             Target::Everyone,
+            &self.actor.emitted,
         );
         outcome
     }

@@ -2,15 +2,16 @@
 use Rattle.std.proofs.Common.{◌≡◌, ◌⊎◌, ℕ, ◌<◌, ◌≤◌, Bool, true, false, List, [], ◌∷◌, ◌++◌, length, Option, Some, None, Result, refl, sym, subst, ap, ◌∙◌, inl, inr, append-nil, append_assoc}
 use Rattle.std.proofs.lemmas.Bool.{cases_Bool, cases_lt}
 use Rattle.std.specs.Prelude.{if◌then◌else◌}
-use Rattle.wf_actor.specs.Life.{logged}
-use Rattle.wf_actor.specs.Process.{ReceivesFrom, ReceivesOwn, IsActed, IsJustOpened, IsGoingOn, IsLinkChanged, IsReception, IsSameActor, arrived_at, arrived_of, is_peer, emitted_by}
+use Rattle.wf_wire.specs.Post.{logged}
+use Rattle.wf_actor.specs.Process.{IsActed, IsFirstGiven, IsGoingOn, IsJustOpened, IsReceived, IsSameActor, ReceivesOwn, emitted_by}
 use Rattle.wf_actor.specs.Start.{IsOpened}
 use Rattle.wf_actor.specs.declared.actor.Actor.{Actor}
-use Rattle.wf_actor.specs.declared.link.Link.{Link}
 use Rattle.wf_actor.specs.declared.actor.Origin.{Origin}
 use Rattle.wf_actor.specs.declared.actor.Origin.TheVariants as origins
 use Rattle.wf_actor.specs.declared.process.Process.{Process}
-use Rattle.wf_actor.specs.declared.target.Target.{Target}
+use Rattle.wf_actor.specs.Sent.{Stream}
+use Rattle.wf_wire.specs.declared.post.Post.{Post}
+use Rattle.wf_wire.specs.declared.target.Target.{Target}
 use Rattle.wf_def.specs.Definition.{Definition}
 use Rattle.wf_model.specs.declared.action.Action.{Action}
 use Rattle.wf_model.specs.declared.action.Action.TheVariants as actions
@@ -20,14 +21,13 @@ use Rattle.wf_mail.specs.Mail.{IsBeginning}
 use Rattle.wf_node.specs.Reopening.{HasStoredAs}
 use Rattle.wf_node.specs.declared.fault.NodeFault.{NodeFault}
 use Rattle.wf_tape.specs.declared.tape.Tape.{Ghosts as Tape}
-use Rattle.wf_codec.specs.declared.fault.DecodeFault.{DecodeFault}
 use Rattle.wf_loop.specs.Answer.{HasResponded, IsAnswer}
 use Rattle.wf_codec.specs.Message.{view}
 use Rattle.wf_loop.specs.Folder.{Stand, with_heard}
 use Rattle.wf_peer.specs.PeerProgressText.{peer_progress_text}
 use Rattle.wf_peer.specs.Told.{HearAll, IsHeardOf, IsHeardText}
 use Rattle.wf_peer.specs.declared.heard.Heard.{Heard}
-use Rattle.wf_loop.specs.Continuation.{AreHeardFrom, AreRunsFrom, AreRunsHeardFrom, Continues, ContinuesIn, IsNextRun, StaysInRun, HasOnlyServed, IsEarlier, IsHeardFrom, IsHeardKept, IsLater, IsNextHeard, KeepsEarlier, StaysSuspended, besides_asks, besides_chosen, is_ask, is_ask_first, is_chosen, is_chosen_first}
+use Rattle.wf_loop.specs.Continuation.{AreHeardFrom, AreRunsFrom, AreRunsHeardFrom, Continues, ContinuesIn, IsNextRun, StaysInRun, HasOnlyServed, IsEarlier, IsHeardFrom, IsHeardKept, IsLater, KeepsEarlier, StaysSuspended, besides_asks, besides_chosen, is_ask, is_chosen}
 use Rattle.wf_loop.specs.declared.hub.Voter.{Voter}
 use Rattle.wf_mesh.specs.declared.gate.Gate.TheVariants as gates
 use Rattle.wf_mesh.specs.declared.membership.Membership.{Membership}
@@ -87,7 +87,7 @@ heard_by known given given' same is = subst (λ (xs : List (Message × Origin)).
 -- what was heard before is heard later
 from_later : (earlier later : List (Option Heard)) → HearAll earlier later → (m : Message) (origin : Origin) → IsHeardFrom earlier m origin → IsHeardFrom later m origin
 from_later earlier later all m origins.Own is = tt
-from_later earlier later all m (origins.Peer i) is = all i m is
+from_later earlier later all m (origins.Peer i stream) is = all i m is
 
 heard_later : (earlier later : List (Option Heard)) → HearAll earlier later → (given : List (Message × Origin)) → AreHeardFrom earlier given → AreHeardFrom later given
 unfolding AreHeardFrom
@@ -189,9 +189,8 @@ module _ {T : Type 0} (tapes : Tape T) where
   own_received before None after is = unchanged before after is.1
   own_received before (Some result) after is = goes_twice before is.1 after (same_actor before is.1 is.2.rest) (going_on is.1 after _ is.3.goes_on is.3.emitted (grown _ _ _ is.3.given))
 
-  received_from : {U : Type 0} (peer : ℕ) (before : Process T tapes) (result : Option (Result U NodeFault)) (after : Process T tapes) → ReceivesFrom tapes peer before result after → StaysInRun tapes before after
-  received_from peer before None after is = unchanged before after is.1
-  received_from peer before (Some result) after is = goes_twice before is.1 after (same_actor before is.1 is.2.rest) (going_on is.1 after _ is.3.goes_on is.3.emitted (grown _ _ _ is.3.given))
+  received_from : {U : Type 0} (m : Message) (peer : ℕ) (stream : Stream) (before : Process T tapes) (result : Result U NodeFault) (after : Process T tapes) → IsReceived tapes m (origins.Peer peer stream) peer before result after → StaysInRun tapes before after
+  received_from m peer stream before result after is = going_on before after _ is.goes_on is.emitted (grown _ _ _ is.given)
 
   -- what it is given by its own message, or by one of a peer that was heard before
   pub own_heard : {U : Type 0} (before : Process T tapes) (result : Option (Result U NodeFault)) (after : Process T tapes) → ReceivesOwn tapes before result after
@@ -201,40 +200,20 @@ module _ {T : Type 0} (tapes : Tape T) where
       heard_by known _ _ (is.3.given ∙ ap (λ (a : Actor T tapes). a.given.items ++ (is.0, origins.Own) ∷ []) is.2.rest.actor)
       (heard_one known before.actor.given.items is.0 origins.Own are tt)
 
-  peer_heard : {U : Type 0} (peer : ℕ) (before : Process T tapes) (result : Option (Result U NodeFault)) (after : Process T tapes) (known : List (Option Heard))
-      → IsNextHeard known peer (arrived_at before peer) → ReceivesFrom tapes peer before result after → AreHeardFrom known before.actor.given.items → AreHeardFrom known after.actor.given.items
-  peer_heard peer before None after known next is are = heard_by known _ _ (ap (λ (p : Process T tapes). p.actor.given.items) is.1) are
-  peer_heard peer before (Some result) after known next is are =
-      let m = is.0 in
-      let popped = is.2 in
-      let arrived : arrived_at before peer ≡ m ∷ _ = ap (λ (link : Option Link). arrived_of link) popped.was ∙ popped.changes.first in
-      let heard : IsHeardOf known peer (view m) = subst (λ (ms : List Message). IsNextHeard known peer ms) arrived next in
-      heard_by known _ _ (is.3.given ∙ ap (λ (a : Actor T tapes). a.given.items ++ (m, origins.Peer peer) ∷ []) popped.rest.actor)
-      (heard_one known before.actor.given.items m (origins.Peer peer) are heard)
+  peer_heard : {U : Type 0} (m : Message) (peer : ℕ) (stream : Stream) (before : Process T tapes) (result : Result U NodeFault) (after : Process T tapes) (known : List (Option Heard))
+      → IsHeardOf known peer (view m) → IsReceived tapes m (origins.Peer peer stream) peer before result after → AreHeardFrom known before.actor.given.items → AreHeardFrom known after.actor.given.items
+  peer_heard m peer stream before result after known heard is are =
+      heard_by known _ _ is.given (heard_one known before.actor.given.items m (origins.Peer peer stream) are heard)
 
   -- one that asks for what is published
-  next_asked : {U : Type 0} (peer : ℕ) (before : Process T tapes) (result : Option (Result U NodeFault)) (after : Process T tapes) → is_ask_first (arrived_at before peer) ≡ true
-      → ReceivesFrom tapes peer before result after → besides_asks after.actor.given.items ≡ besides_asks before.actor.given.items
-  next_asked peer before None after first is = ap (λ (p : Process T tapes). besides_asks p.actor.given.items) is.1
-  next_asked peer before (Some result) after first is =
-      let m = is.0 in
-      let popped = is.2 in
-      let arrived : arrived_at before peer ≡ m ∷ _ = ap (λ (link : Option Link). arrived_of link) popped.was ∙ popped.changes.first in
-      let asks : is_ask m ≡ true = sym (ap is_ask_first arrived) ∙ first in
-      ap besides_asks (is.3.given ∙ ap (λ (a : Actor T tapes). a.given.items ++ (m, origins.Peer peer) ∷ []) popped.rest.actor)
-      ∙ one_asked before.actor.given.items m (origins.Peer peer) asks
+  next_asked : {U : Type 0} (m : Message) (peer : ℕ) (stream : Stream) (before : Process T tapes) (result : Result U NodeFault) (after : Process T tapes) → is_ask m ≡ true
+      → IsReceived tapes m (origins.Peer peer stream) peer before result after → besides_asks after.actor.given.items ≡ besides_asks before.actor.given.items
+  next_asked m peer stream before result after asks is = ap besides_asks is.given ∙ one_asked before.actor.given.items m (origins.Peer peer stream) asks
 
   -- one that says what is published
-  next_chosen : {U : Type 0} (peer : ℕ) (before : Process T tapes) (result : Option (Result U NodeFault)) (after : Process T tapes) → is_chosen_first (arrived_at before peer) ≡ true
-      → ReceivesFrom tapes peer before result after → besides_chosen after.actor.given.items ≡ besides_chosen before.actor.given.items
-  next_chosen peer before None after first is = ap (λ (p : Process T tapes). besides_chosen p.actor.given.items) is.1
-  next_chosen peer before (Some result) after first is =
-      let m = is.0 in
-      let popped = is.2 in
-      let arrived : arrived_at before peer ≡ m ∷ _ = ap (λ (link : Option Link). arrived_of link) popped.was ∙ popped.changes.first in
-      let says : is_chosen m ≡ true = sym (ap is_chosen_first arrived) ∙ first in
-      ap besides_chosen (is.3.given ∙ ap (λ (a : Actor T tapes). a.given.items ++ (m, origins.Peer peer) ∷ []) popped.rest.actor)
-      ∙ one_chosen before.actor.given.items m (origins.Peer peer) says
+  next_chosen : {U : Type 0} (m : Message) (peer : ℕ) (stream : Stream) (before : Process T tapes) (result : Result U NodeFault) (after : Process T tapes) → is_chosen m ≡ true
+      → IsReceived tapes m (origins.Peer peer stream) peer before result after → besides_chosen after.actor.given.items ≡ besides_chosen before.actor.given.items
+  next_chosen m peer stream before result after says is = ap besides_chosen is.given ∙ one_chosen before.actor.given.items m (origins.Peer peer stream) says
 
   -- ---- what the file `heard` has
 
@@ -369,33 +348,32 @@ module _ {T : Type 0} (tapes : Tape T) where
     kept = kept_given before after kept goes.ended given;
   }
 
-  kept_taking : {U : Type 0} (before after : Voter T tapes) (peer : ℕ) (result : Option (Result U NodeFault)) → after.kept ≡ before.kept
-      → IsNextHeard before.kept peer (arrived_at before.process peer) → ReceivesFrom tapes peer before.process result after.process
+  kept_taking : {U : Type 0} (before after : Voter T tapes) (m : Message) (peer : ℕ) (stream : Stream) (result : Result U NodeFault) → after.kept ≡ before.kept
+      → IsHeardOf before.kept peer (view m) → IsReceived tapes m (origins.Peer peer stream) peer before.process result after.process
       → (heard : Option (List ℕ)) → IsHeardKept heard before → IsHeardKept heard after
-  kept_taking before after peer result same next receives heard is = record {
+  kept_taking before after m peer stream result same next receives heard is = record {
     known = is.known;
     text = is.text;
     all = subst (λ (k : List (Option Heard)). HearAll k is.known) (sym same) is.all;
     given = subst (λ (k : List (Option Heard)). AreHeardFrom k after.process.actor.given.items) (sym same)
-        (peer_heard peer before.process result after.process before.kept next receives is.given);
+        (peer_heard m peer stream before.process result after.process before.kept next receives is.given);
     ended = subst (λ (k : List (Option Heard)). AreRunsHeardFrom tapes k after.process.ended.items) (sym same)
-        (subst (λ (runs : List (Actor T tapes × ℕ)). AreRunsHeardFrom tapes before.kept runs) (sym (received_from peer before.process result after.process receives).ended) is.ended);
+        (subst (λ (runs : List (Actor T tapes × ℕ)). AreRunsHeardFrom tapes before.kept runs) (sym (received_from m peer stream before.process result after.process receives).ended) is.ended);
   }
 
   -- one that takes in a message: it isn't suspended; the message asks for what is published if the
   -- node is outvoted, and says what is if it joins
-  pub taking : {U : Type 0} (before after : Voter T tapes) (peer : ℕ) (result : Option (Result U NodeFault)) → before.gate ≡ gates.Open → after.is_outvoted ≡ before.is_outvoted → after.membership ≡ before.membership → after.kept ≡ before.kept
-      → (before.is_outvoted ≡ true → is_ask_first (arrived_at before.process peer) ≡ true) → (before.membership.joins ≡ true → is_chosen_first (arrived_at before.process peer) ≡ true)
-      → IsNextHeard before.kept peer (arrived_at before.process peer)
-      → ReceivesFrom tapes peer before.process result after.process → Continues tapes before after
-  taking before after peer result is_open same member kept asks says next receives = record {
-    process = received_from peer before.process result after.process receives;
+  pub taking : {U : Type 0} (before after : Voter T tapes) (m : Message) (peer : ℕ) (stream : Stream) (result : Result U NodeFault) → before.gate ≡ gates.Open → after.is_outvoted ≡ before.is_outvoted → after.membership ≡ before.membership
+      → after.kept ≡ before.kept → (before.is_outvoted ≡ true → is_ask m ≡ true) → (before.membership.joins ≡ true → is_chosen m ≡ true) → IsHeardOf before.kept peer (view m)
+      → IsReceived tapes m (origins.Peer peer stream) peer before.process result after.process → Continues tapes before after
+  taking before after m peer stream result is_open same member kept asks says next receives = record {
+    process = received_from m peer stream before.process result after.process receives;
     suspended = λ is. absurd (let at_open = is_open in cc);
     outvoted = same;
-    asked = λ is. next_asked peer before.process result after.process (asks is) receives;
+    asked = λ is. next_asked m peer stream before.process result after.process (asks is) receives;
     membership = member;
-    learnt = λ is. next_chosen peer before.process result after.process (says is) receives;
-    kept = kept_taking before after peer result kept next receives;
+    learnt = λ is. next_chosen m peer stream before.process result after.process (says is) receives;
+    kept = kept_taking before after m peer stream result kept next receives;
   }
 
   -- the gate alone
@@ -411,7 +389,7 @@ module _ {T : Type 0} (tapes : Tape T) where
     kept = kept_as before after kept is;
   }
 
-  -- an end of a connection
+  -- what waits alone
   same_node : (before after : Voter T tapes) → after.gate ≡ before.gate → after.is_outvoted ≡ before.is_outvoted → after.membership ≡ before.membership → after.kept ≡ before.kept → IsSameActor before.process after.process
       → Continues tapes before after
   same_node before after gate same member kept is = record {
@@ -424,36 +402,13 @@ module _ {T : Type 0} (tapes : Tape T) where
     kept = kept_given before after kept is.ended (ap (λ (a : Actor T tapes). a.given.items) is.actor);
   }
 
-  same_process : (before after : Voter T tapes) → after.gate ≡ before.gate → after.is_outvoted ≡ before.is_outvoted → after.membership ≡ before.membership → after.kept ≡ before.kept → after.process ≡ before.process → Continues tapes before after
-  same_process before after gate same member kept is = gated before after (λ suspended. gate ∙ suspended) same member kept is
+  given_still : (posts : List Post) (before after : Process T tapes) → IsFirstGiven posts before after → IsSameActor before after
+  given_still [] before after is = is.still
+  given_still (post ∷ posts) before after is = is.still
 
-  pub relinked : (peer : ℕ) (change : Link → Link → Type 0) (before after : Voter T tapes) → after.gate ≡ before.gate → after.is_outvoted ≡ before.is_outvoted → after.membership ≡ before.membership → after.kept ≡ before.kept
-      → (peer < length before.process.links.items → IsLinkChanged peer change before.process after.process) → (length before.process.links.items ≤ peer → after.process ≡ before.process) → Continues tapes before after
-  relinked peer change before after gate same member kept linked no_links =
-      by_order peer (length before.process.links.items) (λ below. same_node before after gate same member kept (linked below).rest)
-      (λ above. same_process before after gate same member kept (no_links above))
-
-  pub written : {A B : Type 0} (peer : ℕ) (change : Link → Link → Type 0) (before after : Voter T tapes) → after.gate ≡ before.gate → after.is_outvoted ≡ before.is_outvoted → after.membership ≡ before.membership → after.kept ≡ before.kept
-      → (peer < length before.process.links.items → IsLinkChanged peer change before.process after.process) → (length before.process.links.items ≤ peer → A × (after.process ≡ before.process) × B)
-      → Continues tapes before after
-  written peer change before after gate same member kept linked no_links = relinked peer change before after gate same member kept linked (λ above. (no_links above).1)
-
-  pub received : {A : Type 0} (peer : ℕ) (piece : List ℕ) (before : Voter T tapes) (result : Result ℕ DecodeFault) (after : Voter T tapes) → after.gate ≡ before.gate
-      → after.is_outvoted ≡ before.is_outvoted → after.membership ≡ before.membership → after.kept ≡ before.kept
-      → (is_peer before.process peer ≡ true → IsReception peer piece before.process result after.process) → (is_peer before.process peer ≡ false → A × (after.process ≡ before.process))
-      → Continues tapes before after
-  received peer piece before result after gate same member kept from other =
-      by_test (is_peer before.process peer)
-      (λ is. let took = from is in record {
-        process = record { actor = later_same before.process.actor after.process.actor took.actor; among = took.among; ended = took.ended };
-        suspended = λ suspended. record { gate = gate ∙ suspended; actor = took.actor };
-        outvoted = same;
-        asked = λ _. ap (λ (a : Actor T tapes). besides_asks a.given.items) took.actor;
-        membership = member;
-        learnt = λ _. ap (λ (a : Actor T tapes). besides_chosen a.given.items) took.actor;
-        kept = kept_given before after kept took.ended (ap (λ (a : Actor T tapes). a.given.items) took.actor);
-      })
-      (λ is. same_process before after gate same member kept (other is).1)
+  pub post_finished : (posts : List Post) (before after : Voter T tapes) → after.gate ≡ before.gate → after.is_outvoted ≡ before.is_outvoted → after.membership ≡ before.membership → after.kept ≡ before.kept
+      → IsFirstGiven posts before.process after.process → Continues tapes before after
+  post_finished posts before after gate same member kept is = same_node before after gate same member kept (given_still posts before.process after.process is)
 
   -- a client's request, which was answered, or wasn't
   pub answered : (before : Process T tapes) (came response : List ℕ) (outcome : Outcome) (after : Process T tapes) → IsAnswer tapes before came response outcome after → StaysInRun tapes before after

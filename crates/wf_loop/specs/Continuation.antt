@@ -1,6 +1,5 @@
 -- The life of a process goes on.
 use Rattle.std.specs.Prelude.{◌≡◌, ℕ, Bool, true, false, List, [], ◌∷◌, ◌++◌, Option, if◌then◌else◌}
-use Rattle.wf_actor.specs.Life.{logged}
 use Rattle.wf_actor.specs.declared.actor.Actor.{Actor}
 use Rattle.wf_actor.specs.declared.actor.Origin.{Origin}
 use Rattle.wf_actor.specs.declared.actor.Origin.TheVariants as origins
@@ -16,6 +15,7 @@ use Rattle.wf_node.specs.Reopening.{HasStoredAs}
 use Rattle.wf_peer.specs.Told.{HearAll, IsHeardOf, IsHeardText}
 use Rattle.wf_peer.specs.declared.heard.Heard.{Heard}
 use Rattle.wf_tape.specs.declared.tape.Tape.{Ghosts as Tape}
+use Rattle.wf_wire.specs.Post.{logged}
 
 -- One run goes on: the tape from which the node was opened, the node as it was opened, and its
 -- number stay; what was given to it, and what it returned, only grow.
@@ -42,11 +42,6 @@ abbrev pub is_ask : Message → Bool
 is_ask (messages.Ask s) = true
 is_ask _ = false
 
--- whether the first of these does
-abbrev pub is_ask_first : List Message → Bool
-is_ask_first [] = false
-is_ask_first (m ∷ rest) = is_ask m
-
 -- those of the messages that were given that don't
 unfoldable pub besides_asks : List (Message × Origin) → List (Message × Origin)
 besides_asks [] = []
@@ -56,11 +51,6 @@ besides_asks (m ∷ rest) = if is_ask m.0 then besides_asks rest else m ∷ besi
 abbrev pub is_chosen : Message → Bool
 is_chosen (messages.Chosen s d) = true
 is_chosen _ = false
-
--- whether the first of these does
-abbrev pub is_chosen_first : List Message → Bool
-is_chosen_first [] = false
-is_chosen_first (m ∷ rest) = is_chosen m
 
 -- those of the messages that were given that don't
 unfoldable pub besides_chosen : List (Message × Origin) → List (Message × Origin)
@@ -72,12 +62,7 @@ besides_chosen (m ∷ rest) = if is_chosen m.0 then besides_chosen rest else m �
 -- where a peer sent the message, its round and promise were heard of that peer
 abbrev pub IsHeardFrom : List (Option Heard) → Message → Origin → Type 0
 IsHeardFrom known m origins.Own = Unit {0}
-IsHeardFrom known m (origins.Peer i) = IsHeardOf known i (view m)
-
--- so it is of the first of the messages that have arrived from a peer, if there is one
-abbrev pub IsNextHeard : List (Option Heard) → ℕ → List Message → Type 0
-IsNextHeard known i [] = Unit {0}
-IsNextHeard known i (m ∷ rest) = IsHeardOf known i (view m)
+IsHeardFrom known m (origins.Peer i stream) = IsHeardOf known i (view m)
 
 -- so it is of each of the messages that were given
 unfoldable pub AreHeardFrom : List (Option Heard) → List (Message × Origin) → Type 0

@@ -38,6 +38,10 @@ address_of hub = hub.http
 abbrev pub time_of : {T N C L : Type 0} {tapes : Tape T} {connections : Connection C} → Hub T N C L tapes connections → ℕ
 time_of hub = hub.time
 
+-- how many messages its node took in
+abbrev pub taken_in_by : {T N C L : Type 0} {tapes : Tape T} {connections : Connection C} → Hub T N C L tapes connections → ℕ
+taken_in_by hub = hub.parts.mesh.steps.number
+
 -- a turn left something to do
 abbrev pub IsBusy : {T N C L : Type 0} {tapes : Tape T} {connections : Connection C} → Hub T N C L tapes connections → Type 0
 IsBusy hub = hub.is_busy ≡ true

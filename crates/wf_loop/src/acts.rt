@@ -1,19 +1,19 @@
 //! What is done to a process: by each of these its run goes on, and nothing of a suspended node
 //! changes.
 ghost use Rattle.std.specs.Prelude.{◌≡◌, ◌++◌, ◌∷◌, [], ℕ, List, Option, IsTrue, false, true};
-ghost use Rattle.wf_actor.specs.Process.{arrived_at};
-ghost use Rattle.wf_loop.specs.Continuation.{Continues, IsNextRun, IsHeardKept, IsNextHeard, KeepsEarlier, is_ask, is_ask_first, is_chosen, is_chosen_first};
+ghost use Rattle.wf_codec.specs.Message.{view};
+ghost use Rattle.wf_loop.specs.Continuation.{Continues, IsNextRun, IsHeardKept, KeepsEarlier, is_ask, is_chosen};
+ghost use Rattle.wf_peer.specs.Told.{IsHeardOf};
 
 use crate::hub::Voter;
 use std::alloc::Global;
-use std::io;
 use std::mem::replace;
 use wf_actor::Process;
 use wf_ballot::NodeId;
 use wf_codec::Message;
 use wf_mesh::Gate;
-use wf_stream::Sink;
 use wf_tape::Tape;
+use wf_wire::PeerMessage;
 
 impl<T: Tape> Voter<T> {
     /// Whether the node is given messages, and says what it has to.
@@ -33,20 +33,18 @@ impl<T: Tape> Voter<T> {
         self.gate == Gate::Open
     }
 
-    /// Whether the node is given the first message that has arrived from a peer: each if it acts,
-    /// one that asks for what is published if it is outvoted, and one that says what is published
-    /// if it joins.
-    pub(crate) fn takes_next(&self, peer: NodeId) -> bool
+    /// Whether the node is given a message of a peer: each if it acts, one that asks for what is
+    /// published if it is outvoted, and one that says what is published if it joins.
+    pub(crate) fn takes(&self, message: &Message) -> bool
         ensures gate { IsTrue result → self.now.gate ≡ Gate.Open }
-        ensures asks { IsTrue result → self.now.is_outvoted ≡ true →
-            is_ask_first (arrived_at self.now.process peer) ≡ true }
+        ensures asks { IsTrue result → self.now.is_outvoted ≡ true → is_ask message.now ≡ true }
         ensures says { IsTrue result → self.now.membership.joins ≡ true →
-            is_chosen_first (arrived_at self.now.process peer) ≡ true }
+            is_chosen message.now ≡ true }
     {
         if self.membership.joins {
-            self.learns() && is_chosen_next(&self.process, peer)
+            self.learns() && is_chosen(message)
         } else if self.is_outvoted {
-            self.asks() && is_asked_next(&self.process, peer)
+            self.asks() && is_ask(message)
         } else {
             self.acts()
         }
@@ -125,42 +123,11 @@ pub(crate) fn handle_own<T: Tape>(alloc: Global, voter: &mut Voter<T>) -> bool
     }
 }
 
-/// Whether the round and the promise that the first message tells which has arrived from a peer are
-/// in the folder.
-pub(crate) fn is_heard_next<T: Tape>(voter: &Voter<T>, peer: NodeId) -> bool
-    ensures { IsTrue result → IsNextHeard voter.now.kept peer (arrived_at voter.now.process peer) }
-{
-    match voter.process.next_message(peer) {
-        Some(message) => voter.kept.has_heard(peer, message),
-        None => true,
-    }
-}
-
-/// Whether the first message that has arrived from a peer asks for what is published.
-fn is_asked_next<T: Tape>(process: &Process<T>, peer: NodeId) -> bool
-    ensures { result ≡ is_ask_first (arrived_at process.now peer) }
-{
-    match process.next_message(peer) {
-        Some(message) => is_ask(message),
-        None => false,
-    }
-}
-
 /// Whether a message asks for what is published.
 fn is_ask(message: &Message) -> bool
     ensures { result ≡ is_ask message.now }
 {
     matches!(message, Message::Ask(_))
-}
-
-/// Whether the first message that has arrived from a peer says what is published.
-fn is_chosen_next<T: Tape>(process: &Process<T>, peer: NodeId) -> bool
-    ensures { result ≡ is_chosen_first (arrived_at process.now peer) }
-{
-    match process.next_message(peer) {
-        Some(message) => is_chosen(message),
-        None => false,
-    }
 }
 
 /// Whether a message says what is published.
@@ -170,14 +137,31 @@ fn is_chosen(message: &Message) -> bool
     matches!(message, Message::Chosen(_, _))
 }
 
-/// Delivers the first message that has arrived from a peer, if the node is given it, and what it
-/// tells of the peer is in the folder.
-pub(crate) fn handle<T: Tape>(alloc: Global, voter: &mut Voter<T>, peer: NodeId)
+/// Delivers a message of a peer, if the node is given it, and what it tells of the peer is in the
+/// folder; else it is lost.
+pub(crate) fn deliver<T: Tape>(alloc: Global, voter: &mut Voter<T>, message: PeerMessage)
     ensures { Continues T.Tape voter.old voter.new }
 {
-    if voter.takes_next(peer) && is_heard_next(voter, peer) {
-        let _ = voter.process.handle(alloc, peer);
+    if voter.takes(message.message()) && is_heard(voter, &message) {
+        let _ = voter.process.deliver(alloc, message);
+    } else {
+        drop(message);
     }
+}
+
+/// Whether the round and the promise that a message of a peer tells are in the folder.
+fn is_heard<T: Tape>(voter: &Voter<T>, message: &PeerMessage) -> bool
+    ensures { IsTrue result → IsHeardOf voter.now.kept message.now.from (view message.now.message) }
+{
+    voter.kept.has_heard(message.from(), message.message())
+}
+
+/// The first post was given to those of the peers that it is for: what it has for the node itself
+/// waits for that now.
+pub(crate) fn finish_post<T: Tape>(voter: &mut Voter<T>)
+    ensures { Continues T.Tape voter.old voter.new }
+{
+    voter.process.finish_post();
 }
 
 /// Asks a peer for the next definition, if the node acts, is outvoted, or joins.
@@ -187,46 +171,6 @@ pub(crate) fn ask<T: Tape>(alloc: Global, voter: &mut Voter<T>, peer: NodeId)
     if voter.asks() {
         let _ = voter.process.catch_up(alloc, peer);
     }
-}
-
-/// Takes bytes that came from a peer. Returns how many messages they complete; None if they aren't
-/// messages.
-pub(crate) fn receive<T: Tape>(voter: &mut Voter<T>, peer: NodeId, piece: &[u8]) -> Option<usize>
-    ensures { Continues T.Tape voter.old voter.new }
-{
-    voter.process.receive(peer, piece).ok()
-}
-
-/// Begins to read a peer anew: of what came before nothing is left.
-pub(crate) fn open_receiver<T: Tape>(alloc: Global, voter: &mut Voter<T>, peer: NodeId)
-    ensures { Continues T.Tape voter.old voter.new }
-{
-    voter.process.open_receiver(alloc, peer);
-}
-
-/// Begins with an empty outbox for a peer.
-pub(crate) fn open_outbox<T: Tape>(alloc: Global, voter: &mut Voter<T>, peer: NodeId)
-    ensures { Continues T.Tape voter.old voter.new }
-{
-    voter.process.open_outbox(alloc, peer);
-}
-
-/// Drops what waits for a peer, and what is for it from now on.
-pub(crate) fn close_outbox<T: Tape>(voter: &mut Voter<T>, peer: NodeId)
-    ensures { Continues T.Tape voter.old voter.new }
-{
-    voter.process.close_outbox(peer);
-}
-
-/// Writes what waits for a peer once. Returns how many bytes were written.
-pub(crate) fn write<T: Tape, S: Sink>(
-    voter: &mut Voter<T>,
-    peer: NodeId,
-    sink: &mut S,
-) -> io::Result<usize>
-    ensures { Continues T.Tape voter.old voter.new }
-{
-    voter.process.write_to(peer, sink)
 }
 
 /// Begins the process's next run, after which what it was is one of those that have ended. It

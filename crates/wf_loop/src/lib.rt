@@ -16,7 +16,8 @@
 //! **Promises.** After each turn the node has lived by its acts (`specs/Lived.antt`), and the
 //! process has gone on in its run (`specs/Continuation.antt`). Each response that a client was sent
 //! is the one of `wf_edge` to exactly the bytes that had come from it, by a process that had lived
-//! (`specs/Answer.antt`). Readers and operators get the node to be read only. What a node goes by
+//! (`specs/Answer.antt`). What was given to the node from a peer came on a connection from that peer
+//! (`wf_wire`). Readers and operators get the node to be read only. What a node goes by
 //! of replacements, and whether its folder joins, is what its plan says, from its first turn to its
 //! last one (`membership_of`, `specs/Hub.antt`): by that it greets and lets peers in. What it is
 //! told is written, and the hub is over.
@@ -33,7 +34,6 @@ mod greeting;
 mod heard;
 mod hub;
 mod order;
-mod outbound;
 mod peer_calls;
 mod peer_reads;
 mod reach;

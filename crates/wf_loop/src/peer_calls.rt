@@ -3,19 +3,18 @@ ghost use Rattle.std.specs.Prelude.{◌≡◌};
 ghost use Rattle.wf_loop.specs.Continuation.{Continues, ContinuesIn};
 ghost use Rattle.wf_peer.specs.GreetingReply.{EndsANode};
 
-use crate::acts::{ask, close_outbox, open_outbox};
+use crate::acts::{ask, finish_post};
 use crate::greeting::greeting;
 use crate::hub::Voter;
-use crate::outbound::{send_on, turn_dial};
 use crate::peer_reads::admit;
 use crate::reopening::NodeFolder;
 use std::alloc::Global;
 use std::net::Net;
 use std::time::Clock;
 use wf_ballot::NodeId;
-use wf_mesh::{DialTurn, Gate, Mesh, PeerEnd, id_of};
+use wf_mesh::{Dial, DialTurn, Gate, Mesh, PeerEnd, id_of};
 use wf_peer::{GreetingReply, PeerRejection};
-use wf_sockets::Network;
+use wf_sockets::{Connection, Network};
 use wf_tape::Tape;
 use wf_visitors::Context;
 
@@ -37,7 +36,7 @@ pub(crate) fn call<R: Clock + Eprint + AllocGlobal, T: Tape + Drop, F: NodeFolde
     let Some(dial) = mesh.dials.get_mut(index) else {
         return;
     };
-    let turned = turn_dial(dial, voter, peer, context.time);
+    let turned = turn_dial(dial, context.time);
     let is_established = dial.is_established();
     match turned {
         DialTurn::Same => {}
@@ -49,8 +48,20 @@ pub(crate) fn call<R: Clock + Eprint + AllocGlobal, T: Tape + Drop, F: NodeFolde
             if is_established {
                 mesh.note_answer(index);
             }
-            end(context, voter, mesh, index, peer, why);
+            let _ = mesh.end(context, index, why);
         }
+    }
+}
+
+/// Reads what came, and writes what waits: what is to be done once the connection is ready.
+fn turn_dial<C: Connection + Drop>(dial: &mut Dial<C>, now: u64) -> DialTurn {
+    let turned = dial.hear(now);
+    if !matches!(turned, DialTurn::Same) {
+        return turned;
+    }
+    match dial.send() {
+        Some(why) => DialTurn::Ended(why),
+        None => DialTurn::Same,
     }
 }
 
@@ -70,7 +81,7 @@ fn open<R: Clock + Eprint + AllocGlobal, T: Tape + Drop, F: NodeFolder<T>, N: Ne
         (F.stands folder.new) voter.new }
 {
     if let Some(why) = why_not(context, voter, folder, mesh, peer, reply) {
-        end(context, voter, mesh, index, peer, why);
+        let _ = mesh.end(context, index, why);
         return;
     }
     if mesh.is_open(index) {
@@ -81,8 +92,7 @@ fn open<R: Clock + Eprint + AllocGlobal, T: Tape + Drop, F: NodeFolder<T>, N: Ne
         // what its reply said has ended all connections
         return;
     }
-    mesh.open(context, index);
-    open_outbox(context.alloc(), voter, peer);
+    let _ = mesh.open(context, index);
 }
 
 /// Why the connection to a peer doesn't open, by its reply.
@@ -138,32 +148,12 @@ fn take_rejection<R: Clock + Eprint, T: Tape + Drop, N: Network>(
     }
 }
 
-/// Ends the connection to a peer.
-#[tactic(auto, using(crate::proofs::Continuation::still))]
-fn end<R: Clock + Eprint, T: Tape + Drop, N: Network>(
-    context: &Context<'_, '_, R, N>,
-    voter: &mut Voter<T>,
-    mesh: &mut Mesh<N>,
-    index: usize,
-    peer: NodeId,
-    why: PeerEnd,
-)
-    ensures { Continues T.Tape voter.old voter.new }
-{
-    if mesh.end(context, index, why) {
-        close_outbox(voter, peer);
-    }
-}
-
 /// Connects to the peers to which there is no connection, and ends attempts that take too long.
-#[tactic(auto, using(crate::proofs::Continuation::still, crate::proofs::Continuation::twice))]
 pub(crate) fn connect<R: Net + Clock + Eprint + AllocGlobal, T: Tape + Drop, N: Network>(
     context: &Context<'_, '_, R, N>,
-    voter: &mut Voter<T>,
+    voter: &Voter<T>,
     mesh: &mut Mesh<N>,
-)
-    ensures { Continues T.Tape voter.old voter.new }
-{
+) {
     for index in 0..mesh.dials.len() {
         connect_to(context, voter, mesh, index);
     }
@@ -171,15 +161,12 @@ pub(crate) fn connect<R: Net + Clock + Eprint + AllocGlobal, T: Tape + Drop, N: 
 
 /// Connects to a node, if it is a peer, there is no connection and it is time to; ends one that
 /// takes too long, or is to be compared.
-#[tactic(auto, using(crate::proofs::Continuation::still))]
 fn connect_to<R: Net + Clock + Eprint + AllocGlobal, T: Tape + Drop, N: Network>(
     context: &Context<'_, '_, R, N>,
-    voter: &mut Voter<T>,
+    voter: &Voter<T>,
     mesh: &mut Mesh<N>,
     index: usize,
-)
-    ensures { Continues T.Tape voter.old voter.new }
-{
+) {
     let Some(peer) = id_of(index) else {
         return;
     };
@@ -188,7 +175,7 @@ fn connect_to<R: Net + Clock + Eprint + AllocGlobal, T: Tape + Drop, N: Network>
     }
     let published = voter.process.node().published().number();
     if let Some(why) = mesh.why_anew(index, published, context.time) {
-        end(context, voter, mesh, index, peer, why);
+        let _ = mesh.end(context, index, why);
     }
     connect_if_due(context, voter, mesh, index);
 }
@@ -291,8 +278,8 @@ pub(crate) fn call_all<R: Clock + Eprint + AllocGlobal, T: Tape + Drop, N: Netwo
     mesh.extend_digests(voter.process.node().history());
 }
 
-/// Writes what waits for the peers: nothing once the tape has failed.
-#[tactic(auto, using(crate::proofs::Continuation::still, crate::proofs::Continuation::twice))]
+/// Gives the connections what the node returned, and writes what waits for the peers: nothing once
+/// the tape has failed.
 pub(crate) fn send_all<R: Clock + Eprint + AllocGlobal, T: Tape + Drop, N: Network>(
     context: &Context<'_, '_, R, N>,
     voter: &mut Voter<T>,
@@ -300,34 +287,42 @@ pub(crate) fn send_all<R: Clock + Eprint + AllocGlobal, T: Tape + Drop, N: Netwo
 )
     ensures { Continues T.Tape voter.old voter.new }
 {
-    if voter.process.is_halted() {
-        return;
+    post_all(voter, mesh);
+    if !voter.process.is_halted() {
+        for index in 0..mesh.dials.len() {
+            send_to(context, mesh, index);
+        }
     }
-    for index in 0..mesh.dials.len() {
-        send_to(context, voter, mesh, index);
+}
+
+/// Gives the posts that wait to the connections of those of the peers that they are for, and to the
+/// node itself.
+#[tactic(auto, using(crate::proofs::Continuation::still, crate::proofs::Continuation::twice))]
+fn post_all<T: Tape + Drop, N: Network>(voter: &mut Voter<T>, mesh: &mut Mesh<N>)
+    ensures { Continues T.Tape voter.old voter.new }
+{
+    for _ in 0..u64::MAX {
+        match voter.process.first_post() {
+            Some(post) => mesh.post(post),
+            None => return,
+        }
+        finish_post(voter);
     }
 }
 
 /// Writes what waits for a peer, if anything does.
-#[tactic(auto, using(crate::proofs::Continuation::still, crate::proofs::Continuation::twice))]
-fn send_to<R: Clock + Eprint + AllocGlobal, T: Tape + Drop, N: Network>(
+fn send_to<R: Clock + Eprint + AllocGlobal, N: Network>(
     context: &Context<'_, '_, R, N>,
-    voter: &mut Voter<T>,
     mesh: &mut Mesh<N>,
     index: usize,
-)
-    ensures { Continues T.Tape voter.old voter.new }
-{
-    let Some(peer) = id_of(index) else {
-        return;
-    };
-    if voter.process.remaining(peer) == 0 {
+) {
+    if mesh.remaining(index) == 0 {
         return;
     }
     let Some(dial) = mesh.dials.get_mut(index) else {
         return;
     };
-    if let Some(why) = send_on(dial, voter, peer) {
-        end(context, voter, mesh, index, peer, why);
+    if let Some(why) = dial.send() {
+        let _ = mesh.end(context, index, why);
     }
 }

@@ -1,9 +1,9 @@
 //! What comes from the peers of a node: connections, greetings and messages.
-ghost use Rattle.std.specs.Prelude.{OnOk};
+ghost use Rattle.std.specs.Prelude.{◌≡◌, [], OnOk};
 ghost use Rattle.wf_loop.specs.Continuation.{Continues, ContinuesIn};
 ghost use Rattle.wf_peer.specs.Admission.{IsNodesFolder};
 
-use crate::acts::{handle, is_heard_next, open_receiver, receive};
+use crate::acts::deliver;
 use crate::greeting::greeting;
 use crate::heard::save;
 use crate::hub::Voter;
@@ -16,9 +16,10 @@ use std::time::Clock;
 use wf_ballot::NodeId;
 use wf_mesh::{Came, INBOUND_SLOTS, Inbound, Mesh, Notes, PeerEnd};
 use wf_peer::{Greeting, PeerRejection};
-use wf_sockets::Network;
+use wf_sockets::{Connection, Network};
 use wf_tape::Tape;
 use wf_visitors::{Context, micros};
+use wf_wire::PeerMessage;
 
 /// The most pieces that a turn reads of a peer.
 const MOST_PIECES: u32 = 4;
@@ -54,6 +55,7 @@ fn place<R: Clock + Eprint + AllocGlobal, T: Tape + Drop, F: NodeFolder<T>, N: N
     connection: N::Connection,
     address: SocketAddr,
 )
+    requires { N.Connection.came connection ≡ [] }
     ensures on { ContinuesIn T.Tape (F.stands folder.old) voter.old
         (F.stands folder.new) voter.new }
 {
@@ -138,7 +140,7 @@ fn read_pieces<R: Clock + Eprint + AllocGlobal, T: Tape + Drop, F: NodeFolder<T>
 {
     for _ in 0..MOST_PIECES {
         let came = inbound.handle(piece, context.time);
-        match take_in(context, voter, folder, mesh, inbound, came, piece) {
+        match take_in(context, voter, folder, mesh, inbound, came) {
             Ok(()) => {}
             Err(ended) => return ended,
         }
@@ -157,7 +159,6 @@ fn take_in<R: Clock + Eprint + AllocGlobal, T: Tape + Drop, F: NodeFolder<T>, N:
     mesh: &mut Mesh<N>,
     inbound: &mut Inbound<N::Connection>,
     came: Came,
-    piece: &[u8],
 ) -> Result<(), Option<PeerEnd>>
     ensures on { ContinuesIn T.Tape (F.stands folder.old) voter.old
         (F.stands folder.new) voter.new }
@@ -171,9 +172,8 @@ fn take_in<R: Clock + Eprint + AllocGlobal, T: Tape + Drop, F: NodeFolder<T>, N:
                 None => Ok(()),
             }
         }
-        Came::Bytes(from, count) => {
-            let piece = piece.split_at(count.min(piece.len())).0;
-            match deliver(context, voter, folder, mesh, from, piece) {
+        Came::Messages(peer, count) => {
+            match deliver_all(context, voter, folder, mesh, inbound, peer, count) {
                 Some(why) => Err(Some(why)),
                 None => Ok(()),
             }
@@ -218,9 +218,8 @@ fn let_in<R: Clock + Eprint + AllocGlobal, T: Tape + Drop, F: NodeFolder<T>, N: 
     let Some(own) = greeting(mesh, voter) else {
         return Some(PeerEnd::Memory);
     };
-    open_receiver(context.alloc(), voter, peer);
     mesh.note_accepted(context, peer);
-    inbound.let_in(context.alloc(), peer, &own)
+    inbound.let_in(context.alloc(), &own)
 }
 
 /// Whether a peer is let in that greets so, by all that the node has published: one that was
@@ -255,106 +254,134 @@ pub(crate) fn admit<R: Clock + Eprint + AllocGlobal, T: Tape + Drop, F: NodeFold
     admitted
 }
 
-/// Judges what came from a peer, and delivers it. Some: the connection has ended.
+/// Judges the messages that came from a peer, and delivers them. Some: the connection has ended.
 #[tactic(auto, using(crate::proofs::Continuation::still_in, crate::proofs::Continuation::on_in, crate::proofs::Continuation::twice_in))]
-fn deliver<R: Clock + Eprint + AllocGlobal, T: Tape + Drop, F: NodeFolder<T>, N: Network>(
+fn deliver_all<R: Clock + Eprint + AllocGlobal, T: Tape + Drop, F: NodeFolder<T>, N: Network>(
     context: &Context<'_, '_, R, N>,
     voter: &mut Voter<T>,
     folder: &mut F,
     mesh: &mut Mesh<N>,
+    inbound: &mut Inbound<N::Connection>,
     peer: NodeId,
-    piece: &[u8],
+    count: usize,
 ) -> Option<PeerEnd>
     ensures on { ContinuesIn T.Tape (F.stands folder.old) voter.old
         (F.stands folder.new) voter.new }
 {
-    let Some(count) = receive(voter, peer, piece) else {
-        return Some(PeerEnd::BadMessage);
-    };
     let number = peer.number() as usize;
     mesh.note_received(number, count, context.time);
-    if !mesh.is_trusted(number) {
+    if !mesh.is_trusted(number) || !is_peer(mesh, peer) {
         // as if the network had lost them
         return None;
     }
     for _ in 0..count {
-        if !voter.takes_next(peer) {
+        if !takes_next(voter, inbound) {
             // so are the others
             return None;
         }
-        if let Some(why) = deliver_next(context, voter, folder, mesh, peer) {
-            open_receiver(context.alloc(), voter, peer);
+        if let Some(why) = deliver_next(context, voter, folder, mesh, inbound, peer) {
             return Some(why);
         }
     }
     None
 }
 
-/// Judges the first message that has arrived from a peer, and delivers it: one that raises the
-/// peer's round or promise once that is in the folder. Some: it isn't delivered, and the connection
-/// ends.
+/// Whether that is another node of the farm.
+fn is_peer<N: Network>(mesh: &Mesh<N>, peer: NodeId) -> bool {
+    usize::from(peer.number()) < mesh.dials.len() && peer != mesh.plan.own.node
+}
+
+/// Whether the node is given the first message that waits.
+fn takes_next<T: Tape + Drop, C: Connection + Drop>(
+    voter: &Voter<T>,
+    inbound: &Inbound<C>,
+) -> bool {
+    match inbound.first() {
+        Some(message) => voter.takes(message),
+        None => false,
+    }
+}
+
+/// Judges the first message that waits of a peer, and delivers it: one that raises the peer's round
+/// or promise once that is in the folder. Some: it isn't delivered, and the connection ends.
 #[tactic(auto, using(crate::proofs::Continuation::still_in, crate::proofs::Continuation::on_in, crate::proofs::Continuation::twice_in))]
 fn deliver_next<R: Clock + Eprint + AllocGlobal, T: Tape + Drop, F: NodeFolder<T>, N: Network>(
     context: &Context<'_, '_, R, N>,
     voter: &mut Voter<T>,
     folder: &mut F,
     mesh: &mut Mesh<N>,
+    inbound: &mut Inbound<N::Connection>,
     peer: NodeId,
 ) -> Option<PeerEnd>
     ensures on { ContinuesIn T.Tape (F.stands folder.old) voter.old
         (F.stands folder.new) voter.new }
 {
-    if !hears_next(voter, &mut mesh.notes, peer) {
+    if !hears_next(inbound, &mut mesh.notes, peer) {
         return Some(PeerEnd::WrongSender);
     }
-    if !keeps_next(context, voter, folder, mesh, peer) {
+    if !keeps_next(context, voter, folder, mesh, inbound, peer) {
         return Some(PeerEnd::Unwritten);
     }
-    deliver_first(context, voter, mesh, peer);
+    if let Some(message) = inbound.pop() {
+        deliver_first(context, voter, mesh, message);
+    }
     None
 }
 
-/// What the first message that has arrived from a peer tells of it: that is kept. Returns whether
-/// the peer may send it.
-fn hears_next<T: Tape + Drop>(voter: &Voter<T>, notes: &mut Notes, peer: NodeId) -> bool {
-    match voter.process.next_message(peer) {
+/// What the first message that waits tells of its peer: that is kept. Returns whether the peer may
+/// send it.
+fn hears_next<C: Connection + Drop>(inbound: &Inbound<C>, notes: &mut Notes, peer: NodeId) -> bool {
+    match inbound.first() {
         Some(message) => notes.hear(message, peer),
         None => true,
     }
 }
 
-/// Whether what the first message tells of a peer is in the folder: where it isn't, it is written.
+/// Whether what the first message tells of its peer is in the folder: where it isn't, it is
+/// written.
 #[tactic(auto, using(crate::proofs::Continuation::still_in))]
 fn keeps_next<R: Clock + Eprint + AllocGlobal, T: Tape + Drop, F: NodeFolder<T>, N: Network>(
     context: &Context<'_, '_, R, N>,
     voter: &mut Voter<T>,
     folder: &mut F,
     mesh: &mut Mesh<N>,
+    inbound: &Inbound<N::Connection>,
     peer: NodeId,
 ) -> bool
     ensures on { ContinuesIn T.Tape (F.stands folder.old) voter.old
         (F.stands folder.new) voter.new }
 {
-    if is_heard_next(voter, peer) {
+    if is_kept_next(voter, inbound, peer) {
         return true;
     }
     let is_saved = save(context, voter, folder, mesh);
-    is_saved && is_heard_next(voter, peer)
+    is_saved && is_kept_next(voter, inbound, peer)
 }
 
-/// Delivers the first message that has arrived from a peer, and writes the answer at once: the
-/// peers wait for it.
+/// Whether the round and the promise that the first message tells are in the folder.
+fn is_kept_next<T: Tape + Drop, C: Connection + Drop>(
+    voter: &Voter<T>,
+    inbound: &Inbound<C>,
+    peer: NodeId,
+) -> bool {
+    match inbound.first() {
+        Some(message) => voter.kept.has_heard(peer, message),
+        None => true,
+    }
+}
+
+/// Delivers a message of a peer, and writes the answer at once: the peers wait for it.
 #[tactic(auto, using(crate::proofs::Continuation::twice))]
 fn deliver_first<R: Clock + Eprint + AllocGlobal, T: Tape + Drop, N: Network>(
     context: &Context<'_, '_, R, N>,
     voter: &mut Voter<T>,
     mesh: &mut Mesh<N>,
-    peer: NodeId,
+    message: PeerMessage,
 )
     ensures { Continues T.Tape voter.old voter.new }
 {
     let from = micros(context.rt);
-    handle(context.alloc(), voter, peer);
+    deliver(context.alloc(), voter, message);
     mesh.steps.add(from, micros(context.rt));
     send_all(context, voter, mesh);
 }

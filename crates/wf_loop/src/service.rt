@@ -7,7 +7,7 @@ ghost use Rattle.wf_mesh.specs.Membership.{membership_by};
 ghost use Rattle.wf_mesh.specs.StartErrors.{IsStartError};
 ghost use Rattle.wf_mesh.specs.declared.plan.NodePlan.{NodePlan as NodePlanValue};
 ghost use Rattle.wf_loop.specs.Folder.{counted};
-ghost use Rattle.wf_loop.specs.Hub.{GreetsAsNow, HasAnswered, IsBusy, IsHeardFirst, IsJoiner, IsOutvoted, IsOver, IsReopeningDue, IsSuspended, OnlyAnswersAsks, OnlyLearns, address_of, kept_of, membership_of, process_of, time_of};
+ghost use Rattle.wf_loop.specs.Hub.{GreetsAsNow, HasAnswered, IsBusy, IsHeardFirst, IsJoiner, IsOutvoted, IsOver, IsReopeningDue, IsSuspended, OnlyAnswersAsks, OnlyLearns, address_of, kept_of, membership_of, process_of, taken_in_by, time_of};
 ghost use Rattle.wf_node.specs.Reopening.{HasStoredAs};
 ghost use Rattle.wf_loop.specs.Lived.{HasLived};
 ghost use Rattle.wf_loop.specs.Continuation.{ContinuesIn, IsNextRun, StaysInRun, KeepsEarlier, StaysSuspended};
@@ -304,6 +304,13 @@ impl<T: Tape + Drop, N: Network + Drop> Hub<T, N> {
         ensures { IsTrue result ↔ IsOver self.now }
     {
         self.parts.mesh.is_over
+    }
+
+    /// How many messages the node took in since the hub began, its own too. It saturates.
+    pub fn message_count(&self) -> u64
+        ensures { result ≡ taken_in_by self.now }
+    {
+        self.parts.mesh.steps.number
     }
 
     /// The node's process.

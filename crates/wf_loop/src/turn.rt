@@ -12,8 +12,7 @@ use crate::reopening::NodeFolder;
 use std::net::Net;
 use std::rt::Files;
 use std::time::Clock;
-use wf_actor::Process;
-use wf_mesh::{Desk, Mesh, NodeView, Socket, id_of};
+use wf_mesh::{Desk, Mesh, NodeView, Socket};
 use wf_operator::Behind;
 use wf_sockets::Network;
 use wf_tape::Tape;
@@ -235,23 +234,16 @@ pub(crate) fn answer_operators<R: Files + Clock + Eprint + AllocGlobal, T: Tape 
     if desk.operators.waits() {
         // what was published in this turn has its digests too
         mesh.notes.extend(history);
-        note_states(mesh, &voter.process, context.time);
+        note_states(mesh, context.time);
         tell_operators(context, voter, mesh, desk, clients, is_behind);
     }
 }
 
 /// Notes which peers are heard, how many messages to them were posted and dropped, and how many
 /// bytes were written.
-fn note_states<T: Tape + Drop, N: Network>(mesh: &mut Mesh<N>, process: &Process<T>, time: u64) {
+fn note_states<N: Network>(mesh: &mut Mesh<N>, time: u64) {
     for index in 0..mesh.dials.len() {
-        if let Some(peer) = id_of(index) {
-            mesh.note_state(
-                index,
-                process.drop_count(peer),
-                process.post_count(peer),
-                time,
-            );
-        }
+        mesh.note_state(index, time);
     }
 }
 

@@ -1,6 +1,9 @@
 //! The connections to the peers of a node: they are opened, end, and are tried again.
-ghost use Rattle.std.specs.Prelude.{◌≡◌, ◌≤◌};
+ghost use Rattle.std.specs.Prelude.{map};
+ghost use Rattle.wf_codec.specs.Message.{view};
+ghost use Rattle.wf_mesh.specs.Dials.{ArePosted};
 
+use crate::call::post_to_all;
 use crate::event::{NodeEvent, PeerEnd};
 use crate::mesh::{MOST_NODES, Mesh};
 use std::net::Net;
@@ -8,21 +11,31 @@ use std::time::Clock;
 use wf_ballot::{NodeId, SEQUENCES};
 use wf_folder::{PeerAddress, Suspension};
 use wf_learner::History;
-use wf_peer::{Greeting, GreetingReply, PeerRejection, encode};
+use wf_peer::{Greeting, GreetingReply, PeerRejection};
 use wf_sockets::Network;
 use wf_visitors::Context;
+use wf_wire::Post;
 
 impl<N: Network> Mesh<N> {
-    /// The connection to a peer is open from now on.
-    pub fn open<R: Clock + Eprint>(&mut self, context: &Context<'_, '_, R, N>, index: usize) {
-        if let Some(dial) = self.dials.get_mut(index) {
-            dial.open(context.time);
-            context.log.write(&NodeEvent::Connected {
-                peer: index,
-                address: dial.address(),
-            });
+    /// The connection to a peer is open from now on, if all of the greeting was sent on it. Returns
+    /// whether it is.
+    pub fn open<R: Clock + Eprint + AllocGlobal>(
+        &mut self,
+        context: &Context<'_, '_, R, N>,
+        index: usize,
+    ) -> bool {
+        let Some(dial) = self.dials.get_mut(index) else {
+            return false;
+        };
+        if !dial.open(context.alloc(), context.time) {
+            return false;
         }
+        context.log.write(&NodeEvent::Connected {
+            peer: index,
+            address: dial.address(),
+        });
         self.catch_up.connect(index, context.time);
+        true
     }
 
     /// Whether the connection to a peer is there.
@@ -117,12 +130,8 @@ impl<N: Network> Mesh<N> {
         index: usize,
         greeting: &Greeting,
     ) {
-        let mut bytes = Vec::new(context.alloc());
-        if encode(greeting, &mut bytes).is_err() {
-            return;
-        }
         if let Some(dial) = self.dials.get_mut(index) {
-            dial.connect(context, index, bytes.as_slice());
+            dial.connect(context, index, greeting);
         }
     }
 
@@ -147,6 +156,22 @@ impl<N: Network> Mesh<N> {
         match self.dials.get(index) {
             Some(dial) => dial.is_open(),
             None => false,
+        }
+    }
+
+    /// Posts messages on the connection to each node that they are for.
+    pub fn post(&mut self, post: &Post)
+        ensures { ArePosted post.now.target (map view post.now.messages.items)
+            self.old.dials.items self.new.dials.items }
+    {
+        post_to_all(&mut self.dials, post);
+    }
+
+    /// How many bytes of messages wait for a peer.
+    pub fn remaining(&self, index: usize) -> usize {
+        match self.dials.get(index) {
+            Some(dial) => dial.remaining(),
+            None => 0,
         }
     }
 

@@ -1,9 +1,10 @@
 //! The connections from peers of a node: they are accepted, let in or not, and end.
-ghost use Rattle.std.specs.Prelude.{OnOk};
+ghost use Rattle.std.specs.Prelude.{◌≡◌, [], OnOk};
 ghost use Rattle.wf_peer.specs.Admission.{IsNodesFolder};
 
 use crate::event::{NodeEvent, PeerEnd};
-use crate::inbound::{Inbound, close};
+use crate::inbound::Inbound;
+use crate::intake::close;
 use crate::membership::Membership;
 use crate::mesh::Mesh;
 use crate::peer_state::Greeted;
@@ -20,13 +21,16 @@ use wf_sockets::{Connection, Network};
 use wf_visitors::Context;
 
 impl<N: Network> Mesh<N> {
-    /// A connection that was accepted from a peer's address, and the slot that is free for it.
+    /// A connection that was accepted from a peer's address, on which nothing was read, and the
+    /// slot that is free for it.
     pub fn place<R: Clock + Eprint + AllocGlobal>(
         &mut self,
         context: &Context<'_, '_, R, N>,
         mut connection: N::Connection,
         address: SocketAddr,
-    ) -> Option<(usize, Inbound<N::Connection>)> {
+    ) -> Option<(usize, Inbound<N::Connection>)>
+        requires { N.Connection.came connection ≡ [] }
+    {
         if !is_known(self.plan.peers.as_slice(), address) {
             if self.unlisted.is_to_be_told(address, context.time) {
                 context.log.write(&NodeEvent::Unlisted { address });
@@ -69,9 +73,7 @@ impl<N: Network> Mesh<N> {
         mut inbound: Inbound<N::Connection>,
     ) {
         if self.is_busy {
-            let _ = context
-                .network
-                .watch(inbound.connection(), Socket::Inbound(index).token());
+            let _ = inbound.watch(context.network, Socket::Inbound(index).token());
         }
         match self.inbounds.get_mut(index) {
             Some(slot) => drop(replace(slot, Some(inbound))),

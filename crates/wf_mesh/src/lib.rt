@@ -1,11 +1,12 @@
-//! The parts of a node's loop that don't touch its process: sockets, what is known of its peers,
-//! its clock, and what it answers operators. `wf_loop` is above: it hands messages and bytes from
-//! here to the process and back.
+//! The parts of a node's loop that don't touch its process: the connections with its peers, what is
+//! known of them, its clock, and what it answers operators. `wf_loop` is above: it hands messages
+//! from here to the process, and what the process returns back, as posts (`wf_wire`).
 //!
-//! - [`Mesh`] has the connections to the peers ([`Dial`]) and from them ([`Inbound`]), and what is
-//!   known of each: whether it is heard, how its history goes with the node's, and by [`Notes`] how
-//!   far it is. It admits who greets, says why a peer isn't let in, and judges which peers' word
-//!   counts.
+//! - [`Mesh`] has the connections to the peers ([`Dial`]), each with its outbox, and from them
+//!   ([`Inbound`]), each with its receiver and the messages that wait, and what is known of each
+//!   peer: whether it is heard, how its history goes with the node's, and by [`Notes`] how far it
+//!   is. It admits who greets, says why a peer isn't let in, judges which peers' word counts, and
+//!   gives a post to the connections to those that it is for.
 //! - [`NodePlan`] says which node it is, and where the others are. [`Membership`] is what the node
 //!   goes by of replacements, constant for a run; an [`Order`] is what is to be written about them
 //!   for the next one. [`Joiner`] is a folder that joins in the place of a lost one.
@@ -20,15 +21,21 @@
 //! a replacement only where its operator may ask for that and nothing stands against it, and an
 //! answer or an agreement of a peer counts for a [`Joiner`] only as `wf_rejoin` says. What is
 //! remembered of the peers is never less than what the file `heard` has ([`Notes::hold`]). An error
-//! of [`bind`] names the address that is taken (`specs/StartErrors.antt`).
+//! of [`bind`] names the address that is taken (`specs/StartErrors.antt`). The messages of a peer
+//! are taken out in the order in which they wait (`specs/Inbound.antt`, [`Inbound::pop`]), and what
+//! is posted is offered to the outbox of each connection that it is for and to no other one
+//! (`specs/Dials.antt`, [`Dial::post`], [`Mesh::post`]). What `wf_wire` says of each connection's
+//! bytes rests on nothing here but that a connection is handed in as it was accepted.
 //!
-//! **Doesn't.** When a connection begins, is tried again and ends, which events the log has, what
-//! the metrics count and when something is due by the clock (but for the opening of a failed tape)
-//! has no clause: that is tested with the built program. Nor is a token's socket promised to be the
-//! one that was watched with it.
+//! **Doesn't.** When a connection begins, opens, is tried again and ends, when something is written
+//! on it, how a greeting is answered, which events the log has, what the metrics count and when
+//! something is due by the clock (but for the opening of a failed tape) has no clause: that is
+//! tested with the built program. Nor is a token's socket promised to be the one that was watched
+//! with it.
 #![tactic(auto)]
 
 mod agreement;
+mod call;
 mod desk;
 mod dial;
 mod dials;
@@ -39,6 +46,7 @@ mod folder_error;
 mod gate;
 mod inbound;
 mod inbounds;
+mod intake;
 mod joiner;
 mod membership;
 mod mesh;

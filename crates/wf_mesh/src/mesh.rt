@@ -5,7 +5,8 @@ use crate::dial::Dial;
 use crate::event::FolderNotWritten;
 use crate::folder_error::FolderError;
 use crate::gate::Gate;
-use crate::inbound::{Inbound, close};
+use crate::inbound::Inbound;
+use crate::intake::close;
 use crate::notes::Notes;
 use crate::order::Order;
 use crate::peer_state::PeerState;
@@ -250,6 +251,9 @@ impl<N: Network> Mesh<N> {
         ensures digests { self.new.notes.digests ≡ digests }
     {
         self.close_all(time);
+        for dial in &mut self.dials {
+            dial.begin_run();
+        }
         self.notes.begin(digests);
         self.begin_start(time);
         self.plan.start = Progress {
@@ -375,17 +379,13 @@ impl<N: Network> Mesh<N> {
 
     /// Notes whether a peer is heard, how many messages to it were dropped and put into its
     /// outboxes, and how many bytes were written to it.
-    pub fn note_state(&mut self, index: usize, lost: u64, posted: u64, time: u64) {
+    pub fn note_state(&mut self, index: usize, time: u64) {
         let is_heard = self.is_heard(index, time);
-        let written = match self.dials.get(index) {
-            Some(dial) => dial.byte_count(),
-            None => 0,
-        };
-        if let Some(state) = self.states.get_mut(index) {
+        if let (Some(state), Some(dial)) = (self.states.get_mut(index), self.dials.get(index)) {
             state.is_connected = is_heard;
-            state.written = written;
-            state.lost = lost;
-            state.posted = posted;
+            state.written = dial.byte_count();
+            state.lost = dial.drop_count();
+            state.posted = dial.post_count();
         }
     }
 }

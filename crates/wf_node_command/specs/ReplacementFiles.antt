@@ -1,5 +1,5 @@
 -- What a node's folder says of replacements: its files `replaced` and `joins`.
-use Rattle.std.specs.Prelude.{◌≡◌, ◌≢◌, ℕ, ⊤, Bool, true, false, List, [], ◌∷◌, Option, Some, None, IfSome, length, option_map, replicate, if◌then◌else◌}
+use Rattle.std.specs.Prelude.{◌≡◌, ◌≢◌, ℕ, Bool, true, false, List, [], ◌∷◌, Option, Some, None, IfSome, length, option_map, replicate, if◌then◌else◌}
 use Rattle.wf_folder.specs.declared.node_file.NodeFile.{NodeFile}
 use Rattle.wf_mesh.specs.declared.joiner.Joiner.{Joiner}
 use Rattle.wf_node_command.specs.Fault.{IsFromSystem}

@@ -13,12 +13,11 @@ use std::alloc::Global;
 use std::io::ErrorKind;
 use std::path::Path;
 use std::rt::Files;
-use std::{fs, io};
 use wf_ballot::{Ballot, NodeId};
 use wf_folder::{FarmFile, NodeFile, after};
 use wf_journal::{Journal, OpenFault, Record, records_are_read_one_way};
 use wf_node::Node;
-use wf_stream::{Stream, read_up_to};
+use wf_store::read_file;
 use wf_tape::MemoryTape;
 
 /// More bytes than a file `farm` has.
@@ -71,16 +70,6 @@ pub(crate) fn tape_from<R: Files + AllocGlobal>(
             Err(fault)
         }
     }
-}
-
-/// The bytes of a file, at most `limit` of them.
-pub(crate) fn read_file<R: Files + AllocGlobal>(
-    rt: &R,
-    path: &str,
-    limit: usize,
-) -> io::Result<Vec<u8>> {
-    let file = fs::open(rt, path)?;
-    read_up_to(rt.alloc(), &mut Stream::new(file), limit)
 }
 
 /// The bytes of the tape in a file.

@@ -3,7 +3,7 @@ ghost use Rattle.std.specs.Prelude.{◌≡◌, ◌≤◌, ◌↔◌, IfErr, IfOk
 ghost use Rattle.wf_folder.specs.NodeFile.{IsNodeFile};
 ghost use Rattle.wf_line.specs.NodeLine.{IsNodeInRange};
 ghost use Rattle.wf_loop.specs.Continuation.{KeepsEarlier};
-ghost use Rattle.wf_loop.specs.Hub.{HasAnswered, IsHeardFirst, IsOver, kept_of, membership_of, process_of};
+ghost use Rattle.wf_loop.specs.Hub.{HasAnswered, IsHeardFirst, IsOver, kept_of, membership_of, process_of, taken_in_by};
 ghost use Rattle.wf_loop.specs.Lived.{HasLived};
 ghost use Rattle.wf_mesh.specs.Membership.{membership_by};
 ghost use Rattle.wf_node_command.specs.Fault.{IsFromSystem};
@@ -120,6 +120,13 @@ impl<S: Store, N: Network + Drop> RunningNode<S, N> {
             hub,
             folder: HeldFolder::new(alloc, store, file),
         }
+    }
+
+    /// How many messages the node took in since it was started, its own too. It saturates.
+    pub fn message_count(&self) -> u64
+        ensures { result ≡ taken_in_by self.now.hub }
+    {
+        self.hub.message_count()
     }
 
     /// The node's process.

@@ -12,22 +12,19 @@ ghost use Rattle.wf_store.specs.Call.{OnlyReads};
 
 use crate::event::TapeZeros;
 use crate::fault::CommandFault;
-use crate::from::read_file;
 use crate::held_state::examine_node;
 use crate::read_node::ReadNode;
 use crate::settled::settle;
 use std::alloc::Global;
-use std::fs::{OpenFile, OpenOptions};
-use std::io::{ErrorKind, Write};
+use std::io::ErrorKind;
 use std::rt::Files;
 use std::time::Clock;
-use std::{fs, io};
 use wf_ballot::NodeId;
 use wf_folder::{Known, NodeFile};
 use wf_journal::OpenFault;
 use wf_loop::{Log, Process};
 use wf_node::{Node, NodeFault};
-use wf_store::{FileName, FolderFault, Store};
+use wf_store::{FileName, FolderFault, ProbeFault, Store, probe_file};
 use wf_tape::{MemoryTape, Tape};
 
 /// The greatest length of a tape, in bytes.
@@ -224,28 +221,9 @@ fn fault_of_move<R: Files + AllocGlobal>(rt: &R, path: &str, fault: NodeFault) -
 fn cause_of_failure<R: Files + AllocGlobal>(rt: &R, path: &str) -> CommandFault
     ensures { IsFromSystem result }
 {
-    match read_file(rt, path, MOST_TAPE_BYTES) {
-        Ok(bytes) => match try_copy(rt, path, &bytes) {
-            Ok(()) => CommandFault::TapeFailed,
-            Err(error) => CommandFault::TapeUnwritten(error.kind()),
-        },
-        Err(error) => CommandFault::TapeUnread(error.kind()),
+    match probe_file(rt, path, MOST_TAPE_BYTES) {
+        Ok(()) => CommandFault::TapeFailed,
+        Err(ProbeFault::Unwritten(kind)) => CommandFault::TapeUnwritten(kind),
+        Err(ProbeFault::Unread(kind)) => CommandFault::TapeUnread(kind),
     }
-}
-
-/// Writes a second copy of a tape, and removes it.
-fn try_copy<R: Files + AllocGlobal>(rt: &R, path: &str, bytes: &[u8]) -> io::Result<()> {
-    let second = format!(in rt.alloc(); "{path}.new")?;
-    let written = write_file(rt, second.as_str(), bytes);
-    let _ = fs::remove_file(rt, second.as_str());
-    written
-}
-
-/// Writes a file, and syncs it.
-fn write_file<R: Files>(rt: &R, path: &str, bytes: &[u8]) -> io::Result<()> {
-    let mut options = OpenOptions::new();
-    options.write(true).create(true).truncate(true);
-    let mut file = options.open(rt, path)?;
-    file.write_all(bytes)?;
-    file.sync_all()
 }

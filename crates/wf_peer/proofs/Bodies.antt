@@ -58,6 +58,14 @@ count_whole bytes more rest g count length_read is e far read told =
 pub at_least : (g : Greeting) → IsGreeting g → 132 ≤ length (greeting_bytes g)
 at_least g is = omega (arith, length_of_greeting g is)
 
+-- two with which the same bytes begin tell of equally many replaced nodes, and so are as long
+pub as_long : (g h : Greeting) (rest more : List ℕ) → IsGreeting g → IsGreeting h → greeting_bytes g ++ rest ≡ greeting_bytes h ++ more →
+    length (greeting_bytes g) ≡ length (greeting_bytes h)
+as_long g h rest more is also e =
+    let same : known_count h.replacements ≡ known_count g.replacements =
+    sym (count_read (greeting_bytes g) rest more h also e (at_least g is)) ∙ count_read (greeting_bytes g) rest rest g is refl (at_least g is) in
+    omega (arith, ap told_length same, length_of_greeting g is, length_of_greeting h also)
+
 -- ---- a greeting is what it is without replacements, and what it tells of these
 
 pub whole_greeting : (g : Greeting) (known : List (Option Replacement)) (voted : ℕ) → known ≡ g.replacements → voted ≡ g.voted → ◌≡◌ {A = Greeting} (record g { replacements = known; voted = voted }) g

@@ -139,3 +139,8 @@ told_length (suc k) = 21 * suc k + 2
 -- of the greeting that begins so; while fewer than 132 are there, these are its least
 abbrev pub greeting_length : List ℕ → ℕ
 greeting_length bytes = 132 + told_length (get_or bytes 131 0)
+
+-- Two greetings with which the same bytes begin are as long.
+abbrev pub GreetingsAreAsLong : Type 0
+GreetingsAreAsLong = (g h : Greeting) (rest more : List ℕ) → IsGreeting g → IsGreeting h → greeting_bytes g ++ rest ≡ greeting_bytes h ++ more →
+    length (greeting_bytes g) ≡ length (greeting_bytes h)

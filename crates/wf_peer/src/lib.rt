@@ -18,7 +18,8 @@
 //!
 //! Promises: each greeting and each reply to one has exactly one encoding, and nothing else is
 //! decoded as it (`specs/Greeting.antt`); [`greeting_length`] and [`reply_length`] say how far a
-//! reader may read before it decodes. A peer is let in iff it meets the definition, and a cause
+//! reader may read before it decodes, and two greetings with which the same bytes begin are as long
+//! ([`greetings_are_as_long`]). A peer is let in iff it meets the definition, and a cause
 //! that is returned is one (`specs/Admission.antt`). What was heard never falls
 //! (`specs/Progress.antt`, `specs/Sender.antt`), and has exactly one text
 //! (`specs/PeerProgressText.antt`). Whatever a node handled and however often it restarted, its
@@ -60,4 +61,4 @@ pub use rejection::PeerRejection;
 pub use reply::{GreetingReply, REJECTION_BYTES, decode_reply, encode_rejection, reply_length};
 pub use sender::is_from;
 pub use state::NodeState;
-pub use theorem::{no_less_is_transitive, steps_report_no_more};
+pub use theorem::{greetings_are_as_long, no_less_is_transitive, steps_report_no_more};

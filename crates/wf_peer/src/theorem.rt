@@ -1,4 +1,5 @@
 //! Theorems about what is told of a node.
+ghost use Rattle.wf_peer.specs.Greeting.{GreetingsAreAsLong};
 ghost use Rattle.wf_peer.specs.Reported.{NoLessIsTransitive, StepsReportNoMore};
 
 use wf_model::{records_fit, votes_are_promised};
@@ -18,4 +19,11 @@ pub fn steps_report_no_more<V>()
 /// theorem: the call does nothing.
 pub fn no_less_is_transitive()
     ensures { NoLessIsTransitive }
+{}
+
+/// Two greetings with which the same bytes begin are as long: so the bytes after a greeting are
+/// these and no others. A theorem: the call does nothing.
+#[tactic(auto, using(crate::proofs::Bodies::as_long))]
+pub fn greetings_are_as_long()
+    ensures { GreetingsAreAsLong }
 {}

@@ -11,9 +11,9 @@ use Rattle.wf_reader.specs.declared.question.Question.{Question}
 use Rattle.wf_replica.proofs.Received.{learns_none, messages_more}
 use Rattle.wf_replica.proofs.Reported.{learned_append}
 use Rattle.wf_replica.specs.Fit.{FitsQuestion}
-use Rattle.wf_replica.specs.Heard.{IsHeard, IsHeardFrom, IsTaken}
+use Rattle.wf_replica.specs.Heard.{CameByAnswers, IsTakenFrom, IsTaken}
 use Rattle.wf_replica.specs.LearnedList.{learned, messages_of, numbered}
-use Rattle.wf_replica.specs.MapList.{IsRead, Learns, LearnsFitting, heard_by, maps_of}
+use Rattle.wf_replica.specs.MapList.{IsReadFromTape, Learns, LearnsFitting, heard_by, maps_of}
 use Rattle.wf_replica.specs.declared.maps.MapList.{MapList}
 
 -- ---- of a tape
@@ -27,7 +27,7 @@ numbered_push s (e ∷ list) d =
     let later : suc s + length list ≡ s + length (e ∷ list) = omega arith in
     ap (λ (l : List (Message Definition)). Chosen s e ∷ l) (numbered_push (suc s) list d ∙ ap (λ (n : ℕ). numbered (suc s) list ++ Chosen n d ∷ []) later)
 
-pub nothing_read : (read : List (code.Message × ℕ)) (maps : MapList) → read ≡ [] → heard_by maps ≡ [] → maps_of maps ≡ [] → IsRead (messages_of read) maps
+pub nothing_read : (read : List (code.Message × ℕ)) (maps : MapList) → read ≡ [] → heard_by maps ≡ [] → maps_of maps ≡ [] → IsReadFromTape (messages_of read) maps
 unfolding numbered
 nothing_read read maps none unheard empty = record {
   same = unheard ∙ sym (ap messages_of none);
@@ -35,7 +35,7 @@ nothing_read read maps none unheard empty = record {
 }
 
 pub one_read : (read read' : List (code.Message × ℕ)) (m : code.Message) (s n : ℕ) (d : Definition) (old new : MapList) → read' ≡ read ++ (m, 0) ∷ [] → view m ≡ Chosen s d →
-    n ≡ length (maps_of old) → s ≡ n + 1 → heard_by new ≡ heard_by old ++ view m ∷ [] → maps_of new ≡ maps_of old ++ d ∷ [] → IsRead (messages_of read) old → IsRead (messages_of read') new
+    n ≡ length (maps_of old) → s ≡ n + 1 → heard_by new ≡ heard_by old ++ view m ∷ [] → maps_of new ≡ maps_of old ++ d ∷ [] → IsReadFromTape (messages_of read) old → IsReadFromTape (messages_of read') new
 one_read read read' m s n d old new log says size next heard list is =
     let now : messages_of read' ≡ messages_of read ++ view m ∷ [] = ap messages_of log ∙ messages_more read m 0 in
     let place : s ≡ 1 + length (maps_of old) = omega (arith, next, size) in
@@ -46,16 +46,16 @@ one_read read read' m s n d old new log says size next heard list is =
     }
 
 -- nothing but what was read was heard, and no answer was given
-pub heard_read : (read received : List (Message Definition)) (answers : List (ReaderAnswer × Question)) → received ≡ read → answers ≡ [] → ∥ IsHeard read answers received ∥₁
-unfolding IsHeardFrom
+pub heard_read : (read received : List (Message Definition)) (answers : List (ReaderAnswer × Question)) → received ≡ read → answers ≡ [] → ∥ CameByAnswers read answers received ∥₁
+unfolding IsTakenFrom
 heard_read read received answers same none = ∣ record {
   rest = [];
   is_rest = same ∙ sym (append-nil read);
-  by_answers = subst (λ (l : List (ReaderAnswer × Question)). IsHeardFrom (learned [] read) l []) (sym none) refl;
+  by_answers = subst (λ (l : List (ReaderAnswer × Question)). IsTakenFrom (learned [] read) l []) (sym none) refl;
 } ∣₁
 
-pub heard_same : (read received received' : List (Message Definition)) (answers : List (ReaderAnswer × Question)) → received' ≡ received → ∥ IsHeard read answers received ∥₁ → ∥ IsHeard read answers received' ∥₁
-heard_same read received received' answers same heard = subst (λ (l : List (Message Definition)). ∥ IsHeard read answers l ∥₁) (sym same) heard
+pub heard_same : (read received received' : List (Message Definition)) (answers : List (ReaderAnswer × Question)) → received' ≡ received → ∥ CameByAnswers read answers received ∥₁ → ∥ CameByAnswers read answers received' ∥₁
+heard_same read received received' answers same heard = subst (λ (l : List (Message Definition)). ∥ CameByAnswers read answers l ∥₁) (sym same) heard
 
 -- ---- by an answer
 
@@ -78,8 +78,8 @@ part_of q a old new learns = (
 )
 
 from_more : (list : List Definition) (answers : List (ReaderAnswer × Question)) (received : List (Message Definition)) (answer : ReaderAnswer × Question) (part : List (Message Definition)) →
-    IsHeardFrom list answers received → IsTaken (learned list received) answer.1 answer.0 part → IsHeardFrom list (answers ++ answer ∷ []) (received ++ part)
-unfolding IsHeardFrom learned
+    IsTakenFrom list answers received → IsTaken (learned list received) answer.1 answer.0 part → IsTakenFrom list (answers ++ answer ∷ []) (received ++ part)
+unfolding IsTakenFrom learned
 from_more list [] received answer part none taken =
     let at : IsTaken list answer.1 answer.0 part = subst (λ (r : List (Message Definition)). IsTaken (learned list r) answer.1 answer.0 part) none taken in
     (part, [], ap (λ (r : List (Message Definition)). r ++ part) none ∙ sym (append-nil part), at, refl)
@@ -94,7 +94,7 @@ from_more list (first ∷ answers) received answer part heard taken =
 
 -- one more answer was given
 pub heard_more : (read : List (Message Definition)) (answers answers' : List (ReaderAnswer × Question)) (q : Question) (a : ReaderAnswer) (old new : MapList) → answers' ≡ answers ++ (a, q) ∷ [] →
-    LearnsFitting q a old new → ∥ IsHeard read answers (heard_by old) ∥₁ → ∥ IsHeard read answers' (heard_by new) ∥₁
+    LearnsFitting q a old new → ∥ CameByAnswers read answers (heard_by old) ∥₁ → ∥ CameByAnswers read answers' (heard_by new) ∥₁
 heard_more read answers answers' q a old new more learns heard =
     let part = part_of q a old new learns in
     ∥∥₁_map heard (λ is.
@@ -102,6 +102,6 @@ heard_more read answers answers' q a old new more learns heard =
     record {
       rest = is.rest ++ part.0;
       is_rest = part.2 ∙ ap (λ (l : List (Message Definition)). l ++ part.0) is.is_rest ∙ append_assoc read is.rest part.0;
-      by_answers = subst (λ (l : List (ReaderAnswer × Question)). IsHeardFrom (learned [] read) l (is.rest ++ part.0)) (sym more)
+      by_answers = subst (λ (l : List (ReaderAnswer × Question)). IsTakenFrom (learned [] read) l (is.rest ++ part.0)) (sym more)
           (from_more (learned [] read) answers is.rest (a, q) part.0 is.by_answers (subst (λ (l : List Definition). IsTaken l q a part.0) now part.1));
     })

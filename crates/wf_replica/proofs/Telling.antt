@@ -12,7 +12,7 @@ use Rattle.wf_model.specs.Table.{most_reports, reports_from}
 use Rattle.wf_reader.specs.ReaderAnswer.{ReaderAnswer}
 use Rattle.wf_reader.specs.declared.question.Question.{Question}
 use Rattle.wf_replica.proofs.Reported.{answers_report, first_reported, learned_agree}
-use Rattle.wf_replica.specs.Heard.{IsHeard, IsHeardFrom, IsTaken}
+use Rattle.wf_replica.specs.Heard.{CameByAnswers, IsTakenFrom, IsTaken}
 use Rattle.wf_replica.specs.LearnedList.{learned, numbered}
 use Rattle.wf_tape.specs.declared.tape.Tape.{Ghosts as Tape}
 use Rattle.wf_replica.specs.Theorems.{AnsweredAgree, AreAnsweredByFarm, AreReported, HeardAreReported, IsAnsweredByFarm, IsToldByFarm, ReadAreReported}
@@ -55,8 +55,8 @@ module _ {T : Type 0} (n : ℕ) (careers : ℕ → Career T) where
       ap (λ (s : ℕ). numbered s a.definitions) next ∙ ap (numbered (suc q.published)) answered.answers.definitions ∙ answers_report answered.source q.published in
       record { source = answered.source; served = answered.served; asked = suc q.published; reports = subst (IsIn m) is there }
 
-  from_told : (list : List Definition) (answers : List (ReaderAnswer × Question)) (received : List (Message Definition)) → IsHeardFrom list answers received → AreAnsweredByFarm n careers answers → AreReported n careers received
-  unfolding IsHeardFrom
+  from_told : (list : List Definition) (answers : List (ReaderAnswer × Question)) (received : List (Message Definition)) → IsTakenFrom list answers received → AreAnsweredByFarm n careers answers → AreReported n careers received
+  unfolding IsTakenFrom
   from_told list [] received none answered = λ m is_in. absurd (subst (IsIn m) none is_in)
   from_told list (answer ∷ answers) received heard answered = λ m is_in.
       elim (in_append m heard.0 heard.1 (subst (IsIn m) heard.2 is_in)) [
@@ -64,7 +64,7 @@ module _ {T : Type 0} (n : ℕ) (careers : ℕ → Career T) where
         | inr later ↦ from_told (learned list heard.0) answers heard.1 heard.4 (λ other there. answered other (inr there)) m later
       ]
 
-all_told : {T : Type 0} (n : ℕ) (careers : ℕ → Career T) (read received : List (Message Definition)) (answers : List (ReaderAnswer × Question)) → IsHeard read answers received →
+all_told : {T : Type 0} (n : ℕ) (careers : ℕ → Career T) (read received : List (Message Definition)) (answers : List (ReaderAnswer × Question)) → CameByAnswers read answers received →
     AreReported n careers read → AreAnsweredByFarm n careers answers → AreReported n careers received
 all_told n careers read received answers heard told answered = λ m is_in.
     elim (in_append m read heard.rest (subst (IsIn m) heard.is_rest is_in)) [

@@ -17,13 +17,13 @@ pub record IsTaken (list : List Definition) (q : Question) (a : ReaderAnswer) (p
   pub is_part : part ≡ numbered (next_of list) (take count a.definitions)
 
 -- so by some answers, one after the other, from this list on; and nothing else
-unfoldable pub IsHeardFrom : List Definition → List (ReaderAnswer × Question) → List (Message Definition) → Type 0
-IsHeardFrom list [] received = received ≡ []
-IsHeardFrom list (answer ∷ answers) received =
-    (part : List (Message Definition)) × (rest : List (Message Definition)) × (received ≡ part ++ rest) × IsTaken list answer.1 answer.0 part × IsHeardFrom (learned list part) answers rest
+unfoldable pub IsTakenFrom : List Definition → List (ReaderAnswer × Question) → List (Message Definition) → Type 0
+IsTakenFrom list [] received = received ≡ []
+IsTakenFrom list (answer ∷ answers) received =
+    (part : List (Message Definition)) × (rest : List (Message Definition)) × (received ≡ part ++ rest) × IsTaken list answer.1 answer.0 part × IsTakenFrom (learned list part) answers rest
 
 -- What a replica heard is what it read of its tape, and then what it took of these answers.
-pub record IsHeard (read : List (Message Definition)) (answers : List (ReaderAnswer × Question)) (received : List (Message Definition)) : Type 0 where
+pub record CameByAnswers (read : List (Message Definition)) (answers : List (ReaderAnswer × Question)) (received : List (Message Definition)) : Type 0 where
   pub rest : List (Message Definition)
   pub is_rest : received ≡ read ++ rest
-  pub by_answers : IsHeardFrom (learned [] read) answers rest
+  pub by_answers : IsTakenFrom (learned [] read) answers rest

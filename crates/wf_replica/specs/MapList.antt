@@ -30,6 +30,6 @@ pub record LearnsFitting (q : Question) (a : ReaderAnswer) (old new : MapList) :
   pub learns : Learns count old new a.definitions
 
 -- All that it heard was read, as the maps that it has.
-pub record IsRead (read : List (Message Definition)) (maps : MapList) : Type 0 where
+pub record IsReadFromTape (read : List (Message Definition)) (maps : MapList) : Type 0 where
   pub same : heard_by maps ≡ read
   pub are_maps : read ≡ numbered 1 (maps_of maps)

@@ -15,7 +15,7 @@ use Rattle.wf_reader.specs.declared.question.Question.{Question}
 use Rattle.wf_tape.specs.declared.tape.Tape.{Ghosts as Tape}
 use Rattle.wf_wms.specs.Answer.{AnswerValue, IsAnswerOf}
 use Rattle.wf_replica.specs.Fit.{FitsQuestion, IsQuestionOf}
-use Rattle.wf_replica.specs.Heard.{IsHeard}
+use Rattle.wf_replica.specs.Heard.{CameByAnswers}
 use Rattle.wf_replica.specs.LearnedList.{learned, numbered}
 
 -- What an answer at a readers' port says is what a node answers when it is asked for the next
@@ -59,7 +59,7 @@ AreAnsweredByFarm n careers answers = (answer : ReaderAnswer × Question) → Is
 -- Where a list of the farm gave each answer that a replica was given, and told what the replica
 -- read of its tape, such lists told all that it heard.
 abbrev pub HeardAreReported : Type 0 → Type 0
-HeardAreReported T = (n : ℕ) (careers : ℕ → Career T) (read received : List (Message Definition)) (answers : List (ReaderAnswer × Question)) → ∥ IsHeard read answers received ∥₁ →
+HeardAreReported T = (n : ℕ) (careers : ℕ → Career T) (read received : List (Message Definition)) (answers : List (ReaderAnswer × Question)) → ∥ CameByAnswers read answers received ∥₁ →
     AreReported n careers read → AreAnsweredByFarm n careers answers → ∥ AreReported n careers received ∥₁
 
 -- The maps of such a list, as they are read of a tape that has them, are told by it.
@@ -84,8 +84,8 @@ LearnedAgree {T} tapes = (n : ℕ) (careers : ℕ → Career T) (items : List It
 -- So it is where lists of the farm gave all their answers, and told what they read of their tapes.
 abbrev pub AnsweredAgree : {T : Type 0} → Tape T → Type 0
 AnsweredAgree {T} tapes = (n : ℕ) (careers : ℕ → Career T) (items : List Item) → IsFarm tapes n careers items →
-    (read received : List (Message Definition)) (answers : List (ReaderAnswer × Question)) → ∥ IsHeard read answers received ∥₁ → AreReported n careers read → AreAnsweredByFarm n careers answers →
-    (read_by_other other : List (Message Definition)) (other_answers : List (ReaderAnswer × Question)) → ∥ IsHeard read_by_other other_answers other ∥₁ → AreReported n careers read_by_other →
+    (read received : List (Message Definition)) (answers : List (ReaderAnswer × Question)) → ∥ CameByAnswers read answers received ∥₁ → AreReported n careers read → AreAnsweredByFarm n careers answers →
+    (read_by_other other : List (Message Definition)) (other_answers : List (ReaderAnswer × Question)) → ∥ CameByAnswers read_by_other other_answers other ∥₁ → AreReported n careers read_by_other →
     AreAnsweredByFarm n careers other_answers → (k l s : ℕ) (c d : Definition) →
     definition_at (learned [] (take k received)) s ≡ Some c → definition_at (learned [] (take l other)) s ≡ Some d → c ≡ d
 

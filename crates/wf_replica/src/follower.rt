@@ -1,6 +1,6 @@
 //! A replica: the maps that it has learned, and its tape.
 
-ghost use Rattle.wf_replica.specs.Heard.{IsHeard};
+ghost use Rattle.wf_replica.specs.Heard.{CameByAnswers};
 ghost use Rattle.wf_replica.specs.LearnedList.{messages_of};
 ghost use Rattle.wf_replica.specs.Recorded.{IsRecorded};
 
@@ -22,6 +22,6 @@ pub struct Follower<T: Tape> {
     pub(crate) read: Past<Message, usize>,
     pub(crate) answers: Past<ReaderAnswer, Question>,
     ghost recorded: { IsRecorded T.Tape tape maps.shelf.definitions },
-    ghost heard: { ∥ IsHeard
+    ghost heard: { ∥ CameByAnswers
         (messages_of read.items) answers.items (messages_of maps.received.items) ∥₁ },
 }

@@ -9,7 +9,7 @@ ghost use Rattle.wf_learner.specs.History.{next_of};
 ghost use Rattle.wf_model.specs.Message.{Chosen};
 ghost use Rattle.wf_replica.specs.Fit.{IsQuestionOf};
 ghost use Rattle.wf_replica.specs.Follower.{answers_of, list_of, read_by, received_by};
-ghost use Rattle.wf_replica.specs.Heard.{IsHeard};
+ghost use Rattle.wf_replica.specs.Heard.{CameByAnswers};
 ghost use Rattle.wf_replica.specs.LearnedList.{learned};
 ghost use Rattle.wf_replica.specs.MapList.{Learns, heard_by, maps_of};
 ghost use Rattle.wf_replica.specs.Recorded.{HasAppended, HasStayedOrGone, IsRecorded};
@@ -78,7 +78,7 @@ impl<T: Tape + Drop> Follower<T> {
     /// of what it has learned. The call does nothing.
     pub fn always_learned(&self)
         ensures learned { learned [] (received_by self.now) ≡ list_of self.now }
-        ensures heard { ∥ IsHeard
+        ensures heard { ∥ CameByAnswers
             (read_by self.now) (answers_of self.now) (received_by self.now) ∥₁ }
         ensures recorded { IsRecorded T.Tape self.now.tape (list_of self.now) }
     {

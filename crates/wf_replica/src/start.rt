@@ -6,7 +6,7 @@ ghost use Rattle.wf_journal.specs.Records.{AreRecords};
 ghost use Rattle.wf_model.specs.DurableState.{Published};
 ghost use Rattle.wf_replica.specs.Follower.{answers_of, list_of, read_by};
 ghost use Rattle.wf_replica.specs.LearnedList.{messages_of, numbered};
-ghost use Rattle.wf_replica.specs.MapList.{IsRead, maps_of};
+ghost use Rattle.wf_replica.specs.MapList.{IsReadFromTape, maps_of};
 ghost use Rattle.wf_replica.specs.Recorded.{AreLearned, IsRecordedStart, IsBegunAnew, IsFoundOn, IsNextLearned, IsTapeHad};
 ghost use Rattle.wf_wms.specs.CachedPictures.{most_cached};
 
@@ -199,9 +199,9 @@ impl MapList {
         records: &[Record],
     ) -> Result<bool, AllocError>
         requires empty { maps_of self.old ≡ [] }
-        requires read { IsRead (messages_of read.old.items) self.old }
+        requires read { IsReadFromTape (messages_of read.old.items) self.old }
         ensures learned { IfOk result (λ are. AreLearned are (map view records.now) (maps_of self.new)) }
-        ensures read { IfOk result (λ _. IsRead (messages_of read.new.items) self.new) }
+        ensures read { IfOk result (λ _. IsReadFromTape (messages_of read.new.items) self.new) }
     {
         for entry in records {
             if !self.receive_record(read, entry)? {
@@ -218,9 +218,9 @@ impl MapList {
         read: &mut Past<Message, usize>,
         entry: &Record,
     ) -> Result<bool, AllocError>
-        requires { IsRead (messages_of read.old.items) self.old }
+        requires { IsReadFromTape (messages_of read.old.items) self.old }
         ensures learned { IfOk result (λ is. IsNextLearned is (view entry.now) (maps_of self.old) (maps_of self.new)) }
-        ensures read { IfOk result (λ _. IsRead (messages_of read.new.items) self.new) }
+        ensures read { IfOk result (λ _. IsReadFromTape (messages_of read.new.items) self.new) }
     {
         match entry {
             Record::Published(slot, definition) => self.receive_map(read, *slot, definition),
@@ -236,10 +236,10 @@ impl MapList {
         slot: Slot,
         definition: &Canon,
     ) -> Result<bool, AllocError>
-        requires { IsRead (messages_of read.old.items) self.old }
+        requires { IsReadFromTape (messages_of read.old.items) self.old }
         ensures learned { IfOk result
             (λ is. IsNextLearned is (Published slot definition.now) (maps_of self.old) (maps_of self.new)) }
-        ensures read { IfOk result (λ _. IsRead (messages_of read.new.items) self.new) }
+        ensures read { IfOk result (λ _. IsReadFromTape (messages_of read.new.items) self.new) }
     {
         let published = self.history().published().number();
         if slot.number() != published + 1 {

@@ -12,7 +12,7 @@ use Rattle.wf_replica.specs.Follower.{HasLearnedNothing, answers_of, list_of}
 use Rattle.wf_replica.specs.declared.follower.Follower.{Follower}
 use Rattle.wf_replica.specs.declared.misfit.AnswerFault.{AnswerFault}
 use Rattle.wf_replica_command.specs.Continuation.{IsLaterReplica}
-use Rattle.wf_replica_command.specs.Heard.{AreHeard, Course, Hears, IsFewer, IsGiven, IsHeard, IsKept, IsNoted, IsRefusal, IsRefusing, IsQuiet, IsReplyTaken, course_of}
+use Rattle.wf_replica_command.specs.Heard.{AreHeard, Course, Hears, IsFewer, IsGiven, IsReplyHeard, IsKept, IsNoted, IsRefusal, IsRefusing, IsQuiet, IsReplyTaken, course_of}
 use Rattle.wf_replica_command.specs.ReplicaHub.{HasHeardNothing, state_of}
 use Rattle.wf_replica_command.specs.declared.asked.Asked.{Asked}
 use Rattle.wf_replica_command.specs.declared.asker.Asker.{Asker}
@@ -43,7 +43,7 @@ taken_later a b c q (replies.Answer answer) kept taken = record {
 }
 taken_later a b c q (replies.Rejected why) kept taken = kept_twice a b c kept taken
 
-heard_later : (a b c : Course) (reply : Reply) (asked : Asked) → IsQuiet a b → IsHeard reply asked b c → IsHeard reply asked a c
+heard_later : (a b c : Course) (reply : Reply) (asked : Asked) → IsQuiet a b → IsReplyHeard reply asked b c → IsReplyHeard reply asked a c
 heard_later a b c reply asked settled heard = record {
   taken = taken_later a b c asked.question reply settled.kept heard.taken;
   noted = record {
@@ -66,7 +66,7 @@ none_heard : (a b : Course) → IsQuiet a b → AreHeard a [] b
 unfolding AreHeard
 none_heard a b settled = settled
 
-one_heard : (a b : Course) (reply : Reply) (asked : Asked) → IsHeard reply asked a b → AreHeard a ((reply, asked) ∷ []) b
+one_heard : (a b : Course) (reply : Reply) (asked : Asked) → IsReplyHeard reply asked a b → AreHeard a ((reply, asked) ∷ []) b
 unfolding AreHeard
 one_heard a b reply asked heard = (b, heard, settled_itself b)
 
@@ -79,12 +79,12 @@ module _ {T : Type 0} {tapes : Tape T} where
 
   pub heard_answer : (source : ℕ) (q : Question) (a : ReaderAnswer) (old new : Follower T tapes) (before after : List Bool) → IsGiven q a (course_of old before) (course_of new after) →
       IsNoted source (IsOtherHistory (list_of old) a) before after →
-      IsHeard (replies.Answer a) (record { source = source; question = q }) (course_of old before) (course_of new after)
+      IsReplyHeard (replies.Answer a) (record { source = source; question = q }) (course_of old before) (course_of new after)
   heard_answer source q a old new before after given noted = record { taken = given; noted = noted }
 
   pub heard_rejection : (source : ℕ) (q : Question) (why : QuestionRejection) (refusal : Option QuestionRejection) (replica : Follower T tapes) (before after : List Bool) →
       IsNoted source (IsSome refusal) before after → (IsSome refusal → IsRefusing why) →
-      IsHeard (replies.Rejected why) (record { source = source; question = q }) (course_of replica before) (course_of replica after)
+      IsReplyHeard (replies.Rejected why) (record { source = source; question = q }) (course_of replica before) (course_of replica after)
   heard_rejection source q why refusal replica before after noted refuses =
       record { taken = record { list = refl; answers = refl }; noted = noted_for source before after noted refuses }
 
@@ -121,7 +121,7 @@ module _ {T N C L : Type 0} {tapes : Tape T} {connections : Connection C} where
       hears_quiet asker asker' replica (log ∙ before) (noted_fewer source asker.refusals asker.refusals asker'.refusals noted refl)
 
   hears_once : (asker asker' : Asker N C L connections) (old new : Follower T tapes) (reply : Reply) (asked : Asked) → IsLaterReplica old new → asker'.heard.items ≡ asker.heard.items ++ (reply, asked) ∷ [] →
-      IsHeard reply asked (course_of old asker.refusals) (course_of new asker'.refusals) → Hears asker old asker' new
+      IsReplyHeard reply asked (course_of old asker.refusals) (course_of new asker'.refusals) → Hears asker old asker' new
   hears_once asker asker' old new reply asked goes_on log heard = record {
     goes_on = goes_on;
     heard = (reply, asked) ∷ [];
@@ -138,7 +138,7 @@ module _ {T N C L : Type 0} {tapes : Tape T} {connections : Connection C} where
   }
 
   pub hears_reply : (asker asker' : Asker N C L connections) (items : List (Reply × Asked)) (old new : Follower T tapes) (reply : Reply) (asked : Asked) → IsLaterReplica old new →
-      IsHeard reply asked (course_of old asker.refusals) (course_of new asker'.refusals) → items ≡ asker.heard.items ++ (reply, asked) ∷ [] → asker'.heard.items ≡ items → Hears asker old asker' new
+      IsReplyHeard reply asked (course_of old asker.refusals) (course_of new asker'.refusals) → items ≡ asker.heard.items ++ (reply, asked) ∷ [] → asker'.heard.items ≡ items → Hears asker old asker' new
   hears_reply asker asker' items old new reply asked goes_on heard before log = hears_once asker asker' old new reply asked goes_on (log ∙ before) heard
 
   -- what came, then who was silent, then what was asked

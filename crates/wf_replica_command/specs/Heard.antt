@@ -64,7 +64,7 @@ pub record IsNoted (source : ℕ) (refuses : Type 0) (old new : List Bool) : Typ
   pub others : (i : ℕ) → i ≢ source → slice_get new i ≡ Some true → slice_get old i ≡ Some true
 
 -- a reply came: a source refuses the replica only by its own reply
-pub record IsHeard (reply : Reply) (asked : Asked) (old new : Course) : Type 0 where
+pub record IsReplyHeard (reply : Reply) (asked : Asked) (old new : Course) : Type 0 where
   pub taken : IsReplyTaken asked.question reply old new
   pub noted : IsNoted asked.source (IsRefusal old.list reply) old.refusals new.refusals
 
@@ -76,7 +76,7 @@ pub record IsQuiet (old new : Course) : Type 0 where
 -- these replies came, one after the other
 unfoldable pub AreHeard : Course → List (Reply × Asked) → Course → Type 0
 AreHeard old [] new = IsQuiet old new
-AreHeard old (x ∷ heard) new = (next : Course) × IsHeard x.0 x.1 old next × AreHeard next heard new
+AreHeard old (x ∷ heard) new = (next : Course) × IsReplyHeard x.0 x.1 old next × AreHeard next heard new
 
 -- The replica goes on by what it hears of its sources.
 pub record Hears {T N C L : Type 0} {tapes : Tape T} {connections : Connection C} (old_asker : Asker N C L connections) (old : Follower T tapes) (new_asker : Asker N C L connections) (new : Follower T tapes) : Type 0 where

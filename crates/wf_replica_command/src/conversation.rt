@@ -6,7 +6,7 @@ ghost use Rattle.wf_replica.specs.Fit.{IsOfOtherHistory, IsOtherHistory};
 ghost use Rattle.wf_replica.specs.Follower.{HasLearnedNothing, list_of};
 ghost use Rattle.wf_replica.specs.Refusals.{all_refuse};
 ghost use Rattle.wf_replica_command.specs.Continuation.{IsLaterReplica};
-ghost use Rattle.wf_replica_command.specs.Heard.{Hears, IsFewer, IsGiven, IsHeard, IsNoted, IsRefusing, course_of};
+ghost use Rattle.wf_replica_command.specs.Heard.{Hears, IsFewer, IsGiven, IsReplyHeard, IsNoted, IsRefusing, course_of};
 
 use crate::asker::Asker;
 use crate::event::{ReplicaEvent, SourceEnd};
@@ -140,7 +140,7 @@ impl<N: Network> Asker<N> {
     )
         ensures goes_on { IsLaterReplica follower.old follower.new }
         ensures heard { self.new.heard.items ≡ self.old.heard.items }
-        ensures reply { IsHeard reply (record { source = self.old.of; question = question.now }) (course_of follower.old self.old.refusals) (course_of follower.new self.new.refusals) }
+        ensures reply { IsReplyHeard reply (record { source = self.old.of; question = question.now }) (course_of follower.old self.old.refusals) (course_of follower.new self.new.refusals) }
     {
         match reply {
             Reply::Answer(answer) => {

@@ -26,9 +26,16 @@ use wf_visitors::Log;
 
 /// A replica that runs over a network: its caller waits for sockets and steps it. A clause sees its
 /// hub.
-#[derive(Drop)]
 pub struct RunningReplica<T: Tape, N: Network = SystemNetwork> {
     hub: ReplicaHub<T, N>,
+}
+
+// A derived one would be taken apart by each caller.
+impl<T: Tape + Drop, N: Network + Drop> Drop for RunningReplica<T, N> {
+    fn drop(self) {
+        let RunningReplica { hub } = self;
+        drop(hub);
+    }
 }
 
 /// Starts a replica on its folder, which is locked first and stays so as long as the store is there,

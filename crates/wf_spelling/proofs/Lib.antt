@@ -2,4 +2,3 @@ pub mod ScannedBlock
 pub mod ScannedNumber
 pub mod ScanSequences
 pub mod WriteSequences
-pub mod ExcessTheorem

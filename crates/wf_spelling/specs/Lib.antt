@@ -1,4 +1,4 @@
 pub mod Canon
 pub mod Draft
-pub mod Excess
+pub mod Opening
 pub mod Scan

@@ -5,7 +5,7 @@ ghost use Rattle.std.specs.List.{flat_map};
 ghost use Rattle.wf_spelling.specs.Canon.{kind_word, with_text, metadata_lines, feature_lines, class_lines, layer_lines};
 ghost use Rattle.wf_token.specs.Spelling.{line, text_of};
 ghost use Rattle.wf_spelling.specs.Draft.{Writes};
-ghost use Rattle.wf_spelling.specs.Excess.{layer_opening_lines};
+ghost use Rattle.wf_spelling.specs.Opening.{layer_opening_lines};
 
 use crate::class::push_class;
 use crate::draft::Draft;
@@ -67,7 +67,7 @@ pub fn push_features(out: &mut Draft, features: &[Feature])
 }
 
 /// Writes a layer with its name as far as its features.
-pub fn push_layer_opening(out: &mut Draft, name: &Text, layer: &Layer)
+fn push_layer_opening(out: &mut Draft, name: &Text, layer: &Layer)
     ensures { Writes out.old (text_of (layer_opening_lines (name.now, layer.now))) out.new }
 {
     push_alone(out, "LAYER");

@@ -6,29 +6,28 @@
 //! wf_text how a number is written.
 //!
 //! Promises: [`text_of`] returns exactly the text of its definition. [`text_length`],
-//! [`layer_length`] and [`features_length`] count its bytes, also of a text that is too long, and
-//! [`first_excess`] is where it passes its limit (`specs/Excess.antt`). [`scan_text`] accepts
-//! canonical texts alone, and returns their definition. Not here: whether bytes that the scanner
-//! leaves are a canonical text (wf_canon decides it).
+//! [`layer_length`] and [`features_length`] count its bytes, also of a text that is too long.
+//! [`scan_text`] accepts canonical texts alone, and returns their definition. Not here: whether
+//! bytes that the scanner leaves are a canonical text (wf_canon decides it).
 //!
 //! Modules: `draft` is a text while it is written, `line` writes the lines of one item; `class`,
-//! `feature`, `layer` and `writer` write blocks of lines; `text` writes a whole text, `excess`
+//! `feature`, `layer` and `writer` write blocks of lines; `text` writes a whole text, `length`
 //! counts one; `scan` reads them, in files of the same names.
 #![tactic(auto)]
 
 mod class;
 mod draft;
-mod excess;
 mod fault;
 mod feature;
 mod layer;
+mod length;
 mod line;
 mod number;
 mod scan;
 mod text;
 mod writer;
 
-pub use excess::{Excess, features_length, first_excess, layer_length, text_length};
 pub use fault::CanonFault;
+pub use length::{features_length, layer_length, text_length};
 pub use scan::map::scan_text;
 pub use text::{MOST_CANON_BYTES, text_of};

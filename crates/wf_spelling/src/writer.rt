@@ -6,7 +6,7 @@ ghost use Rattle.wf_def.specs.Limits.{IsWithinLimits};
 ghost use Rattle.wf_spelling.specs.Canon.{projection_text, heading_lines, projection_lines, web_lines, layer_lines, canon};
 ghost use Rattle.wf_token.specs.Spelling.{text_of};
 ghost use Rattle.wf_spelling.specs.Draft.{Writes};
-ghost use Rattle.wf_spelling.specs.Excess.{opening_lines};
+ghost use Rattle.wf_spelling.specs.Opening.{opening_lines};
 
 use crate::draft::Draft;
 use crate::layer::push_layer;
@@ -68,7 +68,7 @@ fn push_layers(out: &mut Draft, map: &MapDef)
 }
 
 /// Writes a map as far as its layers.
-pub(crate) fn push_opening(out: &mut Draft, map: &MapDef)
+fn push_opening(out: &mut Draft, map: &MapDef)
     ensures written { Writes out.old (text_of (opening_lines map.now)) out.new }
     ensures within { IsWithinLimits map.now }
 {

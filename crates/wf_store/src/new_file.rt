@@ -53,14 +53,14 @@ impl<'a, R: Files> NewFile<'a, R> {
 }
 
 /// Opens the file at a path to write, without bytes; it is made if it is absent.
-fn open_empty<R: Files>(rt: &R, path: &str) -> io::Result<R::File> {
+pub(crate) fn open_empty<R: Files>(rt: &R, path: &str) -> io::Result<R::File> {
     let mut options = OpenOptions::new();
     options.write(true).create(true).truncate(true);
     options.open(rt, path)
 }
 
 /// Writes the bytes to a file that is open.
-fn write<F: Write>(file: &mut Option<F>, bytes: &[u8]) -> io::Result<()> {
+pub(crate) fn write<F: Write>(file: &mut Option<F>, bytes: &[u8]) -> io::Result<()> {
     match file {
         None => Err(io::Error::from(ErrorKind::NotFound)),
         Some(file) => file.write_all(bytes),
@@ -68,7 +68,7 @@ fn write<F: Write>(file: &mut Option<F>, bytes: &[u8]) -> io::Result<()> {
 }
 
 /// Syncs a file that is open.
-fn sync_file<F: OpenFile>(file: &Option<F>) -> io::Result<()> {
+pub(crate) fn sync_file<F: OpenFile>(file: &Option<F>) -> io::Result<()> {
     match file {
         None => Err(io::Error::from(ErrorKind::NotFound)),
         Some(file) => file.sync_all(),

@@ -3,16 +3,16 @@ ghost use Rattle.std.specs.Prelude.{◌≡◌, IfErr};
 ghost use Rattle.wf_store.specs.Fault.{IsWhyUnopened, IsWhyUnread, IsWhyUnwritten};
 ghost use Rattle.wf_store.specs.FileName.{path_in};
 
+use crate::at_path::read_file;
 use crate::fault::FolderFault;
 use crate::file_name::{FileName, path_in};
 use crate::new_file::NewFile;
 use crate::replacement::replace_on;
+use std::fs;
 use std::io::ErrorKind;
 use std::rt::Files;
-use std::{fs, io};
 use wf_disk::{Disk, DiskFault};
 use wf_folder::Presence;
-use wf_stream::{Stream, read_up_to};
 use wf_tape::{FileTape, TapeFault};
 
 /// Whether a file of a folder is there.
@@ -94,7 +94,7 @@ fn read_at<R: Files + AllocGlobal>(
     requires own { path.now ≡ path_in folder.now file }
     ensures { IfErr result (IsWhyUnread file) }
 {
-    match read_first(rt, path, limit) {
+    match read_file(rt, path, limit) {
         Ok(bytes) => Ok(Some(bytes)),
         Err(error) => match error.kind() {
             ErrorKind::NotFound => Ok(None),
@@ -102,12 +102,6 @@ fn read_at<R: Files + AllocGlobal>(
             kind => Err(FolderFault::Unread(file, kind)),
         },
     }
-}
-
-/// The first bytes at a path.
-fn read_first<R: Files + AllocGlobal>(rt: &R, path: &str, limit: usize) -> io::Result<Vec<u8>> {
-    let file = fs::open(rt, path)?;
-    read_up_to(rt.alloc(), &mut Stream::new(file), limit)
 }
 
 /// A file of a folder as a tape; it is made if it is absent.

@@ -9,7 +9,6 @@ use crate::plan::Relapse;
 use crate::process::Process;
 use crate::schedule::Stroke;
 use std::cell::RefCell;
-use wf_ballot::NodeId;
 use wf_loop::Log;
 use wf_node_command::{RunningNode, run};
 use wf_simulation::{SimulatedNetwork, World};
@@ -20,7 +19,7 @@ use wf_store::{FileName, MemoryFolder, MemoryStore, Store};
 pub(crate) struct Member<'a> {
     host: Host<'a>,
     process: Option<RunningNode<MemoryStore<'a>, SimulatedNetwork<'a>>>,
-    // how many messages its processes that have ended had for others
+    // how many messages its processes that have ended took in
     messages: u64,
     // whether its folder isn't its last one, and whether it didn't start on that
     has_relapsed: bool,
@@ -71,10 +70,10 @@ impl<'a> Member<'a> {
         self.is_refused
     }
 
-    /// How many messages it has had for others, in all of its processes.
+    /// How many messages it took in, in all of its processes.
     pub(crate) fn messages(&self) -> u64 {
         let running = match &self.process {
-            Some(process) => messages_of(process),
+            Some(process) => process.message_count(),
             None => 0,
         };
         self.messages.saturating_add(running)
@@ -250,17 +249,6 @@ pub(crate) fn make_folder<R: Eprint>(
     let line = init_line(number, nodes, replaces);
     let (_, store) = run(machine, MemoryStore::new(folder), &line, 0);
     drop(store);
-}
-
-/// How many messages a process has had for others.
-fn messages_of(process: &RunningNode<MemoryStore<'_>, SimulatedNetwork<'_>>) -> u64 {
-    let mut messages = 0u64;
-    for peer in 0..process.process().n() {
-        if let Some(peer) = NodeId::new(peer) {
-            messages = messages.saturating_add(process.process().post_count(peer));
-        }
-    }
-    messages
 }
 
 /// Copies a file from a folder into another.

@@ -1,6 +1,6 @@
-use Rattle.wf_actor.proofs.Receipt.{none_given, none_arrived}
+use Rattle.wf_wire.specs.Post.{logged}
+use Rattle.wf_actor.proofs.Receipt.{none_given}
 use Rattle.wf_actor.proofs.Dispatches.{nothing_sent}
-use Rattle.wf_actor.specs.Life.{logged}
 use Rattle.wf_actor.proofs.process.Process.assemble.Goals as goal
 
 pub invariant_of-result : goal.invariant_of-result
@@ -10,8 +10,5 @@ invariant_of-result g c = record {
   most_pictures = c.requires.most_pictures;
   among = c.requires.among;
   member = c.requires.member;
-  linked = c.requires.links.as_many;
-  sent = ∣ nothing_sent c.args.parts.backlog.messages.items c.args.n c.args.parts.links.items (logged c.args.actor.emitted.items) c.requires.backlog c.requires.links ∣₁;
-  received = ∣ none_given c.new.result.items c.args.actor.given.items c.requires.given ∣₁;
-  arrived = ∣ none_arrived c.new.result.items c.args.n c.args.parts.links.items c.requires.links ∣₁;
+  sent = ∣ nothing_sent c.args.parts.backlog.messages.items c.args.parts.posts.messages.items (logged c.args.actor.emitted.items) c.requires.backlog c.requires.posts ∣₁;
 }

@@ -1,7 +1,0 @@
-use Rattle.std.proofs.Common.{map, take}
-use Rattle.wf_codec.specs.Message.{view}
-use Rattle.wf_actor.specs.Link.{AreOffered}
-use Rattle.wf_actor.proofs.link.Link.offer_all.Given as goal
-
-abbrev pub invariant-loop-message : goal.invariant-loop-message
-invariant-loop-message l = AreOffered (map view (take l.message-index l.messages)) l.fn.self l.self

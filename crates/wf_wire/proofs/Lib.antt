@@ -1,0 +1,4 @@
+pub mod Arrival
+pub mod Ends
+pub mod Offers
+pub mod Sent

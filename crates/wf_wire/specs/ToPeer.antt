@@ -1,0 +1,49 @@
+-- What is sent on a connection to a peer.
+use Rattle.std.specs.Prelude.{◌≡◌, ℕ, List, [], ◌++◌, map, Option, Some, None, is_some, true}
+use Rattle.wf_codec.specs.Message.{view}
+use Rattle.wf_def.specs.Definition.{Definition}
+use Rattle.wf_mail.specs.Mail.{AreMessages, IsBeginning, spelled}
+use Rattle.wf_mail.specs.Outbox.{OutboxState}
+use Rattle.wf_model.specs.Chosen.{IsIn}
+use Rattle.wf_model.specs.Message.{Message}
+use Rattle.wf_peer.specs.Greeting.{IsGreeting, greeting_bytes}
+use Rattle.wf_peer.specs.declared.greeting.Greeting.{Greeting}
+use Rattle.wf_wire.specs.Post.{logged}
+use Rattle.wf_wire.specs.declared.post.Post.{Post}
+
+-- what was put into the outbox, and what was written of it, if there is one
+abbrev pub put_into : Option OutboxState → List (Message Definition)
+put_into None = []
+put_into (Some outbox) = outbox.put
+
+abbrev pub written_of : Option OutboxState → List ℕ
+written_of None = []
+written_of (Some outbox) = outbox.written
+
+-- an outbox comes once all of the greeting was sent
+abbrev pub IsGreetedFirst : Option OutboxState → List ℕ → Type 0
+IsGreetedFirst outbox left = is_some outbox ≡ true → left ≡ []
+
+-- a greeting has these bytes
+pub record IsGreetingOf (bytes : List ℕ) : Type 0 where
+  pub said : Greeting
+  pub is : IsGreeting said
+  pub are : bytes ≡ greeting_bytes said
+
+-- The node had returned the message when one of these was posted.
+pub record WasReturned (posts : List (Post × ℕ)) (m : Message Definition) : Type 0 where
+  pub post : Post
+  pub number : ℕ
+  pub posted : IsIn (post, number) posts
+  pub returned : IsIn m (map view (logged post.returned.items))
+
+-- each message that was put in was returned by the node before one of these was posted
+unfoldable pub AreReturned : List (Message Definition) → List (Post × ℕ) → Type 0
+AreReturned put posts = (m : Message Definition) → IsIn m put → WasReturned posts m
+
+-- These bytes are a beginning of a greeting's and of the encodings of these messages.
+pub record IsSentAs (sent : List ℕ) (put : List (Message Definition)) : Type 0 where
+  pub own : Greeting
+  pub is_greeting : IsGreeting own
+  pub messages : AreMessages put
+  pub begins : IsBeginning sent (greeting_bytes own ++ spelled put)

@@ -1,0 +1,42 @@
+//! The two connections between a node and a peer: one on which messages come from it, one on which
+//! messages are sent to it. Each is one value with its end of the messages.
+//!
+//! **Model.** A [`FromPeer`] is a connection, the peer's greeting, and the receiver of what comes
+//! after it (`specs/FromPeer.antt`). A [`PeerMessage`] is a message that came on one, with what had
+//! come on it by then. A [`Post`] is messages that a node returned, with whom they are for, and with
+//! all that the node had returned by then (`specs/Post.antt`). A [`ToPeer`] is a connection, the
+//! node's greeting, and the outbox of what is sent after it (`specs/ToPeer.antt`).
+//!
+//! **Promises.**
+//! - All bytes that came on a connection from a peer are its greeting, and then what its receiver
+//!   took: so each message that it gives is one of the whole messages that these bytes begin with
+//!   ([`FromPeer::pop`], [`PeerMessage::into_parts`]). A receiver can't outlive its connection.
+//! - All bytes that were sent on a connection to a peer are a beginning of the node's greeting and
+//!   of the encodings of what was put into its outbox, and each of these messages was returned by
+//!   the node before it was posted ([`ToPeer::always_sent`]).
+//! - Where all bytes that came on a connection are a beginning of what was sent on another one, each
+//!   message that came was put into that one's outbox ([`only_posted_messages_come`]).
+//!
+//! **Doesn't.** That what comes on a connection is a beginning of what was sent at its other end is
+//! TCP's promise, and a premise. Who may be let in, what a node makes of a message, and time are
+//! elsewhere.
+#![tactic(auto)]
+
+mod from_peer;
+mod peer_message;
+mod post;
+mod receipt;
+mod reception;
+mod sending;
+mod target;
+mod theorem;
+mod to_peer;
+
+pub use from_peer::FromPeer;
+pub use peer_message::PeerMessage;
+pub use post::Post;
+pub use receipt::{Received, ReceptionFault};
+pub use sending::{OUTBOX_BYTES, PostCount};
+pub use target::{Target, reply_target};
+pub use theorem::only_posted_messages_come;
+pub use to_peer::ToPeer;
