@@ -2,7 +2,7 @@
 use Rattle.std.proofs.Common.{◌≡◌, ◌≢◌, ℕ, zero, suc, ◌<◌, List, [], ◌∷◌, ◌++◌, length, take, slice_get, Some, refl, sym, ap, subst, ◌∙◌, inl, inr, arith, append-nil, append_assoc, eq-eqb, ne_eqb}
 use Rattle.std.proofs.lemmas.Bool.{cases_eq}
 use Rattle.std.proofs.lemmas.Option.{none-some, same_Some}
-use Rattle.wf_actor.specs.Farm.{AreCarried, AreMembers, ArePeersAmong, Step, items, steps_by, steps_of}
+use Rattle.wf_actor.specs.Farm.{AreMembers, Step, items, steps_by, steps_of}
 use Rattle.wf_actor.specs.Life.{AreOwnReceived}
 use Rattle.wf_actor.specs.declared.actor.Actor.{Actor}
 use Rattle.wf_actor.specs.declared.actor.Origin.{Origin}
@@ -13,6 +13,7 @@ use Rattle.wf_career.specs.Theorems.{outputs_in}
 use Rattle.wf_codec.specs.declared.message.Message.{Message}
 use Rattle.wf_tape.specs.declared.tape.Tape.{Ghosts as Tape}
 use Rattle.wf_histories.specs.Advance.{ActAdvances, HasBegun, NothingAdvances, ReadsAfter, RunAdvances, StartAdvances, in_next_run, last_cut, one_act_more, run_in, with_folder}
+use Rattle.wf_histories.specs.Carried.{ArePeersSent, AreSentBefore}
 use Rattle.wf_histories.specs.Nodes.{AreNodeProcesses, AreOnFolder, HasEndedBefore, NodeProcess, cut_before, cut_step, made_by, steps_on}
 use Rattle.wf_histories.specs.Runs.{LivesOf, made_of, steps_made, steps_over}
 
@@ -47,16 +48,16 @@ members_both n i [] [] less are own = tt
 members_both n i [] (step ∷ more) less are own = (subst (λ k. k < n) (sym own.0) less, members_both n i [] more less tt own.1)
 members_both n i (step ∷ steps) more less are own = (are.0, members_both n i steps more less are.1 own)
 
-carried_both : (sent : List Message) (steps more : List Step) → AreCarried sent steps → AreCarried (sent ++ outputs_in (items steps)) more → AreCarried sent (steps ++ more)
-unfolding AreCarried outputs_in
-carried_both sent [] more are later = subst (λ ms. AreCarried ms more) (append-nil sent) later
-carried_both sent (step ∷ steps) more are later =
-    (are.0, carried_both (sent ++ step.outputs) steps more are.1 (subst (λ ms. AreCarried ms more) (sym (append_assoc sent step.outputs (outputs_in (items steps)))) later))
+sent_both : (sent : List Message) (steps more : List Step) → AreSentBefore sent steps → AreSentBefore (sent ++ outputs_in (items steps)) more → AreSentBefore sent (steps ++ more)
+unfolding AreSentBefore outputs_in
+sent_both sent [] more are later = subst (λ ms. AreSentBefore ms more) (append-nil sent) later
+sent_both sent (step ∷ steps) more are later =
+    (are.0, sent_both (sent ++ step.outputs) steps more are.1 (subst (λ ms. AreSentBefore ms more) (sym (append_assoc sent step.outputs (outputs_in (items steps)))) later))
 
 module _ {T : Type 0} (tapes : Tape T) where
   pub nothing_advances : NothingAdvances tapes
-  unfolding AreMembers AreCarried steps_of steps_on
-  nothing_advances n = record { ended = λ i less. refl; on_folders = λ i less. tt; members = tt; in_order = λ i less. refl; carried = tt }
+  unfolding AreMembers AreSentBefore steps_of steps_on
+  nothing_advances n = record { ended = λ i less. refl; on_folders = λ i less. tt; members = tt; in_order = λ i less. refl; connected = tt }
 
   -- ---- the processes of one node go on
 
@@ -78,15 +79,15 @@ module _ {T : Type 0} (tapes : Tape T) where
 
   advances : (n i : ℕ) (before : ℕ → Career T) (sent : List Message) (folders : ℕ → List (NodeProcess tapes)) (steps more : List Step) (processes : List (NodeProcess tapes)) →
       AreNodeProcesses tapes n before sent folders steps → i < n → AreOnFolder tapes n i (left (before i)) processes → steps_on tapes i processes ≡ steps_on tapes i (folders i) ++ more → AreStepsOf i more →
-      AreCarried (sent ++ outputs_in (items steps)) more → AreNodeProcesses tapes n before sent (with_folder tapes folders i processes) (steps ++ more)
-  advances n i before sent folders steps more processes are less on_folder grown own carried = record {
+      AreSentBefore (sent ++ outputs_in (items steps)) more → AreNodeProcesses tapes n before sent (with_folder tapes folders i processes) (steps ++ more)
+  advances n i before sent folders steps more processes are less on_folder grown own connected = record {
     ended = are.ended;
     on_folders = λ j member. at_each folders i processes (λ k ps. AreOnFolder tapes n k (left (before k)) ps) j on_folder (λ differs. are.on_folders j member);
     members = members_both n i steps more less are.members own;
     in_order = λ j member. at_each folders i processes (λ k ps. steps_of k (steps ++ more) ≡ steps_on tapes k ps) j
         (steps_both i steps more ∙ ap (λ xs. xs ++ steps_of i more) (are.in_order i less) ∙ ap (λ xs. steps_on tapes i (folders i) ++ xs) (own_all i more own) ∙ sym grown)
         (λ differs. steps_both j steps more ∙ ap (λ xs. steps_of j steps ++ xs) (own_none i j more differs own) ∙ append-nil (steps_of j steps) ∙ are.in_order j member);
-    carried = carried_both sent steps more are.carried carried;
+    connected = sent_both sent steps more are.connected connected;
   }
 
   -- ---- a start
@@ -116,29 +117,29 @@ module _ {T : Type 0} (tapes : Tape T) where
   unfolding steps_on last_cut
   steps_begun i [] p first none = ap (λ xs. xs ++ []) (begun_steps i p first none)
   steps_begun i (last ∷ []) p first none =
-      ap (λ xs. steps_made i (made_by tapes last) ++ (cut_step i last.end ++ xs)) (ap (λ xs. xs ++ []) (begun_steps i p first none))
-      ∙ ap (λ xs. steps_made i (made_by tapes last) ++ xs) (append-nil (cut_step i last.end))
-      ∙ ap (λ xs. xs ++ cut_step i last.end) (sym (append-nil (steps_made i (made_by tapes last))))
+      ap (λ xs. steps_made i (made_by tapes last) ++ (cut_step i last.end last.cut_from ++ xs)) (ap (λ xs. xs ++ []) (begun_steps i p first none))
+      ∙ ap (λ xs. steps_made i (made_by tapes last) ++ xs) (append-nil (cut_step i last.end last.cut_from))
+      ∙ ap (λ xs. xs ++ cut_step i last.end last.cut_from) (sym (append-nil (steps_made i (made_by tapes last))))
   steps_begun i (one ∷ (next ∷ later)) p first none =
-      ap (λ xs. steps_made i (made_by tapes one) ++ (cut_step i one.end ++ xs)) (steps_begun i (next ∷ later) p first none)
-      ∙ ap (λ xs. steps_made i (made_by tapes one) ++ xs) (sym (append_assoc (cut_step i one.end) (steps_on tapes i (next ∷ later)) (last_cut tapes i (next ∷ later))))
-      ∙ sym (append_assoc (steps_made i (made_by tapes one)) (cut_step i one.end ++ steps_on tapes i (next ∷ later)) (last_cut tapes i (next ∷ later)))
+      ap (λ xs. steps_made i (made_by tapes one) ++ (cut_step i one.end one.cut_from ++ xs)) (steps_begun i (next ∷ later) p first none)
+      ∙ ap (λ xs. steps_made i (made_by tapes one) ++ xs) (sym (append_assoc (cut_step i one.end one.cut_from) (steps_on tapes i (next ∷ later)) (last_cut tapes i (next ∷ later))))
+      ∙ sym (append_assoc (steps_made i (made_by tapes one)) (cut_step i one.end one.cut_from ++ steps_on tapes i (next ∷ later)) (last_cut tapes i (next ∷ later)))
 
-  own_cut : (i : ℕ) (end : End) → AreStepsOf i (cut_step i end)
-  own_cut i Between = tt
-  own_cut i (Within input) = (refl, tt)
-  own_cut i (Failed input) = tt
+  own_cut : (i : ℕ) (end : End) (origin : Origin) → AreStepsOf i (cut_step i end origin)
+  own_cut i Between origin = tt
+  own_cut i (Within input) origin = (refl, tt)
+  own_cut i (Failed input) origin = tt
 
   own_last : (i : ℕ) (processes : List (NodeProcess tapes)) → AreStepsOf i (last_cut tapes i processes)
   unfolding last_cut
   own_last i [] = tt
-  own_last i (last ∷ []) = own_cut i last.end
+  own_last i (last ∷ []) = own_cut i last.end last.cut_from
   own_last i (first ∷ (next ∷ later)) = own_last i (next ∷ later)
 
   pub start_advances : StartAdvances tapes
-  start_advances n i before sent folders steps p are less begun carried =
+  start_advances n i before sent folders steps p are less begun connected =
       advances n i before sent folders steps (last_cut tapes i (folders i)) (folders i ++ p ∷ []) are less (begun_on n i (left (before i)) (folders i) p (are.on_folders i less) begun)
-      (steps_begun i (folders i) p begun.first begun.none) (own_last i (folders i)) carried
+      (steps_begun i (folders i) p begun.first begun.none) (own_last i (folders i)) connected
 
   -- ---- an act
 
@@ -170,9 +171,9 @@ module _ {T : Type 0} (tapes : Tape T) where
       ∙ sym (append_assoc first (steps_made i old) (record { process = i; takes = act.input; origin = origin; outputs = act.outputs } ∷ []))
       ∙ ap (λ xs. xs ++ record { process = i; takes = act.input; origin = origin; outputs = act.outputs } ∷ []) (sym (append_assoc first (steps_over i old.over) (steps_by i old.last.run.acts old.last.origins)))
 
-  cut_one_more : (i : ℕ) (earlier : List (NodeProcess tapes)) (p q : NodeProcess tapes) (end : End) → cut_before tapes i (earlier ++ q ∷ []) end ≡ cut_before tapes i (earlier ++ p ∷ []) end
-  cut_one_more i [] p q end = refl
-  cut_one_more i (first ∷ earlier) p q end = refl
+  cut_one_more : (i : ℕ) (earlier : List (NodeProcess tapes)) (p q : NodeProcess tapes) (end : End) (origin : Origin) → cut_before tapes i (earlier ++ q ∷ []) end origin ≡ cut_before tapes i (earlier ++ p ∷ []) end origin
+  cut_one_more i [] p q end origin = refl
+  cut_one_more i (first ∷ earlier) p q end origin = refl
 
   ended_one_more : (earlier : List (NodeProcess tapes)) (p q first : NodeProcess tapes) → HasEndedBefore tapes (earlier ++ p ∷ []) first → HasEndedBefore tapes (earlier ++ q ∷ []) first
   ended_one_more [] p q first ended = ended
@@ -180,7 +181,7 @@ module _ {T : Type 0} (tapes : Tape T) where
 
   -- the last process is as far as this now
   abbrev at : NodeProcess tapes → (over made : ℕ) → NodeProcess tapes
-  at p over made = record { line = p.line; old = p.old; new = p.new; has = p.has; lives = p.lives; over = over; made = made; end = p.end; left = p.left }
+  at p over made = record { line = p.line; old = p.old; new = p.new; has = p.has; lives = p.lives; come = p.come; over = over; made = made; end = p.end; cut_from = p.cut_from; left = p.left }
 
   on_further : (n i : ℕ) (bytes : List ℕ) (earlier : List (NodeProcess tapes)) (p : NodeProcess tapes) (over made : ℕ) → AreOnFolder tapes n i bytes (earlier ++ p ∷ [])
       → AreOnFolder tapes n i bytes (earlier ++ at p over made ∷ [])
@@ -195,24 +196,24 @@ module _ {T : Type 0} (tapes : Tape T) where
       append-nil (steps_made i (made_by tapes (at p over made))) ∙ grown ∙ ap (λ xs. xs ++ more) (sym (append-nil (steps_made i (made_by tapes p))))
   steps_further i (first ∷ earlier) p over made more grown =
       let own = steps_made i (made_by tapes first) in
-      let cut = cut_before tapes i (earlier ++ p ∷ []) first.end in
-      ap (λ xs. own ++ (xs ++ steps_on tapes i (earlier ++ at p over made ∷ []))) (cut_one_more i earlier p (at p over made) first.end)
+      let cut = cut_before tapes i (earlier ++ p ∷ []) first.end first.cut_from in
+      ap (λ xs. own ++ (xs ++ steps_on tapes i (earlier ++ at p over made ∷ []))) (cut_one_more i earlier p (at p over made) first.end first.cut_from)
       ∙ ap (λ xs. own ++ (cut ++ xs)) (steps_further i earlier p over made more grown)
       ∙ ap (λ xs. own ++ xs) (sym (append_assoc cut (steps_on tapes i (earlier ++ p ∷ [])) more))
       ∙ sym (append_assoc own (cut ++ steps_on tapes i (earlier ++ p ∷ [])) more)
 
-  one_carried : (sent : List Message) (step : Step) → ArePeersAmong sent step.origin (given_to step.takes) → AreCarried sent (step ∷ [])
-  unfolding AreCarried
-  one_carried sent step carried = (carried, tt)
+  one_sent : (sent : List Message) (step : Step) → ArePeersSent sent step.origin (given_to step.takes) → AreSentBefore sent (step ∷ [])
+  unfolding AreSentBefore
+  one_sent sent step connected = (connected, tt)
 
   pub act_advances : ActAdvances tapes
-  act_advances n i before sent folders steps earlier p act origin are less same is carried =
+  act_advances n i before sent folders steps earlier p act origin are less same is connected =
       let step : Step = record { process = i; takes = act.input; origin = origin; outputs = act.outputs } in
       let grown = made_one_more i p.has.on.voter.process.ended.items p.has.on.voter.process.actor p.lives p.over p.made act origin is.act_at is.origin_at in
       advances n i before sent folders steps (step ∷ []) (earlier ++ one_act_more tapes p ∷ []) are less
       (on_further n i (left (before i)) earlier p p.over (suc p.made) (subst (λ (ps : List (NodeProcess tapes)). AreOnFolder tapes n i (left (before i)) ps) same (are.on_folders i less)))
       (steps_further i earlier p p.over (suc p.made) (step ∷ []) grown ∙ ap (λ (ps : List (NodeProcess tapes)). steps_on tapes i ps ++ step ∷ []) (sym same)) (refl, tt)
-      (one_carried (sent ++ outputs_in (items steps)) step carried)
+      (one_sent (sent ++ outputs_in (items steps)) step connected)
 
   -- ---- another run
 
@@ -247,7 +248,7 @@ module _ {T : Type 0} (tapes : Tape T) where
       ∙ sym (append_assoc first (steps_over i old.over) (steps_by i old.last.run.acts old.last.origins))
 
   pub run_advances : RunAdvances tapes
-  unfolding AreCarried
+  unfolding AreSentBefore
   run_advances n i before sent folders steps earlier p are less same is =
       let grown = made_next_run i p.has.on.voter.process.ended.items p.has.on.voter.process.actor p.lives p.over p.made is.all is.another ∙ sym (append-nil (steps_made i (made_by tapes p))) in
       subst (λ (all : List Step). AreNodeProcesses tapes n before sent (with_folder tapes folders i (earlier ++ in_next_run tapes p ∷ [])) all) (append-nil steps)

@@ -1,6 +1,6 @@
 -- The nodes of a farm agree; and the lives of a process.
 use Rattle.std.proofs.Common.{◌≡◌, ◌∙◌, ℕ, List, [], ◌∷◌, slice_get, Some, sym, subst}
-use Rattle.std.proofs.Math.Logic.{∥∥₁_elim, ∥∥₁_map, ∥∥₁_prop}
+use Rattle.std.proofs.Math.Logic.{∥∥₁_elim, ∥∥₁_map, ∥∥₁_map₂, ∥∥₁_prop}
 use Rattle.wf_actor.specs.Farm.{Step}
 use Rattle.wf_actor.specs.Responses.{ProcessesRespondAlike}
 use Rattle.wf_actor.specs.declared.actor.Actor.{Actor}
@@ -9,8 +9,8 @@ use Rattle.wf_career.specs.Theorems.{IsHeld, ListsGrow, OneDefinition, OneHistor
 use Rattle.wf_node.specs.Node.{Node}
 use Rattle.wf_tape.specs.declared.tape.Tape.{Ghosts as Tape}
 use Rattle.wf_histories.specs.Nodes.{NodeProcess}
-use Rattle.wf_histories.specs.Runs.{LivesOf}
-use Rattle.wf_histories.specs.Theorems.{AreFarm, GetEqually, IsEver, NeverDiffer, NeverGoBack, NodesAgree, NodesAreOneFarm, ProcessesShowLives, RespondEqually, ShareHistory}
+use Rattle.wf_histories.specs.Runs.{ComesOf, LivesOf}
+use Rattle.wf_histories.specs.Theorems.{AreFarm, GetEqually, IsEver, NeverDiffer, NeverGoBack, NodesAgree, NodesAreOneFarm, ProcessesShowLives, ProcessesShowWhatCame, RespondEqually, ShareHistory}
 
 module _ {T : Type 0} (tapes : Tape T) where
   -- ---- lives
@@ -21,6 +21,13 @@ module _ {T : Type 0} (tapes : Tape T) where
 
   pub show_lives : ProcessesShowLives tapes
   show_lives process = show_all process.ended.items process.actor
+
+  show_come : (ended : List (Actor T tapes × ℕ)) (now : Actor T tapes) → ∥ ComesOf tapes ended now ∥₁
+  show_come [] now = now.received
+  show_come (run ∷ ended) now = ∥∥₁_map₂ run.0.received (show_come ended now) (λ come later. (come, later))
+
+  pub show_what_came : ProcessesShowWhatCame tapes
+  show_what_came process = show_come process.ended.items process.actor
 
   -- ---- agreement
 

@@ -9,10 +9,12 @@ use Rattle.wf_career.specs.Run.{Run}
 use Rattle.wf_career.specs.Theorems.{outputs_in}
 use Rattle.wf_journal.specs.Records.{AreReadOneWay}
 use Rattle.wf_tape.specs.declared.tape.Tape.{Ghosts as Tape}
+use Rattle.wf_histories.specs.Carried.{AreStepsCome, SentAreCarried}
 use Rattle.wf_histories.specs.Nodes.{AreNodeProcesses, AreOnFolder, NodeProcess, steps_on, values_ever, values_on}
 use Rattle.wf_histories.specs.Theorems.{AreFarm, NodesAreOneFarm}
 use Rattle.wf_histories.proofs.Acts.{items_of_steps}
-use Rattle.wf_histories.proofs.Folders.{career_from, own_on}
+use Rattle.wf_histories.proofs.Carried.{all_come}
+use Rattle.wf_histories.proofs.Folders.{career_from, come_on, own_on}
 use Rattle.wf_histories.proofs.Relay.{both_runs}
 use Rattle.wf_histories.proofs.Turns.{in_turn, own_both, turn_both}
 
@@ -84,18 +86,24 @@ module _ {T : Type 0} (tapes : Tape T) (one_way : AreReadOneWay) (compares : Com
   abbrev careers : ℕ → Career T
   careers i = career_by i (cases_lt i n)
 
-  pub are_farm : RunsAreOwn → AreFarm tapes n before earlier folders steps
-  are_farm together = record {
+  -- what was given to it from peers came on their connections
+  come : AreStepsCome steps
+  come = all_come n steps are.members
+      (λ i less. subst (λ (own : List Step). AreStepsCome own) (sym (are.in_order i less)) (come_on tapes n i (left (before i)) (folders i) (are.on_folders i less)))
+
+  pub are_farm : RunsAreOwn → SentAreCarried → AreFarm tapes n before earlier folders steps
+  are_farm together carried = record {
     careers = careers;
     farm = record {
       each = λ i less. is_career i (cases_lt i n) less;
       own = λ i less. are_its_items i (cases_lt i n) less;
       in_turn = turn_both n [] earlier (items steps) farm.in_turn
           (in_turn n steps (outputs_in earlier) (λ i. []) are.members (λ i m none. absurd none)
-          (λ i less. subst (λ (own : List Step). AreOwn [] own) (sym (are.in_order i less)) (own_on tapes n i together (folders i))) are.carried);
+          (λ i less. subst (λ (own : List Step). AreOwn [] own) (sym (are.in_order i less)) (own_on tapes n i together (left (before i)) (folders i) (are.on_folders i less)))
+          (carried (outputs_in earlier) steps come are.connected));
     };
     held = λ i less. are_its_values i (cases_lt i n) less;
   }
 
-pub nodes_are_farm : AreReadOneWay → {T : Type 0} (tapes : Tape T) → ComparisonLeaves tapes → RunsAreOwn → NodesAreOneFarm tapes
-nodes_are_farm one_way tapes compares together = λ n before earlier folders steps farm are. are_farm tapes one_way compares n before earlier folders steps farm are together
+pub nodes_are_farm : AreReadOneWay → {T : Type 0} (tapes : Tape T) → ComparisonLeaves tapes → RunsAreOwn → SentAreCarried → NodesAreOneFarm tapes
+nodes_are_farm one_way tapes compares together carried = λ n before earlier folders steps farm are. are_farm tapes one_way compares n before earlier folders steps farm are together carried

@@ -1,31 +1,41 @@
 -- The processes on one folder are the career of their node.
 use Rattle.std.proofs.Common.{◌≡◌, ℕ, List, [], ◌∷◌, ◌++◌, Option, Some, refl, sym, ap, subst, ◌∙◌, append-nil, append_assoc}
 use Rattle.std.proofs.lemmas.List.{map-append}
-use Rattle.wf_actor.specs.Farm.{AreOwn, RunsAreOwn, item_of, items}
+use Rattle.wf_actor.specs.Farm.{AreOwn, RunsAreOwn, Step, item_of, items}
 use Rattle.wf_actor.specs.declared.actor.Actor.{Actor}
+use Rattle.wf_actor.specs.declared.actor.Origin.{Origin}
 use Rattle.wf_career.specs.Career.{AreRuns, Ended, items_at, items_by, items_in, values_in, values_of}
 use Rattle.wf_career.specs.CrashImages.{ComparisonLeaves}
-use Rattle.wf_career.specs.Run.{Between, End, Failed, IsOpenedFrom, IsRun, Run, Within}
+use Rattle.wf_career.specs.Run.{Between, End, Failed, IsOpenedFrom, IsRun, Run, Within, outputs}
+use Rattle.wf_codec.specs.declared.message.Message.{Message}
 use Rattle.wf_loop.specs.Continuation.{AreRunsFrom}
 use Rattle.wf_node.specs.Node.{stored_of}
 use Rattle.wf_node_command.specs.Folder.{StandsForRead, tape_in}
 use Rattle.wf_tape.specs.declared.tape.Tape.{Ghosts as Tape}
-use Rattle.wf_histories.specs.Nodes.{AreOnFolder, IsProcessOf, NodeProcess, bytes_read, cut_before, cut_step, made_by, steps_on, values_on}
+use Rattle.wf_histories.specs.Carried.{AreStepsCome}
+use Rattle.wf_histories.specs.Nodes.{AreOnFolder, HasEndedBefore, IsCutGiven, IsProcessOf, NodeProcess, bytes_read, cut_before, cut_step, made_by, steps_on, values_on}
 use Rattle.wf_histories.specs.Runs.{steps_made, steps_over, values_made, values_over}
-use Rattle.wf_histories.proofs.Acts.{IsReceived, items_made, own_made, received_of}
+use Rattle.wf_histories.proofs.Acts.{IsReceived, items_made, made_come, own_made, received_of}
 use Rattle.wf_histories.proofs.Careers.{IsCareerWith, career_with}
+use Rattle.wf_histories.proofs.Carried.{come_both}
 use Rattle.wf_histories.proofs.Left.{left_before}
 
-items_cut : (i : ℕ) (end : End) → items (cut_step i end) ≡ items_at i end
-items_cut i Between = refl
-items_cut i (Within input) = refl
-items_cut i (Failed input) = refl
+items_cut : (i : ℕ) (end : End) (origin : Origin) → items (cut_step i end origin) ≡ items_at i end
+items_cut i Between origin = refl
+items_cut i (Within input) origin = refl
+items_cut i (Failed input) origin = refl
 
-own_cut : (i : ℕ) (end : End) → AreOwn [] (cut_step i end)
+own_cut : (i : ℕ) (emitted : List Message) (end : End) (origin : Origin) → IsCutGiven emitted end origin → AreOwn emitted (cut_step i end origin)
 unfolding AreOwn
-own_cut i Between = tt
-own_cut i (Within input) = (tt, tt)
-own_cut i (Failed input) = tt
+own_cut i emitted Between origin given = tt
+own_cut i emitted (Within input) origin given = (given.0, tt)
+own_cut i emitted (Failed input) origin given = tt
+
+come_cut : (i : ℕ) (emitted : List Message) (end : End) (origin : Origin) → IsCutGiven emitted end origin → AreStepsCome (cut_step i end origin)
+unfolding AreStepsCome
+come_cut i emitted Between origin given = tt
+come_cut i emitted (Within input) origin given = (given.1, tt)
+come_cut i emitted (Failed input) origin given = tt
 
 module _ {T : Type 0} (tapes : Tape T) (n i : ℕ) where
   -- ---- one process
@@ -95,17 +105,17 @@ module _ {T : Type 0} (tapes : Tape T) (n i : ℕ) where
       let made = made_by tapes p in
       let over : Ended T = record { run = made.last.run; end = p.end; left = bytes_read tapes next } in
       let so = with_later compares p are.0 (over ∷ rest.ended) rest.now
-      (λ from run. (record { run = run; left = left_before p.left (bytes_read tapes next) are.3.1 made.last.run p.end are.2 }, rest.runs)) in
+      (λ from run. (record { run = run; left = left_before p.left (bytes_read tapes next) are.3.1 made.last.run p.end are.2.0 }, rest.runs)) in
       record {
         ended = so.ended;
         now = rest.now;
         runs = so.runs;
         its_items =
-            map-append item_of (steps_made i made) (cut_step i p.end ++ steps_on tapes i (next ∷ later))
-            ∙ ap (λ xs. xs ++ items (cut_step i p.end ++ steps_on tapes i (next ∷ later))) (items_made i made (received p))
+            map-append item_of (steps_made i made) (cut_step i p.end p.cut_from ++ steps_on tapes i (next ∷ later))
+            ∙ ap (λ xs. xs ++ items (cut_step i p.end p.cut_from ++ steps_on tapes i (next ∷ later))) (items_made i made (received p))
             ∙ ap (λ xs. (items (steps_over i made.over) ++ items_by i made.last.run.acts) ++ xs)
-            (map-append item_of (cut_step i p.end) (steps_on tapes i (next ∷ later))
-            ∙ ap (λ xs. xs ++ items (steps_on tapes i (next ∷ later))) (items_cut i p.end)
+            (map-append item_of (cut_step i p.end p.cut_from) (steps_on tapes i (next ∷ later))
+            ∙ ap (λ xs. xs ++ items (steps_on tapes i (next ∷ later))) (items_cut i p.end p.cut_from)
             ∙ ap (λ xs. items_at i p.end ++ xs) rest.its_items)
             ∙ append_assoc (items (steps_over i made.over)) (items_by i made.last.run.acts) (items_at i p.end ++ items_in i rest.ended rest.now)
             ∙ sym so.its_items;
@@ -119,15 +129,34 @@ module _ {T : Type 0} (tapes : Tape T) (n i : ℕ) where
   career_from compares p [] left are = last_career compares p are.0
   career_from compares p (next ∷ later) left are = more_career compares p next later left are (career_from compares next later p.left are.3)
 
-  -- they hear only their own messages
-  own_before : (later : List (NodeProcess tapes)) (end : End) → AreOwn [] (cut_before tapes i later end)
-  unfolding AreOwn
-  own_before [] end = tt
-  own_before (next ∷ later) end = own_cut i end
+  -- ---- what they hear
 
-  pub own_on : RunsAreOwn → (processes : List (NodeProcess tapes)) → AreOwn [] (steps_on tapes i processes)
+  cut_given : (p : NodeProcess tapes) (later : List (NodeProcess tapes)) → HasEndedBefore tapes later p →
+      AreOwn (outputs (made_by tapes p).last.run.acts) (cut_before tapes i later p.end p.cut_from) × AreStepsCome (cut_before tapes i later p.end p.cut_from)
+  unfolding AreOwn AreStepsCome
+  cut_given p [] ended = (tt, tt)
+  cut_given p (next ∷ later) ended =
+      let emitted = outputs (made_by tapes p).last.run.acts in
+      (own_cut i emitted p.end p.cut_from ended.1, come_cut i emitted p.end p.cut_from ended.1)
+
+  -- they hear only their own messages
+  pub own_on : RunsAreOwn → (left : List ℕ) (processes : List (NodeProcess tapes)) → AreOnFolder tapes n i left processes → AreOwn [] (steps_on tapes i processes)
   unfolding steps_on AreOwn
-  own_on together [] = tt
-  own_on together (p ∷ later) =
-      together [] (steps_made i (made_by tapes p)) (cut_before tapes i later p.end ++ steps_on tapes i later) (own_made together i (made_by tapes p) (received p))
-      (together [] (cut_before tapes i later p.end) (steps_on tapes i later) (own_before later p.end) (own_on together later))
+  own_on together left [] are = tt
+  own_on together left (p ∷ later) are =
+      let first = steps_made i (made_by tapes p) in
+      let cut = cut_before tapes i later p.end p.cut_from in
+      let rest = steps_on tapes i later in
+      subst (λ (steps : List Step). AreOwn [] steps) (append_assoc first cut rest)
+      (together [] (first ++ cut) rest (own_made together i (made_by tapes p) cut (received p) (cut_given p later are.2).0) (own_on together p.left later are.3))
+
+  -- and what came on connections from their peers
+  pub come_on : (left : List ℕ) (processes : List (NodeProcess tapes)) → AreOnFolder tapes n i left processes → AreStepsCome (steps_on tapes i processes)
+  unfolding steps_on AreStepsCome
+  come_on left [] are = tt
+  come_on left (p ∷ later) are =
+      let first = steps_made i (made_by tapes p) in
+      let cut = cut_before tapes i later p.end p.cut_from in
+      let rest = steps_on tapes i later in
+      come_both first (cut ++ rest) (made_come tapes i p.has.on.voter.process.ended.items p.has.on.voter.process.actor p.lives p.come p.over p.made)
+      (come_both cut rest (cut_given p later are.2).1 (come_on p.left later are.3))

@@ -1,4 +1,5 @@
 mod Acts
+mod Carried
 mod Left
 mod Turns
 mod Careers

@@ -3,7 +3,6 @@ use Rattle.std.proofs.Common.{◌≡◌, ◌⊎◌, ℕ, ◌<◌, ◌==◌, Bool
 use Rattle.std.specs.Prelude.{if◌then◌else◌}
 use Rattle.wf_actor.specs.Farm.{AreCarried, AreMembers, AreOwn, ArePeersAmong, Step, items, steps_of}
 use Rattle.wf_actor.specs.Life.{AreOwnAmong}
-use Rattle.wf_actor.specs.Sent.{AreAmong}
 use Rattle.wf_actor.specs.declared.actor.Origin.{Origin}
 use Rattle.wf_actor.specs.declared.actor.Origin.TheVariants.{Own, Peer}
 use Rattle.wf_career.specs.Career.{AreInTurn, IsOneOf, Item, items_of}
@@ -12,6 +11,7 @@ use Rattle.wf_career.specs.Theorems.{outputs_in}
 use Rattle.wf_codec.specs.declared.message.Message.{Message}
 use Rattle.wf_model.specs.Chosen.{IsIn}
 use Rattle.wf_model.specs.declared.action.Action.TheVariants as action
+use Rattle.wf_wire.specs.Post.{AreAmong}
 
 -- ---- messages that are among others
 
@@ -47,7 +47,7 @@ delivers_sent emitted sent origin (action.Propose d) among own peers = tt
 delivers_sent emitted sent origin action.Retry among own peers = tt
 delivers_sent emitted sent origin action.CatchUp among own peers = tt
 delivers_sent emitted sent Own (action.Deliver m) among own peers = among m (own m (inl refl))
-delivers_sent emitted sent (Peer peer) (action.Deliver m) among own peers = peers m (inl refl)
+delivers_sent emitted sent (Peer peer stream) (action.Deliver m) among own peers = peers m (inl refl)
 
 own_rest : (b : Bool) (emitted : List Message) (step : Step) (rest : List Step) → AreOwn emitted (if b then step ∷ rest else rest) → AreOwn (if b then emitted ++ step.outputs else emitted) rest
 unfolding AreOwn

@@ -1,13 +1,15 @@
 -- The runs of a process, as it shows them: acts by which each came about, as far as they were made.
 use Rattle.std.specs.Prelude.{ℕ, zero, suc, List, [], ◌∷◌, ◌++◌, take}
 use Rattle.wf_actor.specs.Farm.{Step, steps_by}
-use Rattle.wf_actor.specs.Life.{logged, IsLife}
+use Rattle.wf_actor.specs.Life.{IsLife}
+use Rattle.wf_actor.specs.Sent.{AreGivenCome}
 use Rattle.wf_actor.specs.declared.actor.Actor.{Actor}
 use Rattle.wf_actor.specs.declared.actor.Origin.{Origin}
 use Rattle.wf_career.specs.Career.{values_in}
 use Rattle.wf_career.specs.Run.{Run}
 use Rattle.wf_node.specs.Node.{Node}
 use Rattle.wf_tape.specs.declared.tape.Tape.{Ghosts as Tape}
+use Rattle.wf_wire.specs.Post.{logged}
 
 -- a run, and where the input of each of its acts came from
 pub record TracedRun (T : Type 0) : Type 0 where
@@ -35,6 +37,11 @@ module _ {T : Type 0} (tapes : Tape T) where
   abbrev pub LivesOf : List (Actor T tapes × ℕ) → Actor T tapes → Type 0
   LivesOf [] now = LifeOf now
   LivesOf (run ∷ ended) now = LifeOf run.0 × LivesOf ended now
+
+  -- what was given in these runs from peers came on their connections
+  abbrev pub ComesOf : List (Actor T tapes × ℕ) → Actor T tapes → Type 0
+  ComesOf [] now = AreGivenCome now.given.items
+  ComesOf (run ∷ ended) now = AreGivenCome run.0.given.items × ComesOf ended now
 
   abbrev pub traced_by : (actor : Actor T tapes) → LifeOf actor → TracedRun T
   traced_by actor life = record { run = life.run; origins = life.origins }

@@ -18,12 +18,16 @@ use Rattle.wf_node.specs.Node.{Node}
 use Rattle.wf_safety.specs.Theorems.{IsBeginning}
 use Rattle.wf_tape.specs.declared.tape.Tape.{Ghosts as Tape}
 use Rattle.wf_histories.specs.Nodes.{AreNodeProcesses, NodeProcess, values_ever}
-use Rattle.wf_histories.specs.Runs.{LivesOf}
+use Rattle.wf_histories.specs.Runs.{ComesOf, LivesOf}
 
 module _ {T : Type 0} (tapes : Tape T) where
   -- acts can be told of each run of a process
   abbrev pub ProcessesShowLives : Type 0
   ProcessesShowLives = (process : Process T tapes) → ∥ LivesOf tapes process.ended.items process.actor ∥₁
+
+  -- what was given in each of its runs from peers came on their connections
+  abbrev pub ProcessesShowWhatCame : Type 0
+  ProcessesShowWhatCame = (process : Process T tapes) → ∥ ComesOf tapes process.ended.items process.actor ∥₁
 
   -- ---- one farm of processes
 

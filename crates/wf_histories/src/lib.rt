@@ -4,11 +4,16 @@
 //! **Model.** A process (`NodeProcess`, `specs/Nodes.antt`) is what `wfarm node` returned
 //! (`HasServed` of `wf_node_command`), with acts by which each of its runs came about
 //! (`specs/Runs.antt`); one that was killed made only the first of them. The processes of a node
-//! are on one folder, one after the other: each read of the tape what the one before it left.
+//! are on one folder, one after the other: each read of the tape what the one before it left. What
+//! a node was given from a peer came on a connection, of which the process logged the bytes that
+//! had come by then (`specs/Carried.antt`).
 //!
 //! **Promises**, over any kind of tape, of all values that the nodes ever had
 //! (`specs/Theorems.antt`, `specs/Replicas.antt`):
-//! - There are such acts, of each run that a process was ever in ([`processes_show_lives`]).
+//! - There are such acts, of each run that a process was ever in ([`processes_show_lives`]), and
+//!   what it was given in it from peers came on their connections ([`processes_show_what_came`]).
+//! - What came on connections of which all bytes had been sent before had been returned before
+//!   ([`sent_messages_are_carried`]).
 //! - With what was before, such processes are a farm of `wf_career`, whose processes held exactly
 //!   these values ([`nodes_are_one_farm`]).
 //! - So there is one history, of which each list that a node ever published is a beginning; no two
@@ -21,8 +26,11 @@
 //! **Premises** (`AreNodeProcesses`). Of bytes: a process read of its tape what the one before it
 //! left, or what starts that didn't come to serve made of that; the first of a node, what an empty
 //! tape stands for, or what an earlier farm left that has ended (`wfarm init --from`). Of
-//! connections: there is an order of time in which what a node heard of a peer had been returned
-//! before. What a process leaves is said as `wf_career` says it, which a durable tape gives. All of
+//! connections, TCP's promise: there is an order of time in which, when a node was given a message
+//! of a peer, all bytes that had come on the connection were a beginning of what was sent on some
+//! connection, into which only messages were put that had been returned by then. Of a step within
+//! which a process was killed: it was given what each step requires, of which no clause speaks
+//! then. What a process leaves is said as `wf_career` says it, which a durable tape gives. All of
 //! it can be met, one thing after the other ([`node_processes_go_on`], `specs/Advance.antt`).
 //!
 //! **Doesn't.** It opens no file and no socket, and no process of the program depends on it.
@@ -32,5 +40,5 @@ mod theorem;
 
 pub use theorem::{
     node_processes_go_on, nodes_agree, nodes_are_one_farm, processes_show_lives,
-    replicas_are_of_the_farm,
+    processes_show_what_came, replicas_are_of_the_farm, sent_messages_are_carried,
 };

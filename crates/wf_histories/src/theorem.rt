@@ -1,7 +1,8 @@
 //! Theorems about processes of `wfarm node`. Each call does nothing.
 ghost use Rattle.wf_histories.specs.Advance.{ActAdvances, NothingAdvances, RunAdvances, StartAdvances};
+ghost use Rattle.wf_histories.specs.Carried.{SentAreCarried};
 ghost use Rattle.wf_histories.specs.Replicas.{ReplicasAgree};
-ghost use Rattle.wf_histories.specs.Theorems.{NodesAgree, NodesAreOneFarm, ProcessesShowLives};
+ghost use Rattle.wf_histories.specs.Theorems.{NodesAgree, NodesAreOneFarm, ProcessesShowLives, ProcessesShowWhatCame};
 
 use wf_actor::{processes_respond_alike, runs_receive_their_own};
 use wf_career::{
@@ -10,12 +11,28 @@ use wf_career::{
 use wf_journal::records_are_read_one_way;
 use wf_replica::{a_replica_never_goes_back, what_is_learned_is_served};
 use wf_tape::Tape;
+use wf_wire::only_posted_messages_come;
 
 /// Of each run that a process was ever in, there are acts by which it came about, as its logs have
 /// them.
 pub fn processes_show_lives<T: Tape>()
     ensures { ProcessesShowLives T.Tape }
 {}
+
+/// Whatever a process was ever given from a peer, in any of its runs, came on a connection from
+/// that peer, as its logs have it.
+pub fn processes_show_what_came<T: Tape>()
+    ensures { ProcessesShowWhatCame T.Tape }
+{}
+
+/// Of messages that came on connections from peers, where all bytes that had come are a beginning
+/// of what was sent on connections, into which only what had been returned by then was put: each of
+/// them had been returned by then.
+pub fn sent_messages_are_carried()
+    ensures { SentAreCarried }
+{
+    only_posted_messages_come();
+}
 
 /// Processes of `wfarm node`, each node's one after the other on its folder, are a farm of
 /// `wf_career`, whether they returned, were killed or lost their power, and however often they
@@ -28,6 +45,8 @@ pub fn nodes_are_one_farm<T: Tape>()
     records_are_read_one_way();
     a_compared_node_goes_on::<T>();
     runs_receive_their_own();
+    // What came from peers had been returned before, by TCP's promise.
+    sent_messages_are_carried();
 }
 
 /// The headline of `wfarm node`: there is one history, of which each list that a node ever
@@ -44,7 +63,7 @@ pub fn nodes_agree<T: Tape>()
 
 /// The premises can be met, one thing after the other: where nothing has started they hold, and
 /// they still do where a process starts on what the last one left, takes the next act of its run,
-/// by which it hears of a peer what was returned, or goes on in its next run.
+/// by which it hears of a peer what was sent before, or goes on in its next run.
 pub fn node_processes_go_on<T: Tape>()
     ensures nothing { NothingAdvances T.Tape }
     ensures start { StartAdvances T.Tape }
