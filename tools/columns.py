@@ -18,7 +18,7 @@ from farmkit.repository import TOP
 WIDE = 100
 KINDS = {"comments": re.compile(r"\s*(?://|--)"), "clauses": re.compile(r"\s*(?:requires|ensures)\b")}
 # what is left: tables within comments, and clauses that nobody has broken yet
-MOST = {"comments": 70, "clauses": 272}
+MOST = {"comments": 60, "clauses": 272}
 
 
 def main() -> int:

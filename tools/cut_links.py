@@ -12,10 +12,8 @@ five seconds of the healing, or overtaken where another was published; by then a
 another; and no node ends by itself. Then each node publishes once more.
 
 A line for each, with seconds: from the cut until the last node said whom it hears (fell), and from the
-healing until what waited was published, all had it (level), and all heard one another. Status 1 where one
-didn't go as it should. Three farms at a time, or as --at-once says: 35 minutes. The seconds are the nodes'
-own where they get a processor at once; on a machine with other work --slack is added to each limit. Wants
-root, iproute2, nftables.
+healing until what waited was published, all had it (level), and all heard one another. The
+seconds are the nodes' own where they get a processor at once. Wants root, iproute2, nftables.
 """
 
 import concurrent.futures
@@ -27,7 +25,7 @@ import tempfile
 import time
 
 from farmkit import hosts
-from farmkit.command import add_cases, listed, numbers, program_parser, tell_missing
+from farmkit.command import add_cases, add_slack, listed, numbers, program_parser, tell_missing
 from farmkit.control import wfarmctl, write_nodes
 from farmkit.hosts import HostedNode
 from farmkit.mapfiles import map_of
@@ -83,7 +81,7 @@ class Farm:
         for node in self.nodes:
             node.start()
         want("the nodes don't begin", until(lambda: all(node.published() == published for node in self.nodes),
-                                            4 * PATIENCE))
+                                            4 * PATIENCE + self.options.slack))
         want("they don't hear one another", until(lambda: self.unlike([]) == []))
         if not published:
             self.publish(self.nodes[0])
@@ -282,7 +280,6 @@ def attempt(name, count, seconds, options, networks):
         seen = waits(farm, name, seconds)
         ends = [node.last_line() for node in farm.nodes if node.ended() is not None]
         want(f"ended by themselves: {ends}", not ends)
-        shutil.rmtree(folder)
         said = ", ".join(f"{what} {it}" for what, it in seen.items())
     except Wrong as wrong:
         said = f"FAILED: {wrong}; the logs are in {folder}"
@@ -291,7 +288,10 @@ def attempt(name, count, seconds, options, networks):
             farm.stop()
         networks.put(network)
     print(f"{name}, {count} nodes, {seconds} s: {said}", flush=True)
-    return said.startswith("FAILED")
+    is_wrong = said.startswith("FAILED")
+    if not is_wrong:
+        shutil.rmtree(folder)
+    return is_wrong
 
 
 def options_of():
@@ -301,7 +301,7 @@ def options_of():
     asked.add_argument("--seconds", type=numbers, default=[10, 60, 300],
                        help="how long links are silent (10,60,300)")
     asked.add_argument("--at-once", type=int, default=3, help="how many farms at a time (3)")
-    asked.add_argument("--slack", type=float, default=0, help="seconds that are added to each limit (0)")
+    add_slack(asked)
     asked.add_argument("--network", type=int, default=1, help="the number of the first network, 0 to 255")
     add_cases(asked, CASES)
     return asked.parse_args()

@@ -22,8 +22,8 @@ Mutations: N mapfiles through `wfarm canon`, and a fifth as many queries, each w
 together with an error, no answer, an error line of another form, an allocation failure within 64 MB of
 address space, or a canonical text that isn't its own.
 
-1,000 sockets take about five minutes, most of them waiting, 1,000 at processes as long; 100,000 mapfiles and
-20,000 queries about seven. Each is left out with 0. Status 1 where anything fails.
+Each part is left out with 0. Of its minutes 1,000 sockets take about five, most of them waiting, 1,000 at
+processes as many, and 100,000 mapfiles with 20,000 queries seven.
 """
 
 import collections

@@ -3,8 +3,7 @@
 told by a node or a replica, whether each alert comes for what it is meant for and none for a farm that is
 well; and what promtool says of the metrics.
 
-A line for each thing that was seen; status 1 where one is not as it should be. Ten seconds. Wants promtool
-(package prometheus).
+Wants promtool (package prometheus).
 """
 
 import pathlib

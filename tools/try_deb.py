@@ -2,7 +2,7 @@
 """Tries the Debian package (`tools/make_deb.py`) in a clean root made by debootstrap: what is in it, and what
 lintian says of it, where that is there. Its services, upgrades and removal are `tools/try_units.py`'s.
 
-A line for each thing that was seen; status 1 where one is not as it should be. Wants root and debootstrap.
+Wants root and debootstrap.
 """
 
 import gzip

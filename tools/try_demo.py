@@ -2,8 +2,7 @@
 """Tries `./demo`: from another port on with its page, where a port is taken, and where a node ends while it
 serves.
 
-A line for each thing that was seen; status 1 where one is not as it should be. Half a minute. Wants nginx and
-Leaflet for the page.
+Wants nginx and Leaflet for the page.
 """
 
 import pathlib

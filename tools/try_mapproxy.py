@@ -2,9 +2,8 @@
 """Tries MapProxy with `examples/three/mapproxy.yaml` before nginx and three nodes: PNG with the farm's own
 pixels, WMS 1.1.1, another system by reprojection, and tiles as Leaflet asks for them.
 
-A line for each thing that was seen; status 1 where one is not as it should be. FILE gets the farm's own
-picture beside the reprojected one. Half a minute. Wants Debian's mapproxy (and with it python3-pil and
-python3-pyproj), nginx and openssl.
+FILE gets the farm's own picture beside the reprojected one. Wants Debian's mapproxy (and with it python3-pil
+and python3-pyproj), nginx and openssl.
 """
 
 import io
@@ -13,7 +12,7 @@ import subprocess
 import sys
 import tempfile
 
-from farmkit.command import lacks, program_parser, tell_missing
+from farmkit.command import lacks, of_debian, program_parser, tell_missing
 from farmkit.nginx import changed
 from farmkit.processes import free_ports
 from farmkit.repository import EXAMPLES
@@ -58,9 +57,8 @@ class MapProxy:
 
 def image_of(data):
     """The image that these bytes are, in its colours; None where they are none."""
-    from PIL import Image
     try:
-        return Image.open(io.BytesIO(data)).convert("RGB")
+        return of_debian("PIL.Image").open(io.BytesIO(data)).convert("RGB")
     except OSError:
         return None
 
@@ -77,8 +75,7 @@ def attempt(trial, proxy, picture):
     newer, older = proxy.picture("1.3.0", "CRS:84", BOX), proxy.picture("1.1.1", "EPSG:4326", BOX)
     trial.see("PNG has the farm's own pixels", newer is not None and newer.tobytes() == own.tobytes(), newer)
     trial.see("WMS 1.1.1 has the same", older is not None and older.tobytes() == own.tobytes(), older)
-    import pyproj
-    to_metres = pyproj.Transformer.from_crs("EPSG:4326", SYSTEM, always_xy=True)
+    to_metres = of_debian("pyproj").Transformer.from_crs("EPSG:4326", SYSTEM, always_xy=True)
     box = to_metres.transform_bounds(*BOX)
     other = proxy.picture("1.1.1", SYSTEM, box)
     common = [colour for colour, count in colours(own).items() if count > SIDE]
@@ -88,8 +85,7 @@ def attempt(trial, proxy, picture):
     trial.see("a tile of Mercator with something on it", tile is not None and tile.size == (256, 256)
               and len(colours(tile)) > 1, tile)
     if picture and other is not None:
-        from PIL import Image
-        both = Image.new("RGB", (2 * SIDE + 8, SIDE), (190, 190, 190))
+        both = of_debian("PIL.Image").new("RGB", (2 * SIDE + 8, SIDE), (190, 190, 190))
         both.paste(own, (0, 0))
         both.paste(other, (SIDE + 8, 0))
         both.save(picture)
@@ -100,9 +96,10 @@ def main():
     words.add_argument("--picture", type=pathlib.Path, metavar="FILE.png",
                        help="gets the farm's picture beside the reprojected one")
     options = words.parse_args()
-    lacking = lacks("mapproxy-util", "nginx", "openssl")
-    if lacking:
+    if lacking := lacks("mapproxy-util", "nginx", "openssl"):
         return tell_missing(lacking)
+    for name in ("PIL.Image", "pyproj"):
+        of_debian(name)
     with tempfile.TemporaryDirectory(prefix="wfarm-mapproxy-") as name:
         folder = pathlib.Path(name)
         folder.chmod(0o777)

@@ -2,8 +2,7 @@
 """Tries nginx with `examples/three/nginx.conf` before three nodes: what it keeps, and that a farm that begins
 anew at the same addresses while nginx and its clients go on isn't shown with the old farm's pictures.
 
-A line for each thing that was seen; status 1 where one is not as it should be. Ten seconds. Wants nginx and
-openssl.
+Wants nginx and openssl.
 """
 
 import pathlib

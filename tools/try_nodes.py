@@ -5,8 +5,6 @@ Each case starts three nodes, or five, on new folders and does something to them
 again and again for its capabilities and for a picture with MAPSEQ: no two answers may differ for one
 sequence, whenever and from whichever node they come, and no node goes back. At its end all must stand at one
 sequence, with equal histories.
-
-A line says what each saw; the status is 0 where all went as they should. A run takes 12 minutes.
 """
 
 import os
@@ -229,16 +227,10 @@ def forged(nodes):
     nodes.kill(2)
     path = nodes[2].folder / "farm"
     path.write_text(re.sub("(?m)^starts .*$", f"starts {starts:08x}", path.read_text()))
-    clear(nodes, 2)
+    nodes[2].clear()
     nodes.start(2)
     until(lambda: nodes.published(2) >= 0)
     return f"{len(cases)} kinds closed; level after {nodes.level()} s"
-
-
-def clear(nodes, i):
-    """Ends a suspension as an operator does, in a stopped node's folder."""
-    ran = nodes.run("clear", "--state", nodes[i].folder)
-    want(f"clear of node {i}: {ran.returncode} {ran.stderr.strip()}", ran.returncode == 0)
 
 
 def forgot(nodes):
@@ -265,7 +257,7 @@ def forgot(nodes):
     for i in range(2):
         nodes.kill(i)
     for i in range(NODES):
-        clear(nodes, i)
+        nodes[i].clear()
         nodes.start(i)
     until(lambda: all(nodes.health(i)[0] == 200 for i in range(NODES)))
     nodes.level()

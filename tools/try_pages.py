@@ -6,8 +6,7 @@ behind the same nginx.
 
 Each host is a Debian of its own that `systemd-nspawn` boots, with the address that the page gives it. DIR is
 a Debian made before (debootstrap with the packages of INCLUDED), copied from; else one is made. The upgrade
-is from the older program, where one is given. A line for each thing that was seen; status 1 where one is not
-as the page says. Wants root, debootstrap, systemd-container, iproute2.
+is from the older program, where one is given. Wants root, debootstrap, systemd-container, iproute2.
 """
 
 import collections
@@ -142,7 +141,6 @@ class Walk:
                 machine.do(self.as_node(command, number))
         machine.edit(f"/etc/wfarm/node-{number}.conf",
                      (r"(?m)^(HTTP|ADMIN|MORE)=(.*)10\.0\.0\.1:", rf"\1=\g<2>{machine.address}:"))
-        machine.edit("/etc/wfarm/nodes", (r"(?m)^replica.*\n", ""))
 
     def begin(self):
         """"Begin", on each machine."""
@@ -202,9 +200,7 @@ class Walk:
         for number in (0, 1, 0):
             self.follow(machine, heading, number)
             if number == 0:
-                self.first.inside("bash", "-c",
-                                  "grep -q replica /etc/wfarm/nodes || echo 'replica 10.0.0.11:8080 "
-                                  "10.0.0.11:9090' >> /etc/wfarm/nodes")
+                self.first.edit("/etc/wfarm/nodes", (r"(?m)^(# )?replica", "replica"))
                 self.first.wait("wfarmctl status finds the replica well", self.status_is_well())
                 told = self.first.inside("wfarmctl", "status").stdout
                 machine.see("the replica is in the table", "replica" in told, told)

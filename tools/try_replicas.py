@@ -1,9 +1,8 @@
 #!/usr/bin/env python3
 """Tries replicas of a farm of three voters, over the built program.
 
-Replicas and voters that are killed at random, and replicas that lose their folders, are
-`tools/rehearse.py`'s. A line says what each case saw; the status is 0 where all went as they should. A run
-takes three minutes.
+Replicas and voters that are killed at random, and replicas that lose their folders, are played by the cases
+of `crates/wf_test_simulation`.
 """
 
 import collections
@@ -86,6 +85,11 @@ class Farm:
             return False
         return until(lambda: (voter.published() or 0) > before, seconds)
 
+    def publish_all(self, *numbers):
+        """Publishes the maps of these numbers at the first voter."""
+        for number in numbers:
+            want("no publish", self.publish(map_of(number), self.voters[0]))
+
 
 def mislead(farm, other):
     replica = farm.replica("misled")
@@ -101,12 +105,10 @@ def misled(options, top):
     """a replica that is pointed at another farm of the same name ends with status 1 and one line, whichever
     has published more"""
     with Farm(options, top, "ours") as ours, Farm(options, top, "theirs") as theirs:
-        for number in range(3):
-            ours.publish(map_of(number), ours.voters[0])
-        theirs.publish(map_of(100), theirs.voters[0])
+        ours.publish_all(*range(3))
+        theirs.publish_all(100)
         fewer = mislead(ours, theirs)
-        for number in range(4):
-            theirs.publish(map_of(100 + number), theirs.voters[0])
+        theirs.publish_all(*range(100, 104))
         ours.replicas.pop().kill()
         shutil.rmtree(ours.folder / "misled")
         more = mislead(ours, theirs)
@@ -180,7 +182,7 @@ def follows(farm, replica, numbers, pause, is_enough=lambda: False):
     for number in numbers:
         if wrong or is_enough():
             break
-        want("no publish", farm.publish(map_of(number), farm.voters[0]))
+        farm.publish_all(number)
         time.sleep(pause)
         wrong.update(differences(farm, replica))
     top = farm.top()
@@ -195,7 +197,7 @@ def twice(options, top):
     and the replica learns on"""
     found = []
     with Farm(options, top, "twice") as farm:
-        want("no publish", farm.publish(map_of(0), farm.voters[0]))
+        farm.publish_all(0)
         readers = farm.readers.split(",")
         for name, others in (("alone", []), ("among three", readers[1:])):
             with Repeater(readers[0]) as source:
@@ -218,14 +220,12 @@ def foreign(options, top):
     theirs, others = Farm(options, top, "theirs", voters=1), Farm(options, top, "others", farm="others",
                                                                   voters=1)
     with Farm(options, top, "ours") as ours, theirs, others:
-        for number in range(3):
-            want("no publish", ours.publish(map_of(number), ours.voters[0]))
-            want("no publish", others.publish(map_of(number), others.voters[0]))
-        want("no publish", theirs.publish(map_of(100), theirs.voters[0]))
+        ours.publish_all(*range(3))
+        others.publish_all(*range(3))
+        theirs.publish_all(100)
         for name, farm in (("of another farm", others), ("of fewer maps", theirs), ("of more maps", theirs)):
             if name == "of more maps":
-                for number in range(101, 131):
-                    theirs.publish(map_of(number), theirs.voters[0])
+                theirs.publish_all(*range(101, 131))
             found += [f"{name}: {what}" for what in beside(ours, farm, f"beside one {name}")]
     want_none(found)
     print("foreign: one source among three of another farm, and of another history with fewer and more maps: "
@@ -257,8 +257,7 @@ def tape(options, top):
     """a replica begins with what its tape has, also with a torn, missing or damaged one, and goes on where it
     can't be written"""
     with Farm(options, top, "tape") as farm:
-        for number in range(1, 4):
-            want("no publish", farm.publish(map_of(number), farm.voters[0]))
+        farm.publish_all(1, 2, 3)
         replica = farm.replica("replica")
         want("three maps didn't come", until(lambda: replica.published() == 3, 20))
         file = replica.folder / "replica.tape"
@@ -298,8 +297,7 @@ def write_no_more(farm, replica, most):
     replica.start(before=UNSIGNALLED, preexec_fn=limited(most), stderr=subprocess.PIPE)
     try:
         want("it doesn't begin", until(lambda: replica.published() == 3, 20))
-        for number in range(4, 6):
-            want("no publish", farm.publish(map_of(number), farm.voters[0]))
+        farm.publish_all(4, 5)
         want("it doesn't learn on", until(lambda: replica.published() == 5, 20))
         want("a replica took a publish", replica.ask("/publish", map_of(9)).status == 404)
         want("not told at the operator's port", replica.metrics().get("wfarm_tape_failed") == 1)
@@ -317,7 +315,7 @@ def chain(options, top):
             sources = links[-1].readers
             until(lambda: links[-1].published() is not None)
             time.sleep(0.5)
-        want("no publish", farm.publish(map_of(1), farm.voters[0]))
+        farm.publish_all(1)
         learned = [until(lambda: link.published() == 1, 5) for link in links]
         is_told = "too far" in links[-1].log.read_text()
     print(f"chain: of six replicas in a row learned {learned.count(True)}, the last says that it is too far: "
@@ -425,8 +423,7 @@ def spent_by(processes, seconds):
 def rest(options, top):
     """what replicas at rest cost a voter: below two percent of a core"""
     with Farm(options, top, "rest") as farm:
-        for number in range(3):
-            farm.publish(map_of(number, 2_000), farm.voters[0])
+        farm.publish_all(1, 2, 3)
         time.sleep(2)
         alone = spent_by(farm.voters, 10)
         replicas = farm.some(options.replicas)

@@ -18,6 +18,7 @@ import tempfile
 
 from farmkit.command import program_parser
 from farmkit.processes import UNSIGNALLED, Farm, limited, serve_words
+from farmkit.trial import Trial
 from farmkit.web import CAPABILITIES
 
 MAP = """MAP NAME "sq" EXTENT 0 0 4 4 PROJECTION "init=epsg:3857" END
@@ -33,44 +34,39 @@ def square(size, inside):
     return b"P6\n%d %d\n255\n" % (size, size) + b"".join(b"".join(row) for row in rows)
 
 
-def same(name, got, wanted):
-    print("%s: %s" % (name, "as wanted" if got == wanted else "got %r, wanted %r" % (got, wanted)))
-    return got == wanted
-
-
 def tapes(folder):
     return {path.name: path.read_bytes() for path in folder.iterdir()}
 
 
-def three_nodes(program, folder):
+def three_nodes(seen, program, folder):
     farm = Farm(program, 20, folder)
     red, blue = (MAP % "255 0 0").encode(), (MAP % "0 0 255").encode()
-    yield same("a publish", farm.ask("/publish", red), (202, b"accepted for 1\n"))
+    seen.same("a publish", farm.ask("/publish", red), (202, b"accepted for 1\n"))
     for node, proposal in ((1, "none"), (2, "none"), (0, "published 1")):
         wanted = "node %d published 1 proposal %s\n" % (node, proposal)
-        yield same("node %d" % node, farm.ask("/status"), (200, wanted.encode()))
+        seen.same("node %d" % node, farm.ask("/status"), (200, wanted.encode()))
     documents = [farm.ask(CAPABILITIES) for _ in range(3)]
-    yield same("equal capabilities", documents.count(documents[0]), 3)
-    yield same("the sequence in them", b'updateSequence="1"' in documents[0][1], True)
+    seen.same("equal capabilities", documents.count(documents[0]), 3)
+    seen.same("the sequence in them", b'updateSequence="1"' in documents[0][1], True)
     pictures = [farm.ask("/wms?" + QUERY) for _ in range(3)]
-    yield same("equal pictures", pictures, [(200, square(4, b"\xff\x00\x00"))] * 3)
-    yield same("a second publish", farm.ask("/publish", blue), (202, b"accepted for 2\n"))
-    yield same("the old map", farm.ask("/wms?%s&MAPSEQ=1" % QUERY), (200, square(4, b"\xff\x00\x00")))
-    yield same("the new map", farm.ask("/wms?" + QUERY), (200, square(4, b"\x00\x00\xff")))
-    yield same("no map", farm.ask("/publish", b'MAP INCLUDE "x" END'), (400, b"M5 4\n"))
-    yield same("no such path", farm.ask("/x")[0], 404)
-    yield same("a publish by GET", farm.ask("/publish")[0], 405)
-    yield same("a map over the limit", farm.ask("/publish", b" " * 131_073)[0], 413)
-    yield same("one far over it", farm.ask("/publish", b" " * 200_000)[0], 413)
+    seen.same("equal pictures", pictures, [(200, square(4, b"\xff\x00\x00"))] * 3)
+    seen.same("a second publish", farm.ask("/publish", blue), (202, b"accepted for 2\n"))
+    seen.same("the old map", farm.ask("/wms?%s&MAPSEQ=1" % QUERY), (200, square(4, b"\xff\x00\x00")))
+    seen.same("the new map", farm.ask("/wms?" + QUERY), (200, square(4, b"\x00\x00\xff")))
+    seen.same("no map", farm.ask("/publish", b'MAP INCLUDE "x" END'), (400, b"M5 4\n"))
+    seen.same("no such path", farm.ask("/x")[0], 404)
+    seen.same("a publish by GET", farm.ask("/publish")[0], 405)
+    seen.same("a map over the limit", farm.ask("/publish", b" " * 131_073)[0], 413)
+    seen.same("one far over it", farm.ask("/publish", b" " * 200_000)[0], 413)
     large = "/wms?" + QUERY.replace("WIDTH=4&HEIGHT=4", "WIDTH=200&HEIGHT=200")
     for more in (0, 20_000):
-        yield same("a picture, %d bytes after the head" % more,
-                   len(farm.ask_with_more(large, more).partition(b"\r\n\r\n")[2]), 120_015)
+        seen.same("a picture, %d bytes after the head" % more,
+                  len(farm.ask_with_more(large, more).partition(b"\r\n\r\n")[2]), 120_015)
     farm.end()
     again = Farm(program, 3, folder)
     for node in range(3):
-        yield same("node %d again" % node, again.ask("/status"),
-                   (200, b"node %d published 2 proposal none\n" % node))
+        seen.same("node %d again" % node, again.ask("/status"),
+                  (200, b"node %d published 2 proposal none\n" % node))
     again.end()
 
 
@@ -98,7 +94,7 @@ def copied(folder, name):
     return copy
 
 
-def rejections(program, folder):
+def rejections(seen, program, folder):
     """Starts that are rejected for a cause, which the log names."""
     farm_with(program, folder, ["255 0 0", "0 0 255"])
     other = folder.parent / "other"
@@ -110,29 +106,29 @@ def rejections(program, folder):
         before = tapes(place)
         status, printed, lines = start(program, place, nodes, log=True)
         told = [line for line in lines.splitlines() if " error fault cause=" in line]
-        yield same(cause, (status, printed, lines.splitlines()[-1:], cause in "".join(told), len(told)),
-                   (1, "", ["serve fault"], True, 1))
-        yield same("the files", tapes(place), before)
+        seen.same(cause, (status, printed, lines.splitlines()[-1:], cause in "".join(told), len(told)),
+                  (1, "", ["serve fault"], True, 1))
+        seen.same("the files", tapes(place), before)
 
 
-def beginnings(program, folder):
+def beginnings(seen, program, folder):
     text = (folder / "farm").read_text()
     form = r"wfarm folder 1\nkind serve\nbegan %s\nnodes 03\nmark [0-9a-f]{32}\n"
-    yield same("the file of a new folder", bool(re.fullmatch(form % "empty", text)), True)
+    seen.same("the file of a new folder", bool(re.fullmatch(form % "empty", text)), True)
     empty = folder.parent / "empty"
     empty.mkdir()
     (empty / "node-0.tape").write_bytes(b"")
-    yield same("a folder of one tape without a byte", start(program, empty)[0], 0)
-    yield same("its file", bool(re.fullmatch(form % "empty", (empty / "farm").read_text())), True)
-    yield same("two folders, two marks", (empty / "farm").read_text() != text, True)
+    seen.same("a folder of one tape without a byte", start(program, empty)[0], 0)
+    seen.same("its file", bool(re.fullmatch(form % "empty", (empty / "farm").read_text())), True)
+    seen.same("two folders, two marks", (empty / "farm").read_text() != text, True)
     copy = copied(folder, "found")
     (copy / "farm").unlink()
-    yield same("a folder that is taken over", start(program, copy)[0], 0)
-    yield same("its file", bool(re.fullmatch(form % "found", (copy / "farm").read_text())), True)
-    yield same("a start on it", start(program, copy)[0], 0)
+    seen.same("a folder that is taken over", start(program, copy)[0], 0)
+    seen.same("its file", bool(re.fullmatch(form % "found", (copy / "farm").read_text())), True)
+    seen.same("a start on it", start(program, copy)[0], 0)
 
 
-def log(program, folder):
+def log(seen, program, folder):
     with tempfile.TemporaryFile("w+") as lines:
         farm = Farm(program, 3, folder, log=True, stderr=lines)
         answers = [farm.ask("/publish", body)[0]
@@ -140,45 +136,43 @@ def log(program, folder):
         farm.end()
         lines.seek(0)
         log = [line.rstrip("\n").partition(" ")[2] for line in lines]
-    yield same("answers", answers, [202, 400, 202])
+    seen.same("answers", answers, [202, 400, 202])
     for wanted in ("info listening port=%d" % farm.port, 'info folder path="%s" nodes=3 began=empty' % folder,
                    "info caught-up node=2 published=2", 'info proposed node=0 answer="accepted for 3"',
                    "info published node=0 sequence=3", 'warn rejected node=1 status=400 answer="M6 3"',
                    "info published node=2 sequence=4", "info end connections=3"):
-        yield same("log: %s" % wanted, wanted in log, True)
+        seen.same("log: %s" % wanted, wanted in log, True)
     tape = [line for line in log if line.startswith('info tape file="%s/node-1.tape" before=' % folder)]
-    yield same("log: a tape", len(tape), 1)
+    seen.same("log: a tape", len(tape), 1)
 
 
-def files_that_cannot_grow(program, folder):
+def files_that_cannot_grow(seen, program, folder):
     """The signal ends the program; without the signal a publish is answered 503."""
     copy = copied(folder, "limited")
     start(program, copy)  # shortens the tapes
     most = max(len(tape) for tape in tapes(copy).values()) + 20
     farm = Farm(program, 3, copy, preexec_fn=limited(most))
     farm.ask("/publish", (MAP % "9 9 9").encode())
-    yield same("the signal ends the program", farm.process.wait(timeout=20), -signal.SIGXFSZ)
+    seen.same("the signal ends the program", farm.process.wait(timeout=20), -signal.SIGXFSZ)
     farm = Farm(program, 6, copy, before=UNSIGNALLED, preexec_fn=limited(most))
     answers = [farm.ask("/publish", (MAP % "9 9 9").encode())[0] for _ in range(6)]
-    yield same("without the signal it is 503 in the end", answers[-1], 503)
+    seen.same("without the signal it is 503 in the end", answers[-1], 503)
     farm.end()
     more = Farm(program, 2, copy)
-    yield same("with more room what was published is there", more.ask(f"/wms?{QUERY}&MAPSEQ=1"),
-               (200, square(4, b"\xff\x00\x00")))
-    yield same("and a publish is taken", more.ask("/publish", (MAP % "9 9 9").encode())[0], 202)
+    seen.same("with more room what was published is there", more.ask(f"/wms?{QUERY}&MAPSEQ=1"),
+              (200, square(4, b"\xff\x00\x00")))
+    seen.same("and a publish is taken", more.ask("/publish", (MAP % "9 9 9").encode())[0], 202)
     more.end()
 
 
 def main():
-    program = program_parser(__doc__).parse_args().program
+    program, seen = program_parser(__doc__).parse_args().program, Trial()
     with tempfile.TemporaryDirectory() as folder:
-        done = list(three_nodes(program, pathlib.Path(folder)))
+        three_nodes(seen, program, pathlib.Path(folder))
     with tempfile.TemporaryDirectory() as place:
-        folder = pathlib.Path(place) / "farm"
         for part in (rejections, beginnings, log, files_that_cannot_grow):
-            done += list(part(program, folder))
-    print("%d of %d as wanted" % (sum(done), len(done)))
-    return 0 if all(done) else 1
+            part(seen, program, pathlib.Path(place) / "farm")
+    return seen.conclude()
 
 
 if __name__ == "__main__":

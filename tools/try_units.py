@@ -4,9 +4,8 @@
 of each at a signal, and of each, of one that is stopped and of one that failed at an upgrade, a removal, an
 installation anew and a purge.
 
-DIR is a Debian made before (debootstrap with the packages of INCLUDED), copied from; else one is made. A line
-for each thing that was seen; status 1 where one is not as it should be. Wants root, debootstrap,
-systemd-container, and a program with `wfarm replica`.
+DIR is a Debian made before (debootstrap with the packages of INCLUDED), copied from; else one is made. Wants
+root, debootstrap and systemd-container.
 """
 
 import pathlib

@@ -25,19 +25,16 @@ import time
 import urllib.parse
 import urllib.request
 
-from selenium import webdriver
-from selenium.webdriver.common.by import By
-from selenium.webdriver.common.keys import Keys
-
-from farmkit.command import program_parser
+from farmkit.command import add_slack, lacks, of_debian, program_parser, tell_missing
 from farmkit.nginx import Nginx, certificate, changed, whole
 from farmkit.processes import Farm, nodes_in
 from farmkit.repository import EXAMPLES
 from farmkit.trial import Trial
-from farmkit.wanted import seconds_until
 from farmkit.web import ask, loopback, received
 
 NODES = 3
+# keys as a WebDriver sends them
+ARROW_LEFT, ARROW_RIGHT, ADD, SUBTRACT = "\ue012", "\ue014", "\ue025", "\ue027"
 LABEL = bytes((1, 2, 3))  # the colour of labels in ACROSS
 ACROSS = """MAP NAME "across" EXTENT 0 0 1024 1024 PROJECTION "init=epsg:3857" END WEB METADATA "wms_title" "Across %d" END END
 LAYER NAME ground TYPE POLYGON CLASS STYLE COLOR %s OUTLINECOLOR 90 90 90 END END
@@ -108,9 +105,9 @@ class Relay:
         return ask(loopback(self.port), f"/{path}", body, 60)
 
     def drew(self, path):
-        """The node that was asked last for this path."""
+        """The node that was asked last for this path, if one was."""
         with self.lock:
-            return [node for node, line in self.asked if line.split(" ")[1] == "/" + path][-1]
+            return next((node for node, line in reversed(self.asked) if line.split(" ")[1] == "/" + path), None)
 
 
 class PageNginx(Nginx):
@@ -149,24 +146,9 @@ class LocalNginx(Nginx):
             ("access_log off;", f"log_format asked $request_uri; access_log {folder}/asked asked;"))))
 
     def drew(self, path):
-        """The node that was asked last for this path."""
-        asked = (self.folder / "asked").read_text().splitlines()
-        return [int(it.split("/")[2]) for it in asked if it.startswith("/node/")
-                and it.partition("/node/")[2][2:] == path][-1]
-
-
-class Look(Trial):
-    def __init__(self):
-        super().__init__()
-        self.good = 0
-
-    def __call__(self, what, holds):
-        self.see(what, holds)
-        self.good += bool(holds)
-
-    def within(self, seconds, what, test):
-        took = seconds_until(test, seconds, 0.2)
-        self(what if took is None else f"{what} ({took:.1f} s)", took is not None)
+        """The node that was asked last for this path, if one was."""
+        asked = re.findall(rf"(?m)^/node/(\d)/{re.escape(path)}$", (self.folder / "asked").read_text())
+        return int(asked[-1]) if asked else None
 
 
 # scripts for the page: its tiles as they are shown, and whether all are loaded
@@ -179,7 +161,7 @@ class Page:
         self.browser, self.shots = browser, shots
 
     def text(self, name):
-        return self.browser.find_element(By.ID, name).text
+        return self.browser.find_element("id", name).text
 
     def run(self, script, *words):
         return self.browser.execute_script(script, *words)
@@ -189,7 +171,7 @@ class Page:
                  "it.dispatchEvent(new Event('input'));it.dispatchEvent(new Event('change'))" , name, value)
 
     def click(self, name):
-        self.browser.find_element(By.ID, name).click()
+        self.browser.find_element("id", name).click()
 
     def loaded(self, name="left"):
         return self.run(LOADED, name)
@@ -202,7 +184,7 @@ class Page:
                  "it.setView([b + (c - a) / 2, (a + c) / 2], arguments[0], {animate: false})", level)
 
     def publish(self, file):
-        self.browser.find_element(By.ID, "file").send_keys(str(file))
+        self.browser.find_element("id", "file").send_keys(str(file))
         self.click("publish")
 
     def shoot(self, name):
@@ -226,6 +208,22 @@ def alike(tiles, ask):
     return good, len(tiles) - good
 
 
+def see_pixels(look, tiles, ask, whose, least=1):
+    good, bad = alike(tiles, ask)
+    look.see(f"{good} tiles have the pixels of {whose}, {bad} don't", good >= least and not bad)
+
+
+def inside(tiles):
+    """The tiles of level 2 in the square of the extent."""
+    return [it for it in tiles if it["z"] == 2 and 0 <= it["x"] < 4 and 0 <= it["y"] < 4]
+
+
+def tint(page, look, what, seconds, is_tinted=True):
+    """Tints the tiles by their nodes, or ends that."""
+    page.click("tint")
+    look.wait(what, lambda: page.loaded() and all(bool(it["by"]) == is_tinted for it in page.tiles()), seconds)
+
+
 def together(tiles, side):
     """One picture of the tiles 0 to side - 1 in both directions."""
     by_place = {(it["x"], it["y"]): base64.b64decode(it["rgb"]) for it in tiles}
@@ -237,29 +235,27 @@ def together(tiles, side):
 
 
 def try_first_maps(page, relay, look):
-    look.within(15, "nothing is published yet, and the page says so",
-                lambda: page.text("message") == "Nothing is published yet.")
+    look.wait("nothing is published yet, and the page says so",
+              lambda: page.text("message") == "Nothing is published yet.", 15)
     relay.ask("publish", (ACROSS % (1, "200 220 190")).encode())
-    look.within(8, "a publish is seen", lambda: page.text("shown") == "1 of 1"
-                and page.text("title") == "Across 1")
-    look.within(30, "every tile is there", page.loaded)
+    look.wait("a publish is seen", lambda: page.text("shown") == "1 of 1"
+              and page.text("title") == "Across 1", 8)
+    look.wait("every tile is there", page.loaded, 30)
     page.zoom(2)
-    look.within(30, "and at level 2", page.loaded)
+    look.wait("and at level 2", page.loaded, 30)
     tiles = page.tiles()
-    inside = [it for it in tiles if it["z"] == 2 and 0 <= it["x"] < 4 and 0 <= it["y"] < 4]
-    look(f"the sixteen tiles of the extent are there, of {len(tiles)}", len(inside) == 16)
-    good, bad = alike(tiles, relay.ask)
-    look(f"the pixels of {good} tiles are the farm's own, of {bad} they aren't", good >= 16 and not bad)
+    look.see(f"the sixteen tiles of the extent are there, of {len(tiles)}", len(inside(tiles)) == 16)
+    see_pixels(look, tiles, relay.ask, "the farm", 16)
     whole = pixels_of(relay.ask("wms?VERSION=1.3.0&REQUEST=GetMap&LAYERS=ground,names&STYLES=&CRS=EPSG:3857"
                                 "&BBOX=0,0,1024,1024&WIDTH=1024&HEIGHT=1024&FORMAT=image/x-portable-pixmap")[1])
-    look("the sixteen together are the picture of the whole extent", together(inside, 4) == whole)
+    look.see("the sixteen together are the picture of the whole extent", together(inside(tiles), 4) == whole)
     borders = [sum(whole[3 * (1024 * y + x):][:3] == LABEL for y in range(1024)) for x in (511, 512)]
-    look(f"a label crosses the border between them ({borders[0]} and {borders[1]} of its pixels beside it)",
-         min(borders) > 0)
+    look.see(f"a label crosses the border between them ({borders[0]} and {borders[1]} of its pixels beside it)",
+             min(borders) > 0)
     page.shoot("level-2")
-    look.within(8, "three nodes stand at 1",
-                lambda: [it.split()[:4] for it in page.text("nodes").splitlines()]
-                == [["node", str(k), "published", "1"] for k in range(NODES)])
+    look.wait("three nodes stand at 1",
+              lambda: [it.split()[:4] for it in page.text("nodes").splitlines()]
+              == [["node", str(k), "published", "1"] for k in range(NODES)], 8)
 
 
 def judged(tiles, relay):
@@ -273,20 +269,17 @@ def judged(tiles, relay):
 def try_renderers(page, relay, look):
     with relay.lock:
         relay.asked.clear()
-    page.click("tint")
-    look.within(60, "tiles are tinted by the node that drew them", lambda: page.loaded()
-                and all(it["by"] for it in page.tiles()))
+    tint(page, look, "tiles are tinted by the node that drew them", 60)
     tiles = page.tiles()
     true, wrong, unknown = judged(tiles, relay)
-    look(f"of {len(tiles)} tiles the node is right of {true}, wrong of {wrong}, unknown of {unknown}, by "
-         f"{len(relay.asked)} connections", true == len(tiles) and not wrong)
+    look.see(f"of {len(tiles)} tiles the node is right of {true}, wrong of {wrong}, unknown of {unknown}, by "
+             f"{len(relay.asked)} connections", true == len(tiles) and not wrong)
     by = {(it["x"], it["y"]): it["by"] for it in tiles}
-    look("all three nodes drew some, and neighbours are of different ones", len(set(by.values())) == NODES
-         and all(by[x, y] != by.get((x + 1, y)) and by[x, y] != by.get((x, y + 1)) for x, y in by))
-    inside = [it for it in tiles if it["z"] == 2 and 0 <= it["x"] < 4 and 0 <= it["y"] < 4]
-    whole = pixels_of(relay.ask(inside[0]["path"].replace(re.search(r"BBOX=[^&]*", inside[0]["path"])[0],
-                                                          "BBOX=0,0,1024,1024").replace("256", "1024"))[1])
-    look("tiles of three nodes together are one picture", together(inside, 4) == whole)
+    look.see("all three nodes drew some, and neighbours are of different ones", len(set(by.values())) == NODES
+             and all(by[x, y] != by.get((x + 1, y)) and by[x, y] != by.get((x, y + 1)) for x, y in by))
+    path = re.sub(r"BBOX=[^&]*", "BBOX=0,0,1024,1024", inside(tiles)[0]["path"]).replace("256", "1024")
+    look.see("tiles of three nodes together are one picture",
+             together(inside(tiles), 4) == pixels_of(relay.ask(path)[1]))
     page.shoot("renderers")
     stop = threading.Event()
 
@@ -297,142 +290,136 @@ def try_renderers(page, relay, look):
 
     noise = threading.Thread(target=ask_on)
     noise.start()
-    page.click("tint")
-    look.within(30, "the tint goes", lambda: page.loaded() and not any(it["by"] for it in page.tiles()))
+    tint(page, look, "the tint goes", 30, False)
     with relay.lock:
         relay.asked.clear()
-    page.click("tint")
-    look.within(120, "with another client that asks a hundred times a second", lambda: page.loaded()
-                and all(it["by"] for it in page.tiles()))
+    tint(page, look, "with another client that asks a hundred times a second", 120)
     true, wrong, unknown = judged(page.tiles(), relay)
     stop.set()
     noise.join()
-    look(f"the node is right of {true} tiles, wrong of {wrong}, unknown of {unknown}", not wrong)
-    page.click("tint")
-    look.within(30, "the tint goes again", lambda: page.loaded() and not any(it["by"] for it in page.tiles()))
+    look.see(f"the node is right of {true} tiles, wrong of {wrong}, unknown of {unknown}", not wrong)
+    tint(page, look, "the tint goes again", 30, False)
 
 
 def try_history(page, relay, look):
     relay.ask("publish", (ACROSS % (2, "230 150 120")).encode())
-    look.within(8, "a second publish is seen", lambda: page.text("shown") == "2 of 2")
-    look.within(30, "and its tiles", lambda: page.loaded() and not alike(page.tiles(), relay.ask)[1])
-    slider = page.browser.find_element(By.ID, "sequence")
-    slider.send_keys(Keys.ARROW_LEFT)
-    look.within(30, "the slider's left arrow shows the sequence before",
-                lambda: page.text("shown") == "1 of 2" and page.loaded()
-                and "MAPSEQ=1" in page.tiles()[0]["path"] and not alike(page.tiles(), relay.ask)[1])
+    look.wait("a second publish is seen", lambda: page.text("shown") == "2 of 2", 8)
+    look.wait("and its tiles", lambda: page.loaded() and not alike(page.tiles(), relay.ask)[1], 30)
+    slider = page.browser.find_element("id", "sequence")
+    slider.send_keys(ARROW_LEFT)
+    look.wait("the slider's left arrow shows the sequence before",
+              lambda: page.text("shown") == "1 of 2" and page.loaded()
+              and "MAPSEQ=1" in page.tiles()[0]["path"] and not alike(page.tiles(), relay.ask)[1], 30)
     page.set_to("other", 2)
     page.click("compare")
-    look.within(30, "two sequences side by side", lambda: page.loaded("right") and page.loaded())
-    look("the right one is the other sequence, pixel by pixel", "MAPSEQ=2" in page.tiles("right")[0]["path"]
-         and not alike(page.tiles("right"), relay.ask)[1])
+    look.wait("two sequences side by side", lambda: page.loaded("right") and page.loaded(), 30)
+    look.see("the right one is the other sequence, pixel by pixel", "MAPSEQ=2" in page.tiles("right")[0]["path"]
+             and not alike(page.tiles("right"), relay.ask)[1])
     page.run("state.maps.left.map.panBy([120, 40], {animate: false})")
-    look.within(10, "both move together",
-                lambda: page.run("const c = (id) => state.maps[id].map.getCenter(); return "
-                                 "c('left').distanceTo(c('right')) < 1"))
+    look.wait("both move together",
+              lambda: page.run("const c = (id) => state.maps[id].map.getCenter(); return "
+                               "c('left').distanceTo(c('right')) < 1"), 10)
     page.shoot("compared")
     page.click("compare")
     page.set_to("sequence", 2)
-    look.within(10, "one map again", lambda: page.run("return document.getElementById('right').hidden")
-                and page.loaded())
+    look.wait("one map again", lambda: page.run("return document.getElementById('right').hidden")
+              and page.loaded(), 10)
 
 
 def try_publishing(page, relay, look, folder, nginx):
     page.publish(EXAMPLES / "refused-include.map")
-    look.within(8, "an error in a mapfile is said and marked",
-                lambda: page.text("answer").startswith("M5 4: ") and "line 1" in page.text("answer")
-                and page.run("return document.querySelector('#where mark').textContent") == "INCLUDE")
+    look.wait("an error in a mapfile is said and marked",
+              lambda: page.text("answer").startswith("M5 4: ") and "line 1" in page.text("answer")
+              and page.run("return document.querySelector('#where mark').textContent") == "INCLUDE", 8)
     page.shoot("error")
     (folder / "cut.map").write_text('MAP\n  NAME "é"\n  EXTENT 0 0 4 x4\n', encoding="utf-8")
     page.publish(folder / "cut.map")
-    look.within(8, "an offset in bytes after letters of two bytes", lambda: "line 3" in page.text("answer")
-                and page.run("return document.querySelector('#where mark').textContent") == "x4")
+    look.wait("an offset in bytes after letters of two bytes", lambda: "line 3" in page.text("answer")
+              and page.run("return document.querySelector('#where mark').textContent") == "x4", 8)
     (folder / "long.map").write_bytes(b"#" * 140_000)
     page.publish(folder / "long.map")
-    look.within(8, "a file that is too long", lambda: page.text("answer").startswith("The file is too long"))
+    look.wait("a file that is too long", lambda: page.text("answer").startswith("The file is too long"), 8)
     (folder / "third.map").write_text(ACROSS % (3, "150 150 230"), encoding="utf-8")
     page.publish(folder / "third.map")
-    look.within(8, "a map is accepted", lambda: "sequence 3" in page.text("answer"))
-    look.within(8, "and published, as the page says",
-                lambda: page.text("answer") == "Published as sequence 3." and page.text("shown") == "3 of 3")
-    look("a page of another site can't publish", nginx.publish_from("https://elsewhere.example") == 403)
+    look.wait("a map is accepted", lambda: "sequence 3" in page.text("answer"), 8)
+    look.wait("and published, as the page says",
+              lambda: page.text("answer") == "Published as sequence 3." and page.text("shown") == "3 of 3", 8)
+    look.see("a page of another site can't publish", nginx.publish_from("https://elsewhere.example") == 403)
 
 
 def try_keyboard(page, look):
-    held = page.browser.find_element(By.ID, "left")
+    held = page.browser.find_element("id", "left")
 
     def place():
         return page.run("const it = state.maps.left.map; return [it.getCenter().lng, it.getZoom()]")
 
     before = place()
-    held.send_keys(Keys.ARROW_RIGHT)
-    look.within(5, "an arrow key moves the map", lambda: place()[0] > before[0])
-    held.send_keys(Keys.ADD)
-    look.within(5, "plus zooms", lambda: place()[1] == before[1] + 1)
-    held.send_keys(Keys.SUBTRACT)
-    look.within(5, "minus zooms back", lambda: place()[1] == before[1])
-    box = page.browser.find_element(By.CSS_SELECTOR, "#layers input")
-    box.send_keys(Keys.SPACE)
-    look.within(15, "the space bar takes a layer away", lambda: page.loaded()
-                and "ground" not in page.tiles()[0]["path"])
-    box = page.browser.find_element(By.CSS_SELECTOR, "#layers input")
-    box.send_keys(Keys.SPACE)
-    look.within(15, "and back", lambda: page.loaded() and "ground" in page.tiles()[0]["path"])
+    held.send_keys(ARROW_RIGHT)
+    look.wait("an arrow key moves the map", lambda: place()[0] > before[0], 5)
+    held.send_keys(ADD)
+    look.wait("plus zooms", lambda: place()[1] == before[1] + 1, 5)
+    held.send_keys(SUBTRACT)
+    look.wait("minus zooms back", lambda: place()[1] == before[1], 5)
+    box = page.browser.find_element("css selector", "#layers input")
+    box.send_keys(" ")
+    look.wait("the space bar takes a layer away", lambda: page.loaded()
+              and "ground" not in page.tiles()[0]["path"], 15)
+    box = page.browser.find_element("css selector", "#layers input")
+    box.send_keys(" ")
+    look.wait("and back", lambda: page.loaded() and "ground" in page.tiles()[0]["path"], 15)
 
 
 def try_systems(page, relay, look):
     relay.ask("publish", SQUARE_DEGREES.encode())
-    look.within(8, "a map in degrees is seen", lambda: page.text("shown") == "4 of 4" and page.loaded())
+    look.wait("a map in degrees is seen", lambda: page.text("shown") == "4 of 4" and page.loaded(), 8)
     pictures = {}
     for system in ("CRS:84", "EPSG:4326"):
         page.set_to("crs", system)
         page.zoom(2)
-        look.within(30, f"its tiles in {system}", lambda: page.loaded()
-                    and ("CRS=" + system.replace(":", "%3A")) in page.tiles()[0]["path"])
+        look.wait(f"its tiles in {system}", lambda: page.loaded()
+                  and ("CRS=" + system.replace(":", "%3A")) in page.tiles()[0]["path"], 30)
         tiles = page.tiles()
-        good, bad = alike(tiles, relay.ask)
-        look(f"{good} have the farm's pixels, {bad} don't", good >= 16 and not bad)
+        see_pixels(look, tiles, relay.ask, "the farm", 16)
         pictures[system] = {(it["x"], it["y"], it["z"]): it["rgb"] for it in tiles}
-    look("both systems have the same tiles", pictures["CRS:84"] == pictures["EPSG:4326"])
+    look.see("both systems have the same tiles", pictures["CRS:84"] == pictures["EPSG:4326"])
     page.set_to("sequence", 1)
-    look.within(15, "an exception in place of a picture is a sentence",
-                lambda: page.text("message") == "The server says: CRS is not offered.")
+    look.wait("an exception in place of a picture is a sentence",
+              lambda: page.text("message") == "The server says: CRS is not offered.", 15)
     page.set_to("sequence", 4)
-    look.within(15, "which goes", lambda: page.text("message") == "" and page.loaded())
+    look.wait("which goes", lambda: page.text("message") == "" and page.loaded(), 15)
 
 
 def try_odd_maps(page, relay, look):
     relay.ask("publish", TALL.encode())
-    look.within(8, "an extent that isn't square is said",
-                lambda: "2.50 times as high as wide" in page.text("note") and page.loaded())
+    look.wait("an extent that isn't square is said",
+              lambda: "2.50 times as high as wide" in page.text("note") and page.loaded(), 8)
     tiles = page.tiles()
-    good, bad = alike(tiles, relay.ask)
-    look(f"{good} of its tiles have the farm's pixels, {bad} don't; rows go on above the first square",
-         not bad and min(it["y"] for it in tiles) < 0)
+    see_pixels(look, tiles, relay.ask, "the farm")
+    look.see("rows go on above the first square", min(it["y"] for it in tiles) < 0)
     relay.ask("publish", (EXAMPLES / "a.map").read_bytes())
-    look.within(8, "a map without layers is said", lambda: page.text("message") == "This map has no layers.")
+    look.wait("a map without layers is said", lambda: page.text("message") == "This map has no layers.", 8)
     relay.ask("publish", (ACROSS % (7, "200 200 90")).replace("NAME ground", "NAME soil").encode())
-    look.within(8, "the next map", lambda: page.text("shown") == "7 of 7" and page.loaded())
+    look.wait("the next map", lambda: page.text("shown") == "7 of 7" and page.loaded(), 8)
     page.set_to("sequence", 5)
-    look.within(15, "an older map with other layers is drawn with its own", lambda: page.loaded()
-                and "LAYERS=ground&" in page.tiles()[0]["path"] and not alike(page.tiles(), relay.ask)[1])
+    look.wait("an older map with other layers is drawn with its own", lambda: page.loaded()
+              and "LAYERS=ground&" in page.tiles()[0]["path"] and not alike(page.tiles(), relay.ask)[1], 15)
     page.set_to("sequence", 7)
     relay.behind = 2
-    look.within(10, "a node that is behind is marked", lambda: any(
+    look.wait("a node that is behind is marked", lambda: any(
         it.startswith("node 2 published 0 ") and it.endswith("(behind)")
-        for it in page.text("nodes").splitlines()))
+        for it in page.text("nodes").splitlines()), 10)
     page.shoot("behind")
     relay.behind = None
-    look.within(10, "until it isn't any more", lambda: "behind" not in page.text("nodes"))
+    look.wait("until it isn't any more", lambda: "behind" not in page.text("nodes"), 10)
 
 
 def try_window(page, look):
     page.browser.set_window_size(400, 800)
-    look.within(8, "a narrow window has the map above the rest, and nothing beside it", lambda: page.run(
+    look.wait("a narrow window has the map above the rest, and nothing beside it", lambda: page.run(
         "return document.querySelector('main').getBoundingClientRect().bottom <= "
         "document.querySelector('aside').getBoundingClientRect().top + 1"
-        " && document.documentElement.scrollWidth <= innerWidth"))
-    look.within(15, "its tiles", page.loaded)
+        " && document.documentElement.scrollWidth <= innerWidth"), 8)
+    look.wait("its tiles", page.loaded, 15)
     page.shoot("narrow")
     page.browser.set_window_size(1700, 1300)
 
@@ -440,20 +427,20 @@ def try_window(page, look):
 def try_ends(page, farm, relay, look, program):
     farm.process.kill()
     farm.process.wait()
-    look.within(12, "a farm that is gone is said to be",
-                lambda: page.text("message") == "The farm does not answer.")
+    look.wait("a farm that is gone is said to be",
+              lambda: page.text("message") == "The farm does not answer.", 12)
     page.run("state.maps.left.map.panBy([600, 0], {animate: false})")
     page.shoot("gone")
     again = Farm(program, 1_000_000, None, nodes=2)
     relay.aim(again.port)
-    look.within(40, "a farm that begins again with nothing is said to",
-                lambda: page.text("message") == "Nothing is published yet.")
-    look.within(15, "with two nodes, of which the third is gone",
-                lambda: page.text("nodes").splitlines()[-1].endswith("(gone)")
-                and page.text("nodes").count("published 0") == 2)
+    look.wait("a farm that begins again with nothing is said to",
+              lambda: page.text("message") == "Nothing is published yet.", 40)
+    look.wait("with two nodes, of which the third is gone",
+              lambda: page.text("nodes").splitlines()[-1].endswith("(gone)")
+              and page.text("nodes").count("published 0") == 2, 15)
     relay.ask("publish", SQUARE_DEGREES.encode())
-    look.within(8, "and its first map is seen", lambda: page.text("shown") == "1 of 1" and page.loaded()
-                and page.text("message") == "")
+    look.wait("and its first map is seen", lambda: page.text("shown") == "1 of 1" and page.loaded()
+              and page.text("message") == "", 8)
     return again
 
 
@@ -484,45 +471,41 @@ def try_nodes(page, look, folder, program):
 
 def look_at_all(page, look, nginx, nodes):
     """All nodes are there: each tile is asked at one that is known."""
-    look.within(30, "three nodes are seen at 0",
-                lambda: [it.split()[:4] for it in lines_of(page)] == [["node", str(k), "published", "0"]
-                                                                      for k in range(NODES)])
+    look.wait("three nodes are seen at 0",
+              lambda: [it.split()[:4] for it in lines_of(page)] == [["node", str(k), "published", "0"]
+                                                                    for k in range(NODES)], 30)
     asking(nodes[0])("publish", (ACROSS % (1, "200 220 190")).encode())
-    look.within(15, "a publish is seen", lambda: page.text("shown") == "1 of 1" and page.loaded())
+    look.wait("a publish is seen", lambda: page.text("shown") == "1 of 1" and page.loaded(), 15)
     page.zoom(2)
-    look.within(30, "tiles at level 2", page.loaded)
-    page.click("tint")
-    look.within(60, "each is tinted by its node", lambda: page.loaded()
-                and all(it["by"] for it in page.tiles()))
+    look.wait("tiles at level 2", page.loaded, 30)
+    tint(page, look, "each is tinted by its node", 60)
     tiles = page.tiles()
     true = sum(it["by"] == f"node {nginx.drew(it['path'])}" for it in tiles)
-    look(f"of {len(tiles)} tiles the node is right of {true}", true == len(tiles))
-    look("all three drew some", {it["by"] for it in tiles} == {f"node {k}" for k in range(NODES)})
-    good, bad = alike(tiles, asking(nodes[0]))
-    look(f"{good} have the pixels that node 0 gives, {bad} don't", not bad)
+    look.see(f"of {len(tiles)} tiles the node is right of {true}", true == len(tiles))
+    look.see("all three drew some", {it["by"] for it in tiles} == {f"node {k}" for k in range(NODES)})
+    see_pixels(look, tiles, asking(nodes[0]), "node 0")
     page.shoot("nodes")
 
 
 def look_at_two(page, look, nginx, nodes, folder):
     nodes[2].kill()
-    look.within(15, "an ended node is shown as gone, with the time",
-                lambda: re.search(r"\(gone since [\d:]+", lines_of(page)[2]) is not None)
+    look.wait("an ended node is shown as gone, with the time",
+              lambda: re.search(r"\(gone since [\d:]+", lines_of(page)[2]) is not None, 15)
     page.zoom(3)
-    look.within(60, "its tiles come from the others", lambda: page.loaded()
-                and {it["by"] for it in page.tiles()} == {"node 0", "node 1"})
-    good, bad = alike(page.tiles(), asking(nodes[1]))
-    look(f"{good} have the pixels that node 1 gives, {bad} don't", not bad)
+    look.wait("its tiles come from the others", lambda: page.loaded()
+              and {it["by"] for it in page.tiles()} == {"node 0", "node 1"}, 60)
+    see_pixels(look, page.tiles(), asking(nodes[1]), "node 1")
     (folder / "next.map").write_text(ACROSS % (2, "230 150 120"), encoding="utf-8")
     page.publish(folder / "next.map")
-    look.within(20, "two nodes publish", lambda: page.text("answer") == "Published as sequence 2."
-                and page.text("shown") == "2 of 2")
+    look.wait("two nodes publish", lambda: page.text("answer") == "Published as sequence 2."
+              and page.text("shown") == "2 of 2", 20)
     page.shoot("gone")
     nodes[2].start()
-    look.within(30, "the node is back, and at 2", lambda: "gone" not in page.text("nodes")
-                and lines_of(page)[2].startswith("node 2 published 2 "))
+    look.wait("the node is back, and at 2", lambda: "gone" not in page.text("nodes")
+              and lines_of(page)[2].startswith("node 2 published 2 "), 30)
     page.zoom(2)  # tiles that are shown already aren't asked again
-    look.within(60, "and draws again", lambda: page.loaded()
-                and {it["by"] for it in page.tiles()} == {f"node {k}" for k in range(NODES)})
+    look.wait("and draws again", lambda: page.loaded()
+              and {it["by"] for it in page.tiles()} == {f"node {k}" for k in range(NODES)}, 60)
 
 
 def look_at_links(page, look):
@@ -530,25 +513,25 @@ def look_at_links(page, look):
     page.click("tint")
     page.set_to("other", 1)
     page.click("compare")
-    look.within(30, "both maps carry their sequence", lambda: page.loaded("right")
-                and (page.text("left-number"), page.text("right-number")) == ("sequence 2", "sequence 1"))
+    look.wait("both maps carry their sequence", lambda: page.loaded("right")
+              and (page.text("left-number"), page.text("right-number")) == ("sequence 2", "sequence 1"), 30)
     where = page.run("const it = state.maps.left.map; return [it.getZoom(), it.getCenter().lng.toFixed(3)]")
     page.browser.get(page.run("return document.getElementById('link').href"))
     page.browser.refresh()
-    look.within(40, "the link shows the same", lambda: page.loaded("right")
-                and (page.text("left-number"), page.text("right-number")) == ("sequence 2", "sequence 1")
-                and page.run("const it = state.maps.left.map; return [it.getZoom(), "
-                             "it.getCenter().lng.toFixed(3)]") == where)
+    look.wait("the link shows the same", lambda: page.loaded("right")
+              and (page.text("left-number"), page.text("right-number")) == ("sequence 2", "sequence 1")
+              and page.run("const it = state.maps.left.map; return [it.getZoom(), "
+                           "it.getCenter().lng.toFixed(3)]") == where, 40)
 
 
 def try_other(page, nginx, look, wms):
     query = wms.partition("?")[2]
     page.browser.get(f"{nginx.address}?"
                      + urllib.parse.urlencode({"wms": f"other?{query}&" if query else "other"}))
-    look.within(20, "another WMS: its tiles are there", page.loaded)
-    look("its title is " + page.text("title"), page.text("title") not in ("", "wfarm"))
-    look("what only a farm has isn't shown", not any(page.browser.find_element(By.ID, it).is_displayed()
-                                                     for it in ("history", "farm", "publishing")))
+    look.wait("another WMS: its tiles are there", page.loaded, 20)
+    look.see("its title is " + page.text("title"), page.text("title") not in ("", "wfarm"))
+    look.see("what only a farm has isn't shown", not any(page.browser.find_element("id", it).is_displayed()
+                                                         for it in ("history", "farm", "publishing")))
     formats = page.run("return [...document.getElementById('format').options].map((it) => it.value)")
     base = wms.partition("?")[0]
 
@@ -558,26 +541,26 @@ def try_other(page, nginx, look, wms):
 
     for media in formats[:2]:
         page.set_to("format", media)
-        look.within(30, f"tiles as {media}", lambda: page.loaded()
-                    and ("FORMAT=" + media.replace("/", "%2F")) in page.tiles()[0]["path"])
+        look.wait(f"tiles as {media}", lambda: page.loaded()
+                  and ("FORMAT=" + media.replace("/", "%2F")) in page.tiles()[0]["path"], 30)
         tiles = page.tiles()
         if "pixmap" in media:
-            good, bad = alike(tiles, own)
-            look(f"{good} tiles have the server's pixels, {bad} don't", good and not bad)
+            see_pixels(look, tiles, own, "the server")
         else:
-            look("they aren't empty", any(len(set(base64.b64decode(it["rgb"]))) > 8 for it in tiles))
+            look.see("they aren't empty", any(len(set(base64.b64decode(it["rgb"]))) > 8 for it in tiles))
         page.shoot("other-" + re.sub(r"\W", "-", media))
     page.set_to("format", formats[0])
     for system in page.run("return [...document.getElementById('crs').options].map((it) => it.value)"):
         page.set_to("crs", system)
-        look.within(30, f"its tiles in {system}", lambda: page.loaded()
-                    and ("CRS=" + system.replace(":", "%3A")) in page.tiles()[0]["path"])
+        look.wait(f"its tiles in {system}", lambda: page.loaded()
+                  and ("CRS=" + system.replace(":", "%3A")) in page.tiles()[0]["path"], 30)
         drawn = sum(len(set(base64.b64decode(it["rgb"]))) > 8 for it in page.tiles())
-        look(f"something is drawn on {drawn} of them", drawn > 0)
+        look.see(f"something is drawn on {drawn} of them", drawn > 0)
         page.shoot("other-" + re.sub(r"\W", "-", system))
 
 
 def open_browser():
+    webdriver = of_debian("selenium.webdriver")
     options = webdriver.ChromeOptions()
     for word in ("--headless=new", "--no-sandbox", "--disable-gpu", "--ignore-certificate-errors",
                  "--window-size=1700,1300"):
@@ -616,11 +599,14 @@ def main():
     words = program_parser(__doc__)
     words.add_argument("--nodes", action="store_true", help="looks at nodes in processes of their own alone")
     words.add_argument("--shots", type=pathlib.Path, metavar="FOLDER", help="where screenshots go")
+    add_slack(words)
     words.add_argument("--wms", metavar="ADDRESS", help="another WMS")
     given = words.parse_args()
     if given.shots:
         given.shots.mkdir(parents=True, exist_ok=True)
-    look = Look()
+    if lacking := lacks("chromium", "chromedriver", "nginx", "openssl"):
+        return tell_missing(lacking)
+    look = Trial(given.slack)
     with tempfile.TemporaryDirectory(prefix="wfarm-viewer-") as name:
         page = Page(open_browser(), given.shots)
         try:
@@ -628,11 +614,10 @@ def main():
                 try_farm(page, look, pathlib.Path(name), given)
             try_nodes(page, look, pathlib.Path(name), given.program)
             said = page.errors()
-            look("nothing in the console: " + "; ".join(said[:3]), not said)
+            look.see("nothing in the console: " + "; ".join(said[:3]), not said)
         finally:
             page.browser.quit()
-    print(f"{look.good} as they should be, {look.wrong} not")
-    return 1 if look.wrong else 0
+    return look.conclude()
 
 
 if __name__ == "__main__":

@@ -1,6 +1,7 @@
 """Command lines of the scripts: their help, the program that they try, and what they say is missing."""
 
 import argparse
+import importlib
 import os
 import pathlib
 import shutil
@@ -36,6 +37,12 @@ def program_parser(document: str | None) -> argparse.ArgumentParser:
     return made
 
 
+def add_slack(to: argparse.ArgumentParser) -> None:
+    """Seconds for a machine that has other work."""
+    to.add_argument("--slack", type=float, default=0, metavar="SECONDS",
+                    help="what is added to each limit, on a machine with other work (0)")
+
+
 def program_at(path: str) -> str:
     """The path of a program that is there, from wherever it is used later."""
     if not os.access(path, os.X_OK):
@@ -64,6 +71,14 @@ def lacks(*programs: str, root: bool = False) -> list[str]:
     """Those of these programs that aren't here, and root where it is wanted."""
     wanted = ["root"] if root and os.geteuid() != 0 else []
     return wanted + [name for name in programs if shutil.which(name) is None]
+
+
+def of_debian(name: str) -> Any:
+    """A module that Debian packages for its own Python. Ends the script where it isn't there."""
+    try:
+        return importlib.import_module(name)
+    except ImportError:
+        sys.exit(tell_missing([f"Python's {name.partition('.')[0]}, which /usr/bin/python3 of Debian has"]))
 
 
 def tell_missing(things: Iterable[str]) -> int:

@@ -1,6 +1,7 @@
 """The built program on free ports of this machine: `wfarm serve`, or nodes and replicas in processes of their
 own."""
 
+import contextlib
 import pathlib
 import random
 import re
@@ -24,17 +25,21 @@ STATUS = re.compile(rb"node (\d+) published (\d+) proposal (none|running|(?:publ
 PUBLISHED = re.compile(rb"(?:node \d+|replica) published (\d+)\b.*\n")
 
 
+# what `free_ports` has returned: it is listened at later, and isn't returned twice
+GIVEN = set[int]()
+
+
 def free_ports(count: int) -> list[int]:
     """Ports that nothing listens at now, below those that the system gives to connections."""
-    ports = set[int]()
+    ports: list[int] = []
     while len(ports) < count:
         port = random.randrange(10_000, 32_000)
-        try:
-            socket.create_server(("127.0.0.1", port)).close()
-        except OSError:
-            continue
-        ports.add(port)
-    return list(ports)
+        if port not in GIVEN:
+            with contextlib.suppress(OSError):
+                socket.create_server(("127.0.0.1", port)).close()
+                ports.append(port)
+                GIVEN.add(port)
+    return ports
 
 
 def end(process: "subprocess.Popen[Any]") -> None:
@@ -208,14 +213,20 @@ class Node(Process):
         super().__init__(program, folder, clients, operator, ["node", "--peers", peers, *more], before)
         self.number, self.count, self.known_as = number, len(peers.split(",")), f"node {number}"
 
-    def init(self, farm: str, *more: str) -> "subprocess.CompletedProcess[str]":
+    def init(self, farm: str, *more: str) -> None:
         self.folder.mkdir(parents=True, exist_ok=True)
-        words = ["init", "--state", str(self.folder), "--farm", farm, "--id", str(self.number), "--nodes",
-                 str(self.count), *more]
-        ran = subprocess.run([self.program, *words], capture_output=True, text=True)
-        want(f"init of node {self.number}: status {ran.returncode}, {ran.stderr.strip()}",
+        self.to_folder("init", "--farm", farm, "--id", str(self.number), "--nodes", str(self.count), *more)
+
+    def clear(self) -> None:
+        """Ends a suspension as an operator does, in the folder of a node that is stopped."""
+        self.to_folder("clear")
+
+    def to_folder(self, command: str, *words: str) -> None:
+        """Does a command of the program, which has to end with status 0, to its folder."""
+        ran = subprocess.run([self.program, command, "--state", str(self.folder), *words],
+                             capture_output=True, text=True)
+        want(f"{command} of node {self.number}: status {ran.returncode}, {ran.stderr.strip()}",
              ran.returncode == 0)
-        return ran
 
     @property
     def tape(self) -> pathlib.Path:

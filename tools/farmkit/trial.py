@@ -9,19 +9,23 @@ from farmkit.wanted import Wrong, seconds_until
 
 
 class Trial:
-    """Counts what was seen that isn't as it should be."""
+    """Counts what was seen that isn't as it should be. To each time that is waited for, `slack` is added."""
 
-    def __init__(self) -> None:
-        self.wrong = 0
+    def __init__(self, slack: float = 0) -> None:
+        self.wrong, self.slack = 0, slack
 
     def see(self, what: str, holds: object, told: object = "") -> None:
         """A line of what was seen, and of what was told where it isn't as it should be."""
         print(f"{'ok   ' if holds else 'WRONG'} {what}" + ("" if holds else f": {told}"), flush=True)
         self.wrong += not holds
 
+    def same(self, what: str, got: object, wanted: object) -> None:
+        """A line of what was got, and of what was wanted where that is something else."""
+        self.see(what, got == wanted, f"got {got!r}, wanted {wanted!r}")
+
     def wait(self, what: str, is_so: Callable[[], object], seconds: float = 60) -> None:
         """A line of what is so within this time, with the seconds until then."""
-        took = seconds_until(is_so, seconds, 0.1)
+        took = seconds_until(is_so, seconds + self.slack, 0.1)
         self.see(what if took is None else f"{what} ({took:.1f} s)", took is not None)
 
     def conclude(self) -> int:

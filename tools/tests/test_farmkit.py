@@ -1,12 +1,14 @@
 """Tests of farmkit where no program is needed."""
 
+import contextlib
+import io
 import pathlib
 import random
 import socket
 import tempfile
 import unittest
 
-from farmkit import calls, documents, figures, measure, repository, tapes, wanted, web
+from farmkit import calls, command, documents, figures, measure, processes, repository, tapes, wanted, web
 from farmkit.folder import Folder, drawn, extremes
 from farmkit.ledger import Ledger
 from farmkit.mapfiles import map_of, picture_of
@@ -47,6 +49,10 @@ class Http(unittest.TestCase):
     def test_a_request_has_a_body_where_it_is_a_post(self) -> None:
         self.assertTrue(web.request("/x").startswith(b"GET /x HTTP/1.1\r\nHost: 127.0.0.1\r\n"))
         self.assertTrue(web.request("/x", b"ab").endswith(b"\r\nContent-Length: 2\r\n\r\nab"))
+
+    def test_a_port_is_given_once(self) -> None:
+        given = [*processes.free_ports(40), *processes.free_ports(40)]
+        self.assertEqual(len(set(given)), 80)
 
     def test_the_sequence_of_capabilities(self) -> None:
         self.assertEqual(web.sequence_of(b'<WMS version="1.3.0" updateSequence="41" x="2">'), 41)
@@ -187,6 +193,12 @@ class Others(unittest.TestCase):
         self.assertTrue(wanted.is_so_within(lambda: True, 0))
         with self.assertRaises(wanted.Wrong):
             wanted.until(lambda: False, 0.02)
+
+    def test_a_module_of_debian(self) -> None:
+        self.assertIs(command.of_debian("socket"), socket)
+        with contextlib.redirect_stderr(io.StringIO()) as told, self.assertRaises(SystemExit) as ended:
+            command.of_debian("nowhere.at_all")
+        self.assertEqual((ended.exception.code, told.getvalue()[:25]), (2, "missing: Python's nowhere"))
 
     def test_mutations_depend_on_the_draw_alone(self) -> None:
         for made in (Maps, Queries):

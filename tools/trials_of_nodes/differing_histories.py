@@ -9,12 +9,10 @@ and says so in log, health and status, with that peer, its address and a sequenc
 What a program says is left open where it may choose its words: a line is looked for by what it names.
 """
 
-import pathlib
 import re
-import subprocess
-import sys
 import time
 
+from farmkit.control import wfarmctl, write_nodes
 from farmkit.mapfiles import a_map, canonical, map_of
 from farmkit.nodes import KEPT, NO_MAJORITY, VOTES
 from farmkit.processes import free_ports
@@ -29,7 +27,6 @@ DIFFERENT = (2, 12, LENGTH)
 # behind has all
 SOON, CAUGHT_UP = 8, 20
 RESTARTS = 4
-WFARMCTL = pathlib.Path(__file__).resolve().parents[1] / "wfarmctl"
 
 
 # ---- histories
@@ -41,13 +38,15 @@ def history(nodes, differs, length=LENGTH):
     return [canonical(nodes.program, text) for text in maps]
 
 
-def begin_with(nodes, histories):
-    """Ends all nodes, and gives each a new folder with a tape of such a history."""
+def begin_with(nodes, histories, starting=()):
+    """Ends all nodes, gives each a new folder with a tape of such a history, and starts some."""
     nodes.kill_all()
     for i, texts in enumerate(histories):
         nodes.put(i)
         nodes.init(i)
         nodes[i].tape.write_bytes(publications(texts))
+    for i in starting:
+        nodes.start(i)
 
 
 def change(nodes, i, old, new):
@@ -98,17 +97,18 @@ def difference(nodes, i, others, seconds=SOON):
     return wrong
 
 
-def agreement(nodes, those, seconds=SOON):
-    """What is wrong with nodes that have to serve and vote within this time; the seconds it took."""
+def agreement(nodes, those, wrong, done):
+    """The seconds until these nodes serve and vote after what was done; what is wrong with them is noted."""
     def serves(i):
         return nodes.votes(i) == VOTES and nodes.health(i) == (200, "ok") and nodes.published(i) >= 0
 
     begun = time.time()
-    is_so_within(lambda: all(map(serves, those)), seconds)
+    is_so_within(lambda: all(map(serves, those)), SOON)
     took = round(time.time() - begun, 1)
-    return endings(nodes,
-                   those) + [f"node {i} doesn't serve: /votez {nodes.votes(i)}, /healthz {nodes.health(i)}, "
-                             f"published {nodes.published(i)}" for i in those if not serves(i)], took
+    lacks = [f"node {i} doesn't serve: /votez {nodes.votes(i)}, /healthz {nodes.health(i)}, "
+             f"published {nodes.published(i)}" for i in those if not serves(i)]
+    wrong += [f"{done}: {what}" for what in endings(nodes, those) + lacks]
+    return took
 
 
 def serving(nodes, those, published):
@@ -128,17 +128,14 @@ def publication(nodes, those, name):
     return [] if len(digests) == 1 else [f"{name}: {len(digests)} histories at {those}"]
 
 
-def rows(nodes, want_status):
-    """The states that `wfarmctl status` shows, and what is wrong with its own status."""
+def rows(nodes, wrong):
+    """The states that `wfarmctl status` shows of a farm that isn't well; that it says so else is noted."""
     file = nodes.folder / "nodes"
-    file.write_text("".join(f"127.0.0.1:{http} 127.0.0.1:{admin}\n" for http,
-                            admin in zip(nodes.http, nodes.admin)))
-    ended = subprocess.run([sys.executable, str(WFARMCTL), "--farm", str(file), "status"],
-                           capture_output=True, text=True)
-    states = [re.split(r"127\.0\.0\.1:\d+ +", row, maxsplit=1)[1] for row in ended.stdout.splitlines()[1:]]
-    last = [ended.stderr.strip()] if ended.stderr else []
-    return states + last, [] if ended.returncode == want_status else [f"wfarmctl status: {ended.returncode} "
-                                                                      f"{states}"]
+    write_nodes(file, nodes.each)
+    code, told, error = wfarmctl(nodes.program, file, "status")
+    states = [re.split(r"127\.0\.0\.1:\d+ +", row, maxsplit=1)[1] for row in told.splitlines()[1:]]
+    wrong += [] if code == 1 else [f"wfarmctl status: {code} {states}"]
+    return states + ([error.strip()] if error else [])
 
 
 def shown(states):
@@ -157,9 +154,7 @@ def changed(nodes):
     """a byte has changed on a disk: its node alone answers nobody, however often others start, and nobody is
     answered while another one is down"""
     x, y = history(nodes, False), history(nodes, True)
-    begin_with(nodes, [x, x, x])
-    for i in range(3):
-        nodes.start(i)
+    begin_with(nodes, [x, x, x], range(3))
     until(lambda: all(nodes.votes(i) == VOTES for i in range(3)))
     time.sleep(KEPT)
     nodes.kill(2)
@@ -173,10 +168,8 @@ def changed(nodes):
             nodes.start(i)
         if nodes[2].ended() is not None:
             nodes.start(2)
-        lacks, seconds = agreement(nodes, [0, 1])
-        took.append(seconds)
-        wrong += [f"restart {k}: {what}"
-                  for what in lacks + difference(nodes, 2, {0, 1}) + endings(nodes, [0, 1])]
+        took.append(agreement(nodes, [0, 1], wrong, f"restart {k}"))
+        wrong += [f"restart {k}: {what}" for what in difference(nodes, 2, {0, 1}) + endings(nodes, [0, 1])]
         for i in range(3):
             if nodes[i].ended() is not None:
                 nodes.start(i)
@@ -184,23 +177,20 @@ def changed(nodes):
             break
     want_none(wrong)
     wrong += publication(nodes, [0, 1], "with a changed one")
-    states, lacks = rows(nodes, 1)
-    wrong += lacks
+    states = rows(nodes, wrong)
     nodes.kill(1)
     wrong += [f"node 1 is down: {what}" for what in difference(nodes, 0, {2})]
     nodes.pause(2)
     time.sleep(SOON)
     wrong += [f"and node 2 is silent: {what}" for what in difference(nodes, 0, {2})]
     nodes.start(1)
-    lacks, seconds = agreement(nodes, [0, 1])
-    wrong += [f"node 1 is back: {what}" for what in lacks]
+    seconds = agreement(nodes, [0, 1], wrong, "node 1 is back")
     nodes.go_on(2)
     wrong += publication(nodes, [0, 1], "after it")
     nodes.kill(2)
     change(nodes, 2, y, x)
     nodes.start(2)
-    lacks, mended = agreement(nodes, [0, 1, 2])
-    wrong += [f"node 2's tape is mended: {what}" for what in lacks]
+    mended = agreement(nodes, [0, 1, 2], wrong, "node 2's tape is mended")
     return end(wrong,
                f"after {RESTARTS} restarts of both others they serve after {took} s, after one came back "
                f"{seconds} s, mended {mended} s", shown(states))
@@ -215,16 +205,15 @@ def split(nodes):
     nodes.start(1)
     wrong = difference(nodes, 0, {1}) + difference(nodes, 1, {0})
     wrong += ["a reader's connection stays open"] if answers(readers) else []
-    states, lacks = rows(nodes, 1)
-    wrong += lacks
+    states = rows(nodes, wrong)
     nodes.kill(1)
     time.sleep(SOON)
     wrong += [f"node 1 is down too: {what}" for what in difference(nodes, 0, {1})]
     want_none(wrong)
     nodes.start(1)
     nodes.start(2)
-    lacks, took = agreement(nodes, [0, 2])
-    wrong += [f"node 2 came: {what}" for what in lacks + difference(nodes, 1, {0, 2})
+    took = agreement(nodes, [0, 2], wrong, "node 2 came")
+    wrong += [f"node 2 came: {what}" for what in difference(nodes, 1, {0, 2})
               + publication(nodes, [0, 2], "by two of three")]
     return end(wrong + endings(nodes, range(3)),
                f"nobody serves; then two, {took} s after the third was started", shown(states))
@@ -234,9 +223,7 @@ def behind(nodes):
     """the same, and the third has only what is common to both: it agrees with neither yet and mixes nothing;
     once one of the two is ended, the others go on"""
     x, y = history(nodes, False), history(nodes, True)
-    begin_with(nodes, [x, y, x[:1]])
-    for i in range(3):
-        nodes.start(i)
+    begin_with(nodes, [x, y, x[:1]], range(3))
     begun, both = time.time(), 0
     while not (serve := serving(nodes, range(3), LENGTH)) and time.time() < begun + CAUGHT_UP:
         told = [i for i in (0, 1) if (answers(nodes.http[i]) or b"").startswith(b"HTTP")]
@@ -245,8 +232,7 @@ def behind(nodes):
     took = round(time.time() - begun, 1)
     wrong = [f"both node 0 and node 1 answered clients, {both} times"] if both else []
     wrong += endings(nodes, range(3))
-    states, lacks = rows(nodes, 1)
-    wrong += lacks
+    states = rows(nodes, wrong)
     if serve:
         said = f"{serve} serve after {took} s"
         wrong += [f"{serve} serve"] if len(serve) != 2 or 2 not in serve else difference(
@@ -259,10 +245,9 @@ def behind(nodes):
                          f"connected peers, majority {nodes.connected(2)}")
         nodes.kill(1, 0)
         nodes.start(0)
-        lacks, seconds = agreement(nodes, [0, 2])
-        wrong += [f"node 1 is ended, and node 0 started again: {what}" for what in lacks]
-        wrong += [] if is_so_within(lambda: nodes.published(2) == LENGTH,
-                                    SOON) else [f"node 2 published {nodes.published(2)}"]
+        seconds = agreement(nodes, [0, 2], wrong, "node 1 is ended, and node 0 started again")
+        if not is_so_within(lambda: nodes.published(2) == LENGTH, SOON):
+            wrong.append(f"node 2 published {nodes.published(2)}")
         wrong += publication(nodes, [0, 2], "by two of three")
         said += f"; without node 1, and node 0 started again, two serve after {seconds} s"
     mine = nodes.get(2, f"/history?from={LENGTH}", nodes.admin[2])[1].decode().split()[1:2]
@@ -274,38 +259,30 @@ def behind(nodes):
 def lagging(nodes):
     """one of another history, and one that lacks the last sequence: it and the third go on by themselves"""
     x, y = history(nodes, False), history(nodes, True)
-    begin_with(nodes, [x, y, x[:-1]])
-    for i in range(3):
-        nodes.start(i)
+    begin_with(nodes, [x, y, x[:-1]], range(3))
     begun = time.time()
     is_so_within(lambda: nodes.published(0) == nodes.published(2) == LENGTH, CAUGHT_UP)
     caught_up = round(time.time() - begun, 1)
-    lacks, _ = agreement(nodes, [0, 2])
-    wrong = lacks + difference(nodes, 1, {0, 2})
-    if not lacks:
+    wrong = []
+    agreement(nodes, [0, 2], wrong, "two agree")
+    if not wrong:
         wrong += publication(nodes, [0, 2], "by two of three")
-    states, unlike = rows(nodes, 1)
-    wrong += unlike
-    if lacks:
-        wrong.append(f"status: {shown(states)}")
+    wrong += difference(nodes, 1, {0, 2})
+    states = rows(nodes, wrong)
     return end(wrong + endings(nodes, range(3)), f"two serve {caught_up} s after the start", shown(states))
 
 
 def halves(nodes):
     """two nodes of one history, two of another, and the fifth is down: nobody is answered; then it comes"""
     x, y = history(nodes, False), history(nodes, True)
-    begin_with(nodes, [x, x, y, y, x])
-    for i in range(4):
-        nodes.start(i)
+    begin_with(nodes, [x, x, y, y, x], range(4))
     wrong = []
     for i in range(4):
         wrong += difference(nodes, i, {2, 3} if i < 2 else {0, 1})
-    states, lacks = rows(nodes, 1)
-    wrong += lacks
+    states = rows(nodes, wrong)
     want_none(wrong)
     nodes.start(4)
-    lacks, took = agreement(nodes, [0, 1, 4])
-    wrong += [f"node 4 came: {what}" for what in lacks]
+    took = agreement(nodes, [0, 1, 4], wrong, "node 4 came")
     for i in (2, 3):
         wrong += [f"node 4 came: {what}" for what in difference(nodes, i, {0, 1, 4})]
     wrong += publication(nodes, [0, 1, 4], "by three of five")
@@ -327,22 +304,19 @@ def alone(nodes):
         wrong.append(f"node 0: connected peers, majority {counts}, health {nodes.health(0)}")
     if nodes.publish(0, a_map("waits")) != 202:
         wrong.append("node 0 takes no map")
-    states, lacks = rows(nodes, 1)
-    wrong += lacks
+    states = rows(nodes, wrong)
     first = canonical(nodes.program, a_map("first"))
     changed_first = first.replace(b"first", b"First")
     change(nodes, 2, [first], [changed_first])
     nodes.start(2)
     wrong += [f"node 2 came with another history: {what}"
               for what in difference(nodes, 0, {2}) + difference(nodes, 2, {0})]
-    differ, lacks = rows(nodes, 1)
-    wrong += lacks
+    differ = rows(nodes, wrong)
     nodes.kill(2)
     change(nodes, 2, [changed_first], [first])
     if nodes[0].ended() is None:
         nodes.start(2)
-        lacks, took = agreement(nodes, [0, 2])
-        wrong += [f"node 2 came with its own: {what}" for what in lacks]
+        agreement(nodes, [0, 2], wrong, "node 2 came with its own")
         if not is_so_within(lambda: nodes.name(2, 2) == "waits", SOON):
             wrong.append(f"what waited isn't published: {nodes.name(2, 2)} at 2")
     return end(wrong + endings(nodes, range(3)), shown(states), shown(differ))

@@ -59,7 +59,8 @@ def two_maps(nodes, sequence):
 
 
 def compare_answers(nodes):
-    """Compares what all nodes answer at each sequence, now that all stand at one."""
+    """Compares what all nodes answer at each sequence, once all stand at one."""
+    nodes.level()
     for sequence in range(1, nodes.published(0) + 1):
         for what, ports in ((PICTURE % sequence, nodes.http), (f"/map?seq={sequence}", nodes.admin)):
             answers = {nodes.get(i, what, ports[i]) for i in range(NODES)}
@@ -188,7 +189,6 @@ def unmounted(nodes):
             nodes.kill(1)
             nodes.start_all([1])
         nodes.publish_whole(2, a_map("z"))
-        nodes.level()
         compare_answers(nodes)
         how = "by itself" if is_back else "when it was started"
         return f"halted for {SOON + WATCHED} s; after it was mounted again it went on {how}"
@@ -223,7 +223,6 @@ def room(nodes):
         counted = nodes.starts(2) - starts
         rejected = [line for line in nodes.lines(0, "dropped") + nodes.lines(2, "lost") if "refused" in line]
         nodes.start_all([1])
-        nodes.level()
         compare_answers(nodes)
         wrong = [f"{seconds} s from the room to the publication"] if seconds > SOON else []
         wrong += [f"{counted} starts more are counted, not one"] if counted != 1 else []
@@ -286,7 +285,6 @@ def exchanged(nodes):
     wrong = check_each(nodes, {name: ("node-1.tape", changed) for name, changed in changes.items()})
     want_none(wrong)
     nodes.publish_whole(1, a_map("after"))
-    nodes.level()
     compare_answers(nodes)
     return f"halted with each of {len(changes)} other tapes"
 
@@ -309,7 +307,6 @@ def rewritten(nodes):
     wrong = check_each(nodes, {name: ("farm", changed) for name, changed in changes.items()})
     want_none(wrong)
     nodes.publish_whole(1, a_map("after"))
-    nodes.level()
     compare_answers(nodes)
     return f"halted with each of {len(changes)} other files"
 
@@ -343,7 +340,6 @@ def completed(nodes):
     counted = nodes.starts(1) - starts
     nodes.start_all([2])
     nodes.publish_whole(1, a_map("third"))
-    nodes.level()
     compare_answers(nodes)
     want(f"{counted} starts more are counted, not one", counted == 1)
     return f"it went on after {seconds} s; one start more"

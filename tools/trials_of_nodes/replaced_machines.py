@@ -218,10 +218,49 @@ def stopped(nodes):
     return ", ".join(said)
 
 
-def dying(call, path, trace):
-    """The words before those of a program that is killed when it does this call to a file."""
+def joining(nodes):
+    """a folder that joins is killed at each call by which it writes what it was told, up to the one by which
+    it ceases to join: started again it goes on, and votes"""
+    if lacking := lacks("strace"):
+        return f"left out: {lacking}"
+    started_anew(nodes)
+    publish_at_each(nodes, "before")
+    killed, usual = 0, nodes[1].before
+    with Service(nodes.each):
+        for call in ("fsync", "rename", "openat"):
+            for when in range(1, WRITES + 1):
+                lose(nodes, 1)
+                nodes.kill(1)
+                path, trace = nodes[1].folder / "joins.new", nodes.folder / "trace"
+                # the service starts it so too, once it has noted its own replacement
+                nodes[1].before = dying(call, path, trace, when)
+                nodes.start(1)
+                until(lambda: nodes.health(1)[1].startswith("joins"))
+                running = begun_replacement(nodes, 1)
+                is_over = is_so_within(lambda: nodes[1].ended() not in (None, 0), 2 * PATIENCE, 0.02)
+                if not is_over:
+                    running.kill()
+                want(f"{call} {when}: it wasn't killed: {nodes.health(1)}", is_over)
+                killed += 1
+                nodes[1].before = usual
+                nodes.start(1)
+                running.communicate(timeout=4 * PATIENCE)
+                if running.returncode != 0:
+                    give_vote(nodes, 1)
+                publish_at_each(nodes, f"{call}{when}")
+                nodes.level()
+    return f"{killed} times killed, and each time it votes"
+
+
+# how often a process of a folder that joins one of three nodes writes `joins`, at most: two agreements, two
+# answers, and the empty text; the process before it has written that it was begun
+WRITES = 5
+
+
+def dying(call, path, trace, when=1):
+    """The words before those of a program that is killed when it does this call to a file, so many times."""
     return ["strace", "-D", "-f", "-q", "-P", str(path), "-e", f"trace={call}", "-e",
-            f"inject={call}:signal=SIGKILL:when=1", "-o", str(trace)]
+            f"inject={call}:signal=SIGKILL:when={when}", "-o", str(trace)]
 
 
 # the calls at which a node is killed, and of which file of its folder
@@ -275,4 +314,4 @@ def operators(nodes):
     return f"{', '.join(said)}; then {counts}"
 
 
-CASES = [replaced, rivals, stopped, resumed, operators]
+CASES = [replaced, rivals, stopped, joining, resumed, operators]

@@ -316,9 +316,7 @@ def cleared(nodes):
         nodes.kill(1)
     nodes.kill(0, 2)
     for i in range(NODES):
-        ran = nodes.run("clear", "--state", nodes[i].folder)
-        if ran.returncode != 0:
-            wrong.append(f"clear of node {i}: status {ran.returncode}, {ran.stderr.strip().splitlines()[:1]}")
+        nodes[i].clear()
     for i in range(NODES):
         nodes.start(i)
     if not is_so_within(lambda: all(nodes.health(i)[0] == 200 for i in range(NODES)), WATCHED):

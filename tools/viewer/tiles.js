@@ -6,7 +6,7 @@ const [id, done] = arguments;
   const layer = state.maps[id].tiles;
   for (const tile of Object.values(layer._tiles)) {
     const canvas = tile.el.querySelector('canvas');
-    const data = canvas.getContext('2d').getImageData(0, 0, 256, 256).data;
+    const data = canvas.getContext('2d', { willReadFrequently: true }).getImageData(0, 0, 256, 256).data;
     let text = '';
     for (let k = 0; k < data.length; k += 4) text += String.fromCharCode(data[k], data[k + 1], data[k + 2]);
     const { sequence } = layer.options;

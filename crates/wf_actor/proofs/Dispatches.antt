@@ -9,7 +9,7 @@ use Rattle.wf_wire.specs.Post.{AreAmong, logged}
 use Rattle.wf_wire.specs.declared.post.Post.{Post}
 use Rattle.wf_wire.specs.declared.target.Target.{Target}
 use Rattle.wf_actor.specs.Backlog.{most_messages, queued}
-use Rattle.wf_actor.specs.Sent.{AreMadeOf, ArePosted, AreSent, IsPostOf}
+use Rattle.wf_actor.specs.Sent.{AreMadeOf, AreQueued, AreSent, IsPostOf}
 use Rattle.wf_actor.proofs.Lists.{in_left, in_right, in_either, in_take, in_along}
 use Rattle.wf_actor.proofs.Lives.{logged_grows}
 
@@ -31,11 +31,11 @@ logged_same log log' none empty e = logged_grows log log' none e ∙ ap (λ (l :
 pub among_along : (messages all all' : List code.Message) → all' ≡ all → ∥ AreAmong messages all ∥₁ → ∥ AreAmong messages all' ∥₁
 among_along messages all all' e are = subst (λ (l : List code.Message). ∥ AreAmong messages l ∥₁) (sym e) are
 
-pub posted_none : (messages : List code.Message) (target : Target) (emitted : List code.Message) (posts : List Post) → messages ≡ [] → ArePosted messages target emitted posts posts
-posted_none messages target emitted posts none = subst (λ (l : List code.Message). ArePosted l target emitted posts posts) (sym none) refl
+pub posted_none : (messages : List code.Message) (target : Target) (emitted : List code.Message) (posts : List Post) → messages ≡ [] → AreQueued messages target emitted posts posts
+posted_none messages target emitted posts none = subst (λ (l : List code.Message). AreQueued l target emitted posts posts) (sym none) refl
 
 pub posted_one : (messages : List code.Message) (target : Target) (emitted : List code.Message) (posts posts' : List Post) (post : Post) → (messages ≡ [] → ⊥) → IsPostOf messages target emitted post →
-    posts' ≡ take most_messages (posts ++ post ∷ []) → ArePosted messages target emitted posts posts'
+    posts' ≡ take most_messages (posts ++ post ∷ []) → AreQueued messages target emitted posts posts'
 posted_one [] target emitted posts posts' post some is e = absurd (some refl)
 posted_one (m ∷ messages) target emitted posts posts' post some is e = (post, is, e)
 
@@ -45,7 +45,7 @@ outputs_among emitted outputs emitted' more = λ m there. in_along m (emitted ++
 
 module _ (waiting : List code.Message) (posts : List Post) (emitted : List code.Message) (sent : AreSent waiting posts emitted) where
   -- more was returned, and maybe posted
-  made_on : (outputs : List code.Message) (target : Target) (posts' : List Post) → ArePosted outputs target (emitted ++ outputs) posts posts' → AreMadeOf posts' (emitted ++ outputs)
+  made_on : (outputs : List code.Message) (target : Target) (posts' : List Post) → AreQueued outputs target (emitted ++ outputs) posts posts' → AreMadeOf posts' (emitted ++ outputs)
   unfolding AreMadeOf
   made_on [] target posts' same = λ post there.
       let was = sent.made post (in_along post posts' posts same there) in (was.0, was.1 ∙ sym (append-nil emitted))
@@ -59,11 +59,11 @@ module _ (waiting : List code.Message) (posts : List Post) (emitted : List code.
         ]
       ]
 
-  pub sent_on : (outputs : List code.Message) (target : Target) (posts' : List Post) (emitted' : List code.Message) → emitted' ≡ emitted ++ outputs → ArePosted outputs target emitted' posts posts' → AreSent waiting posts' emitted'
+  pub sent_on : (outputs : List code.Message) (target : Target) (posts' : List Post) (emitted' : List code.Message) → emitted' ≡ emitted ++ outputs → AreQueued outputs target emitted' posts posts' → AreSent waiting posts' emitted'
   sent_on outputs target posts' emitted' more posted =
       subst (λ (l : List code.Message). AreSent waiting posts' l) (sym more) (record {
         waits = λ m there. in_left m emitted outputs (sent.waits m there);
-        made = made_on outputs target posts' (subst (λ (l : List code.Message). ArePosted outputs target l posts posts') more posted);
+        made = made_on outputs target posts' (subst (λ (l : List code.Message). AreQueued outputs target l posts posts') more posted);
       })
 
   -- nothing more was returned

@@ -18,7 +18,7 @@ use Rattle.wf_actor.specs.Life.{all_from}
 use Rattle.wf_wire.specs.Post.{logged}
 use Rattle.wf_actor.specs.Backlog.{queued}
 use Rattle.wf_wire.specs.Target.{includes, reply_target}
-use Rattle.wf_actor.specs.Sent.{ArePosted}
+use Rattle.wf_actor.specs.Sent.{AreQueued}
 use Rattle.wf_actor.specs.declared.actor.Origin.{Origin}
 use Rattle.wf_actor.specs.declared.actor.Origin.TheVariants.{Own}
 use Rattle.wf_actor.specs.declared.process.Process.{Process}
@@ -51,7 +51,7 @@ pub record IsJustOpened {T : Type 0} {tapes : Tape T} (process : Process T tapes
 -- The messages wait to be given to those that they are for.
 pub record AreGone {T : Type 0} {tapes : Tape T} (outputs : List Message) (target : Target) (before after : Process T tapes) : Type 0 where
   pub queue : waiting_in after ≡ waiting_in before
-  pub posted : ArePosted outputs target (emitted_by after) (posts_in before) (posts_in after)
+  pub posted : AreQueued outputs target (emitted_by after) (posts_in before) (posts_in after)
 
 -- the same error, or none
 abbrev pub HaveOneEnd : {A B : Type 0} → Result A NodeFault → Result B NodeFault → Type 0

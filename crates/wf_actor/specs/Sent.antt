@@ -29,9 +29,9 @@ pub record IsPostOf (messages : List Message) (target : Target) (emitted : List 
 
 -- Messages wait, if there are any, in one post behind those before; where there is no room for it
 -- it is dropped.
-abbrev pub ArePosted : List Message → Target → List Message → List Post → List Post → Type 0
-ArePosted [] target emitted before after = after ≡ before
-ArePosted (m ∷ messages) target emitted before after =
+abbrev pub AreQueued : List Message → Target → List Message → List Post → List Post → Type 0
+AreQueued [] target emitted before after = after ≡ before
+AreQueued (m ∷ messages) target emitted before after =
     (post : Post) × IsPostOf (m ∷ messages) target emitted post × (after ≡ take most_messages (before ++ post ∷ []))
 
 -- each post was made when the node had returned the first of these

@@ -18,8 +18,8 @@
 //!   peer that it is said to come from, by `wf_wire` ([`Process::always_received`]).
 //! - An act is the node's step. Its messages wait in one post, which is dropped if 256 wait
 //!   already. The caller gives the first post to the connections of those that it is for
-//!   ([`Process::first_post`]), and [`Process::finish_post`] to the node itself, unless its queue is
-//!   full. Replies to a Prepare, an Accept or an Ask are for the node that sent it, all other
+//!   ([`Process::first_post`]), and [`Process::finish_post`] to the node itself, unless its queue
+//!   is full. Replies to a Prepare, an Accept or an Ask are for the node that sent it, all other
 //!   messages are for every node (`reply_target` of `wf_wire`).
 //! - [`Process::deliver`] delivers a message that came from a peer.
 //! - [`Process::serve`] answers a client as `wf_edge` does; a publish is an act.

@@ -1,7 +1,7 @@
 //! What a process has beside its node.
 
 ghost use Rattle.std.specs.Prelude.{◌≡◌, ◌≤◌, [], List, IfOk};
-ghost use Rattle.wf_actor.specs.Sent.{ArePosted};
+ghost use Rattle.wf_actor.specs.Sent.{AreQueued};
 ghost use Rattle.wf_def.specs.Definition.{Definition};
 ghost use Rattle.wf_wire.specs.Post.{AreAmong, logged};
 ghost use Rattle.wf_wms.specs.CachedPictures.{AllCached};
@@ -46,7 +46,7 @@ pub(crate) fn post(
     returned: &Past<Vec<Message>, usize>,
 )
     requires { ∥ AreAmong messages.items (logged returned.now.items) ∥₁ }
-    ensures { ArePosted messages.items target (logged returned.now.items)
+    ensures { AreQueued messages.items target (logged returned.now.items)
         posts.old.messages.items posts.new.messages.items }
 {
     if messages.is_empty() {

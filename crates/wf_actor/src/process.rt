@@ -56,8 +56,9 @@ impl<T: Tape> Process<T> {
     ghost use Rattle.wf_wire.specs.declared.post.Post as posting;
     ghost use Rattle.wf_wms.specs.CachedPictures.{AllCached};
 
-    /// Node `id` of `n` on its tape, with a cache for `pictures` pictures. Nothing waits. An error returns the tape: those of [`Node::open`], and P3 also if
-    /// there is no memory for the process, before the tape is read.
+    /// Node `id` of `n` on its tape, with a cache for `pictures` pictures. Nothing waits. An error
+    /// returns the tape: those of [`Node::open`], and P3 also if there is no memory for the
+    /// process, before the tape is read.
     pub fn open(
         alloc: Global,
         tape: T,
@@ -161,8 +162,8 @@ impl<T: Tape> Process<T> {
         self.backlog.len()
     }
 
-    /// Proposes a definition for the next sequence. Its messages wait for every node, the
-    /// process's own too. Err: N2 to N4 if the step table rejects the proposal, N5 if the node is halted, and
+    /// Proposes a definition for the next sequence. Its messages wait for every node, the process's
+    /// own too. Err: N2 to N4 if the step table rejects the proposal, N5 if the node is halted, and
     /// then nothing has changed; N1 if an allocation failed, N6 if the tape did.
     pub fn propose(&mut self, alloc: Global, canon: Canon) -> Result<(), NodeFault>
         ensures { IsActed T.Tape (action.Propose canon) origin.Own target.Everyone
@@ -189,8 +190,8 @@ impl<T: Tape> Process<T> {
         self.act(alloc, Input::CatchUp, Origin::Own, Target::Only(peer))
     }
 
-    /// Delivers the first of its own messages that wait to the node. The answer waits for whom it is
-    /// for. None: no message waits. Err: N1, and the message is lost, as if the network had lost
+    /// Delivers the first of its own messages that wait to the node. The answer waits for whom it
+    /// is for. None: no message waits. Err: N1, and the message is lost, as if the network had lost
     /// it; N5 or N6.
     pub fn handle_own(&mut self, alloc: Global) -> Option<Result<(), NodeFault>>
         ensures { ReceivesOwn T.Tape self.old result self.new }
@@ -305,9 +306,9 @@ impl<T: Tape> Process<T> {
         self.actor.always_lived();
     }
 
-    /// Always: what waits for the node itself, and what is in the posts that wait, the node returned
-    /// in this run; and what was given to it from a peer came on a connection from that peer. The
-    /// call does nothing.
+    /// Always: what waits for the node itself, and what is in the posts that wait, the node
+    /// returned in this run; and what was given to it from a peer came on a connection from that
+    /// peer. The call does nothing.
     pub fn always_received(&self)
         ensures sent { ∥ AreSent (waiting_in self.now) (posts_in self.now)
             (logged self.now.actor.emitted.items) ∥₁ }
@@ -327,8 +328,9 @@ impl<T: Tape + Drop> Process<T> {
     ghost use Rattle.wf_node.specs.Reopening.{HasStoredAs};
 
     /// The process of a node that was opened elsewhere, and has moved to its tape
-    /// (`Node::move_to`), with a cache for `pictures` pictures. Nothing waits. Its life is from the records that the tape has now. Err: there is no memory for
-    /// the process, and the node is dropped.
+    /// (`Node::move_to`), with a cache for `pictures` pictures. Nothing waits. Its life is from the
+    /// records that the tape has now. Err: there is no memory for the process, and the node is
+    /// dropped.
     pub fn of(alloc: Global, node: Node<T>, pictures: usize) -> Result<Process<T>, AllocError>
         requires nodes { node.n ≤ 64 }
         requires member { node.id < node.n }
@@ -355,9 +357,10 @@ impl<T: Tape + Drop> Process<T> {
     }
 
     /// The process in its next run, on a tape from which its node is opened, once its own has
-    /// failed: nothing waits, and this run is the last of those that have ended. It is the node that it was: it has stored what this node has, or that and the record
-    /// of the step within which the tape failed. That is compared, so it holds of any tape. Err:
-    /// the tape doesn't open, or isn't what this node left; it is dropped.
+    /// failed: nothing waits, and this run is the last of those that have ended. It is the node
+    /// that it was: it has stored what this node has, or that and the record of the step within
+    /// which the tape failed. That is compared, so it holds of any tape. Err: the tape doesn't
+    /// open, or isn't what this node left; it is dropped.
     pub fn reopen(&self, alloc: Global, tape: T) -> Result<Process<T>, ReopenFault>
         ensures opened { IfOk result (λ next.
             IsOpened T.Tape tape self.now.actor.node.id self.now.n next.actor.node) }

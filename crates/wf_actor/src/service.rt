@@ -16,8 +16,8 @@ impl<T: Tape> Process<T> {
 
     /// Serves one request, as [`wf_edge::serve_one_cached`] does: what reads is answered by the
     /// node's history and the pictures that are kept; POST /publish is an act if its checks pass,
-    /// and its messages wait for every node, whether or not the response is written. Where the reader
-    /// fails before the request is complete, nothing is written and nothing has changed.
+    /// and its messages wait for every node, whether or not the response is written. Where the
+    /// reader fails before the request is complete, nothing is written and nothing has changed.
     pub fn serve<S: Source, K: Sink>(
         &mut self,
         alloc: Global,

@@ -16,8 +16,8 @@ use Rattle.wf_listing.specs.declared.line.Rest.{Rest}
 use Rattle.wf_listing.specs.declared.line.Rest.TheVariants as rests
 use Rattle.wf_serve.specs.TapesTaken.{NumberedTape}
 use Rattle.wf_serve.specs.declared.survey.Survey.{Survey}
+use Rattle.wf_store.specs.Call.{Call}
 use Rattle.wf_model.specs.DurableState.{Record, Tried, Promised, Accepted, Published}
-use Rattle.wf_commands.specs.Contents.{Contents}
 use Rattle.wf_commands.specs.Folder.{AreListed, IsFolderListing, IsNextTape, ListingsAreDistinct, tape_line}
 use Rattle.wf_commands.specs.FolderEnd.{IsLastLine, own_line}
 use Rattle.wf_commands.specs.declared.folder_state.FolderState.{FolderState}
@@ -70,19 +70,19 @@ begins_at_0 (r ∷ records) count rest = begins_with 48 (record_lines 0 (r ∷ r
 abbrev IsFront : List ℕ → Type 0
 IsFront text = (text ≡ []) ⊎ (first_of text ≡ n)
 
-front_after : (contents : Contents) (path : List ℕ) (number : ℕ) (there : Bool) (before after : List NumberedTape) (old new : List ℕ) → IsFront old →
-    IsNextTape contents path number there before after old new → IsFront new
-front_after contents path number true before after old new (inl empty) (bytes, more, is) =
-    inr (ap first_of (more.is ∙ ap (λ front. front ++ (tape_line number ++ more.listing)) empty))
-front_after contents path number true before after old new (inr letter) (bytes, more, is) =
-    inr (ap first_of more.is ∙ begins_with 110 old (tape_line number ++ more.listing) letter)
-front_after contents path number false before after old new front (same, is) = subst IsFront (sym same) front
+front_after : (number : ℕ) (there : Bool) (before after : List NumberedTape) (calls later : List Call) (old new : List ℕ) → IsFront old →
+    IsNextTape number there before after calls later old new → IsFront new
+front_after number true before after calls later old new (inl empty) (bytes, more, is) =
+    inr (ap first_of (more.named.is ∙ ap (λ front. front ++ (tape_line number ++ more.named.listing)) empty))
+front_after number true before after calls later old new (inr letter) (bytes, more, is) =
+    inr (ap first_of more.named.is ∙ begins_with 110 old (tape_line number ++ more.named.listing) letter)
+front_after number false before after calls later old new front (same, unchanged, unread) = subst IsFront (sym same) front
 
-is_front : (contents : Contents) (path : List ℕ) (tapes : List Presence) (number : ℕ) (listed : List NumberedTape) (text : List ℕ) → AreListed contents path tapes number listed text → IsFront text
+is_front : (tapes : List Presence) (number : ℕ) (listed : List NumberedTape) (calls later : List Call) (text : List ℕ) → AreListed tapes number listed calls later text → IsFront text
 unfolding AreListed
-is_front contents path tapes zero listed text (none, empty) = inl empty
-is_front contents path tapes (suc number) listed text (before, front, are, next) =
-    front_after contents path number (is_there (slice_index_or tapes number Absent)) before listed front text (is_front contents path tapes number before front are) next
+is_front tapes zero listed calls later text (none, empty, unread) = inl empty
+is_front tapes (suc number) listed calls later text (before, front, middle, are, next) =
+    front_after number (is_there (slice_index_or tapes number Absent)) before listed middle later front text (is_front tapes number before calls middle front are) next
 
 abbrev BeginsWithLetter : List ℕ → Type 0
 BeginsWithLetter text = (first_of text ≡ n) ⊎ (first_of text ≡ w)
@@ -99,17 +99,17 @@ last_letter (states.Node file) line is = inr (ap first_of is)
 last_letter (states.Rejected cause) line (why, is) = inl (ap first_of is)
 last_letter (states.NodeRejected rejection) line (why, is) = inl (ap first_of is)
 
-folder_letter : (contents : Contents) (path : List ℕ) (survey : Survey) (text : List ℕ) → IsFolderListing contents path survey text → BeginsWithLetter text
-folder_letter contents path survey text listing =
-    elim (is_front contents path survey.tapes (length survey.tapes) listing.listed listing.front listing.are_listed) [
+folder_letter : (survey : Survey) (calls later : List Call) (text : List ℕ) → IsFolderListing survey calls later text → BeginsWithLetter text
+folder_letter survey calls later text listing =
+    elim (is_front survey.tapes (length survey.tapes) listing.listed listing.middle later listing.front listing.are_listed) [
       | inl empty ↦ subst BeginsWithLetter (sym (listing.is ∙ ap (λ front. front ++ listing.last) empty)) (last_letter listing.state listing.last listing.ends)
       | inr letter ↦ inl (ap first_of listing.is ∙ begins_with 110 listing.front listing.last letter)
     ]
 
 pub distinct : ListingsAreDistinct
-distinct bytes text contents path survey file folder =
+distinct bytes text survey calls later file folder =
     let zero_first : first_of text ≡ zero_digit = ap first_of file.lines ∙ begins_at_0 file.records (length file.left) file.rest in
-    elim (folder_letter contents path survey text folder) [
+    elim (folder_letter survey calls later text folder) [
       | inl letter ↦ (let clash : Some 48 ≡ Some 110 = sym zero_first ∙ letter in cc)
       | inr letter ↦ (let clash : Some 48 ≡ Some 119 = sym zero_first ∙ letter in cc)
     ]

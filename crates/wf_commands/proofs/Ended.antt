@@ -63,7 +63,7 @@ listing_reads_nothing contents path (Some sequence) old new result count done =
     writing_reads_nothing (HasMap (contents.file path) sequence) (IsWhyMapless (contents.file path) sequence) old new result count done
 listing_reads_nothing contents path None old new result count done = elim done [
   | inl file ↦ writing_reads_nothing (HasListing (contents.file path)) (IsWhyListless (contents.file path)) old new result count file
-  | inr folder ↦ writing_reads_nothing (HasFolderListing contents path folder.survey) (λ fault. Unit {0}) old new result count folder.listed
+  | inr folder ↦ writing_reads_nothing (HasFolderListing folder.survey folder.calls folder.later) (λ fault. Unit {0}) old new result count folder.listed
 ]
 
 module _ (serves : Serves) (contents : Contents) (input left old new : Option (List ℕ)) (reads reads_after writes writes_after : ℕ) (ending : Ending) where

@@ -1,5 +1,5 @@
 -- What a start on a folder would do.
-use Rattle.std.proofs.Common.{◌≡◌, ℕ, List, inl, inr, refl, subst, sym}
+use Rattle.std.proofs.Common.{◌≡◌, ℕ, List, ◌∷◌, inl, inr, refl, subst, sym}
 use Rattle.std.specs.Prelude.{Option, Some, None}
 use Rattle.wf_folder.specs.Admission.{IsStart}
 use Rattle.wf_folder.specs.NodeAdmission.{IsNodeRejection, IsNodeStart}
@@ -11,9 +11,23 @@ use Rattle.wf_serve.specs.StartCause.{IsStartCause}
 use Rattle.wf_serve.specs.TapesTaken.{AreSoundOr, NumberedTape}
 use Rattle.wf_serve.specs.declared.event.Cause.{Cause}
 use Rattle.wf_serve.specs.declared.survey.Survey.{Survey}
-use Rattle.wf_commands.specs.FolderEnd.{IsFarmState, IsNodeState, IsStateOf, tape_of}
+use Rattle.wf_store.specs.Call.{Call, failed, read}
+use Rattle.wf_store.specs.declared.file_name.FileName.TheVariants.{Farm}
+use Rattle.wf_commands.specs.FolderEnd.{IsFarmState, IsNodeState, IsOwnerOf, IsOwnerRead, IsStateOf, tape_of}
 use Rattle.wf_commands.specs.declared.folder_state.FolderState.{FolderState}
 use Rattle.wf_commands.specs.declared.folder_state.FolderState.TheVariants as states
+
+-- ---- whose the folder is, by what was read of its file `farm`
+
+pub owner_found : (bytes text : List ℕ) (owner : Option NodeFile) (calls later : List Call) → text ≡ bytes → IsOwnerOf (Some text) owner → later ≡ read Farm (Some bytes) ∷ calls →
+    IsOwnerRead owner calls later
+owner_found bytes text owner calls later same is call = inl (Some bytes, subst (λ (t : List ℕ). IsOwnerOf (Some t) owner) same is, call)
+
+pub owner_absent : (calls later : List Call) → later ≡ read Farm None ∷ calls → IsOwnerRead None calls later
+owner_absent calls later call = inl (None, tt, call)
+
+pub owner_unread : (calls later : List Call) → later ≡ failed ∷ calls → IsOwnerRead None calls later
+owner_unread calls later call = inr (refl, call)
 
 module _ (survey : Survey) where
   pub of_farm : (owner : Option NodeFile) (cause : Option Cause) (state : FolderState) → owner ≡ None →

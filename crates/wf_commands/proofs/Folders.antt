@@ -1,8 +1,8 @@
 -- The listings of a folder's tapes.
-use Rattle.std.proofs.Common.{◌≡◌, ◌∙◌, ◌+◌, ◌++◌, ℕ, suc, Bool, true, false, List, [], ◌∷◌, take, ap, arith, refl, subst, sym}
+use Rattle.std.proofs.Common.{◌≡◌, ◌∙◌, ◌+◌, ◌≤◌, ◌++◌, ℕ, suc, Bool, true, false, List, [], ◌∷◌, take, ap, arith, refl, subst, sym}
 use Rattle.std.proofs.lemmas.List.{append_assoc}
 use Rattle.std.specs.Io.KnownBytes.{Appends}
-use Rattle.std.specs.Prelude.{Option, Result, Ok, Err, IfOk, IfSome, if◌then◌else◌, length, slice_index_or}
+use Rattle.std.specs.Prelude.{Option, Result, Ok, Err, IfOk, Some, if◌then◌else◌, length, slice_index_or}
 use Rattle.wf_folder.specs.Admission.{is_there}
 use Rattle.wf_folder.specs.declared.admission.Start.TheVariants as starts
 use Rattle.wf_folder.specs.declared.farm_file.FarmFile.{FarmFile}
@@ -11,17 +11,18 @@ use Rattle.wf_folder.specs.declared.node_file.NodeFile.{NodeFile}
 use Rattle.wf_folder.specs.declared.presence.Presence.{Presence}
 use Rattle.wf_folder.specs.declared.presence.Presence.TheVariants.{Absent}
 use Rattle.wf_listing.specs.Listing.{IsListing}
+use Rattle.wf_listing.specs.TapeBytes.{most_tape_bytes}
 use Rattle.wf_listing.specs.declared.fault.TapeReadFault.{TapeReadFault}
 use Rattle.wf_stream.specs.KnownTheorems.{keeps_same}
-use Rattle.wf_serve.specs.Folder.{tape_path}
 use Rattle.wf_serve.specs.LongestTape.{HasTakenTapes}
 use Rattle.wf_serve.specs.TapesTaken.{AreSoundOr, NumberedTape}
 use Rattle.wf_serve.specs.declared.event.Cause.{Cause}
 use Rattle.wf_serve.specs.declared.survey.Survey.{Survey}
 use Rattle.wf_serve.specs.declared.tape_check.TapeCheck.{TapeCheck}
-use Rattle.wf_commands.specs.Contents.{Contents}
+use Rattle.wf_store.specs.Call.{Call, read}
+use Rattle.wf_store.specs.declared.file_name.FileName.TheVariants.{NodeTape}
 use Rattle.wf_commands.specs.Folder.{AreListed, AreTakenUpTo, HasListingAppended, HasTakenNext, HasLastLine, IsFolderListed, IsFolderListing, IsListedAndTaken, IsNamedAndTaken, IsNamedListing, IsNextTape, IsNextTaken, HasRejection, tape_line}
-use Rattle.wf_commands.specs.FolderEnd.{IsStateOf, is_own, own_tapes, new_line, node_line, own_line, rejection_line, taken_over_line}
+use Rattle.wf_commands.specs.FolderEnd.{IsOwnerRead, IsStateOf, is_own, own_tapes, new_line, node_line, own_line, rejection_line, taken_over_line}
 use Rattle.wf_commands.specs.declared.fault.RunFault.{RunFault}
 use Rattle.wf_commands.specs.declared.fault.RunFault.TheVariants as faults
 use Rattle.wf_commands.specs.declared.folder_state.FolderState.{FolderState}
@@ -32,50 +33,50 @@ failed fault = Err fault
 
 -- ---- the tapes so far
 
-module _ (contents : Contents) (path : List ℕ) (tapes : List Presence) (owner : Option NodeFile) where
+module _ (tapes : List Presence) (owner : Option NodeFile) (calls : List Call) where
   -- before the first
-  pub no_tapes : (check : TapeCheck) (text : List ℕ) → HasTakenTapes [] check → text ≡ [] → AreTakenUpTo contents path tapes 0 owner check text
+  pub no_tapes : (check : TapeCheck) (text : List ℕ) → HasTakenTapes [] check → text ≡ [] → AreTakenUpTo tapes 0 owner check calls calls text
   unfolding AreListed own_tapes
-  no_tapes check text none empty = record { listed = []; are_listed = (refl, empty); taken = none }
+  no_tapes check text none empty = record { listed = []; are_listed = (refl, empty, refl); taken = none }
 
-  next_listed : (number : ℕ) (before after : List NumberedTape) (front text : List ℕ) → AreListed contents path tapes number before front →
-      IsNextTape contents path number (is_there (slice_index_or tapes number Absent)) before after front text → AreListed contents path tapes (suc number) after text
+  next_listed : (number : ℕ) (before after : List NumberedTape) (middle later : List Call) (front text : List ℕ) → AreListed tapes number before calls middle front →
+      IsNextTape number (is_there (slice_index_or tapes number Absent)) before after middle later front text → AreListed tapes (suc number) after calls later text
   unfolding AreListed
-  next_listed number before after front text listed next = (before, front, listed, next)
+  next_listed number before after middle later front text listed next = (before, front, middle, listed, next)
 
-  up_to_next : (number : ℕ) (listed : List NumberedTape) (text : List ℕ) → AreListed contents path tapes (suc number) listed text → AreListed contents path tapes (number + 1) listed text
-  up_to_next number listed text are =
+  up_to_next : (number : ℕ) (listed : List NumberedTape) (later : List Call) (text : List ℕ) → AreListed tapes (suc number) listed calls later text → AreListed tapes (number + 1) listed calls later text
+  up_to_next number listed later text are =
       let same : suc number ≡ number + 1 = omega arith in
-      subst (λ (n : ℕ). AreListed contents path tapes n listed text) same are
+      subst (λ (n : ℕ). AreListed tapes n listed calls later text) same are
 
-  more_listed : (number : ℕ) (before after : List NumberedTape) (there : Bool) (front text : List ℕ) → is_there (slice_index_or tapes number Absent) ≡ there →
-      AreListed contents path tapes number before front → IsNextTape contents path number there before after front text → AreListed contents path tapes (number + 1) after text
-  more_listed number before after there front text is listed next =
-      up_to_next number after text (next_listed number before after front text listed (subst (λ (b : Bool). IsNextTape contents path number b before after front text) (sym is) next))
+  more_listed : (number : ℕ) (before after : List NumberedTape) (there : Bool) (middle later : List Call) (front text : List ℕ) → is_there (slice_index_or tapes number Absent) ≡ there →
+      AreListed tapes number before calls middle front → IsNextTape number there before after middle later front text → AreListed tapes (number + 1) after calls later text
+  more_listed number before after there middle later front text is listed next =
+      up_to_next number after later text (next_listed number before after middle later front text listed (subst (λ (b : Bool). IsNextTape number b before after middle later front text) (sym is) next))
 
   -- one more that is there, and one that isn't
-  pub one_more : (number : ℕ) (there : Bool) (check after : TapeCheck) (old new : List ℕ) → is_there (slice_index_or tapes number Absent) ≡ there →
-      AreTakenUpTo contents path tapes number owner check old → IsNextTaken contents path number there owner check after old new → AreTakenUpTo contents path tapes (number + 1) owner after new
-  one_more number true check after old new is have next = record {
+  pub one_more : (number : ℕ) (there : Bool) (check after : TapeCheck) (middle later : List Call) (old new : List ℕ) → is_there (slice_index_or tapes number Absent) ≡ there →
+      AreTakenUpTo tapes number owner check calls middle old → IsNextTaken number there owner check after middle later old new → AreTakenUpTo tapes (number + 1) owner after calls later new
+  one_more number true check after middle later old new is have next = record {
     listed = (number, next.bytes) ∷ have.listed;
-    are_listed = more_listed number have.listed ((number, next.bytes) ∷ have.listed) true old new is have.are_listed (next.bytes, next.appended, refl);
+    are_listed = more_listed number have.listed ((number, next.bytes) ∷ have.listed) true middle later old new is have.are_listed (next.bytes, next.listed, refl);
     taken = next.taken have.listed have.taken;
   }
-  one_more number false check after old new is have (same, unchanged) = record {
+  one_more number false check after middle later old new is have (same, unchanged, unread) = record {
     listed = have.listed;
-    are_listed = more_listed number have.listed have.listed false old new is have.are_listed (same, refl);
+    are_listed = more_listed number have.listed have.listed false middle later old new is have.are_listed (same, refl, unread);
     taken = subst (λ (c : TapeCheck). HasTakenTapes (own_tapes owner have.listed) c) (sym unchanged) have.taken;
   }
 
 -- by whether it is there
-pub next_there : (result : Result TapeCheck TapeReadFault) (contents : Contents) (path : List ℕ) (number : ℕ) (there : Bool) (owner : Option NodeFile) (check : TapeCheck) (old new : List ℕ) → there ≡ true →
-    IfOk result (λ after. IsListedAndTaken contents path number owner check after old new) → IfOk result (λ after. IsNextTaken contents path number there owner check after old new)
-next_there result contents path number there owner check old new is more =
-    subst (λ (b : Bool). IfOk result (λ after. IsNextTaken contents path number b owner check after old new)) (sym is) more
+pub next_there : (result : Result TapeCheck TapeReadFault) (number : ℕ) (there : Bool) (owner : Option NodeFile) (check : TapeCheck) (calls later : List Call) (old new : List ℕ) → there ≡ true →
+    IfOk result (λ after. IsListedAndTaken number owner check after calls later old new) → IfOk result (λ after. IsNextTaken number there owner check after calls later old new)
+next_there result number there owner check calls later old new is more =
+    subst (λ (b : Bool). IfOk result (λ after. IsNextTaken number b owner check after calls later old new)) (sym is) more
 
-pub next_absent : (contents : Contents) (path : List ℕ) (number : ℕ) (there : Bool) (owner : Option NodeFile) (check : TapeCheck) (text : List ℕ) → there ≡ false →
-    IsNextTaken contents path number there owner check check text text
-next_absent contents path number there owner check text is = subst (λ (b : Bool). IsNextTaken contents path number b owner check check text text) (sym is) (refl, refl)
+pub next_absent : (number : ℕ) (there : Bool) (owner : Option NodeFile) (check : TapeCheck) (calls : List Call) (text : List ℕ) → there ≡ false →
+    IsNextTaken number there owner check check calls calls text text
+next_absent number there owner check calls text is = subst (λ (b : Bool). IsNextTaken number b owner check check calls calls text text) (sym is) (refl, refl, refl)
 
 -- ---- the check of those that have to be sound
 
@@ -113,16 +114,11 @@ pub named_and_taken : (bytes : List ℕ) (number : ℕ) (owner : Option NodeFile
     HasTakenNext owner number bytes check after → IsNamedAndTaken bytes number owner check after old new
 named_and_taken bytes number owner check after old new named taken = record { named = named; taken = taken }
 
-pub appended : (contents : Contents) (path file bytes : List ℕ) (number : ℕ) (owner : Option NodeFile) (check after : TapeCheck) (old new : List ℕ) → file ≡ tape_path path number →
-    IfSome (contents.file file) (λ known. bytes ≡ known) → IsNamedAndTaken bytes number owner check after old new → IsListedAndTaken contents path number owner check after old new
-appended contents path file bytes number owner check after old new at known more = record {
+pub appended : (bytes : List ℕ) (number : ℕ) (owner : Option NodeFile) (check after : TapeCheck) (calls later : List Call) (old new : List ℕ) → later ≡ read (NodeTape number) (Some bytes) ∷ calls →
+    length bytes ≤ most_tape_bytes → IsNamedAndTaken bytes number owner check after old new → IsListedAndTaken number owner check after calls later old new
+appended bytes number owner check after calls later old new call short more = record {
   bytes = bytes;
-  appended = record {
-    listing = more.named.listing;
-    known = subst (λ f. IfSome (contents.file f) (λ known. bytes ≡ known)) at known;
-    listed = more.named.listed;
-    is = more.named.is;
-  };
+  listed = record { call = call; short = short; named = more.named };
   taken = more.taken;
 }
 
@@ -151,13 +147,14 @@ module _ (old new : List ℕ) where
   rejection_ended rejection more = record { last = rejection_line more.why; ends = (more.why, refl); is = more.is }
 
 -- with it the listing is whole
-pub whole : (contents : Contents) (path : List ℕ) (survey : Survey) (owner : Option NodeFile) (check : TapeCheck) (cause : Option Cause) (front new : List ℕ) (state : FolderState) →
-    IfSome (contents.owner path) (λ known. owner ≡ known) → AreTakenUpTo contents path survey.tapes (length survey.tapes) owner check front →
+pub whole : (survey : Survey) (owner : Option NodeFile) (check : TapeCheck) (cause : Option Cause) (calls middle later : List Call) (front new : List ℕ) (state : FolderState) →
+    IsOwnerRead owner calls middle → AreTakenUpTo survey.tapes (length survey.tapes) owner check middle later front →
     ((tapes : List NumberedTape) → HasTakenTapes tapes check → AreSoundOr tapes cause) → ((tapes : List NumberedTape) → AreSoundOr tapes cause → IsStateOf survey owner tapes state) →
-    HasLastLine state front new → IsFolderListing contents path survey new
-whole contents path survey owner check cause front new state known have finds state_of more = record {
+    HasLastLine state front new → IsFolderListing survey calls later new
+whole survey owner check cause calls middle later front new state is_owner have finds state_of more = record {
   owner = owner;
-  known = known;
+  middle = middle;
+  is_owner = is_owner;
   listed = have.listed;
   front = front;
   are_listed = have.are_listed;
@@ -170,14 +167,13 @@ whole contents path survey owner check cause front new state known have finds st
 
 -- ---- what is written of it
 
-pub folder_whole : (contents : Contents) (path : List ℕ) (survey : Survey) (text : List ℕ) (old new : Option (List ℕ)) (result : Unit {0}) → IsFolderListing contents path survey text →
-    Appends old new text → IsFolderListed contents path survey old new (Ok result)
-folder_whole contents path survey text old new result listing appends = (text, listing, appends)
+pub folder_whole : (survey : Survey) (calls later : List Call) (text : List ℕ) (old new : Option (List ℕ)) (result : Unit {0}) → IsFolderListing survey calls later text →
+    Appends old new text → IsFolderListed survey calls later old new (Ok result)
+folder_whole survey calls later text old new result listing appends = (text, listing, appends)
 
-pub folder_in_part : (contents : Contents) (path : List ℕ) (survey : Survey) (text : List ℕ) (count : ℕ) (old new : Option (List ℕ)) → IsFolderListing contents path survey text →
-    Appends old new (take count text) → IsFolderListed contents path survey old new (failed faults.Write)
-folder_in_part contents path survey text count old new listing appends = (text, listing, (count, appends))
+pub folder_in_part : (survey : Survey) (calls later : List Call) (text : List ℕ) (count : ℕ) (old new : Option (List ℕ)) → IsFolderListing survey calls later text →
+    Appends old new (take count text) → IsFolderListed survey calls later old new (failed faults.Write)
+folder_in_part survey calls later text count old new listing appends = (text, listing, (count, appends))
 
-pub folder_unread : (contents : Contents) (path : List ℕ) (survey : Survey) (old : Option (List ℕ)) (fault : TapeReadFault) →
-    IsFolderListed contents path survey old old (failed (faults.Tape fault))
-folder_unread contents path survey old fault = (tt, keeps_same old)
+pub folder_unread : (survey : Survey) (calls later : List Call) (old : Option (List ℕ)) (fault : TapeReadFault) → IsFolderListed survey calls later old old (failed (faults.Tape fault))
+folder_unread survey calls later old fault = (tt, keeps_same old)

@@ -1,5 +1,5 @@
 -- From a tape's bytes to what is written of its file.
-use Rattle.std.proofs.Common.{◌≡◌, ◌∙◌, ◌<◌, ℕ, List, length, take, refl, sym, subst, inl, inr}
+use Rattle.std.proofs.Common.{◌≡◌, ◌∙◌, ◌<◌, ℕ, List, [], length, take, refl, sym, subst, inl, inr}
 use Rattle.std.specs.Io.KnownBytes.{Appends}
 use Rattle.std.specs.Prelude.{Option, Result, Ok, Err, Some, None, IfSome, Vec}
 use Rattle.std.specs.declared.alloc.Global.{Global}
@@ -9,7 +9,10 @@ use Rattle.wf_listing.specs.TapeBytes.{most_tape_bytes}
 use Rattle.wf_listing.specs.declared.fault.TapeReadFault.{TapeReadFault}
 use Rattle.wf_listing.specs.declared.fault.TapeReadFault.TheVariants as tapes
 use Rattle.wf_stream.specs.KnownTheorems.{keeps_same}
+use Rattle.wf_serve.specs.Start.{IsSurveyed}
 use Rattle.wf_serve.specs.declared.survey.Survey.{Survey}
+use Rattle.wf_store.specs.Call.{Call, OnlyReads}
+use Rattle.wf_store.specs.CallTheorems.{reads_both}
 use Rattle.wf_commands.specs.Contents.{Contents}
 use Rattle.wf_commands.specs.Folder.{IsFolderListed, IsTapeDone}
 use Rattle.wf_commands.specs.Run.{HasListing, HasMap, IsListed, IsMapWritten, IsWhyListless, IsWhyMapless}
@@ -117,17 +120,19 @@ pub file_done : (contents : Contents) (path : List ℕ) (old new : Option (List 
 file_done contents path old new result listed = inl listed
 
 -- the content of a folder is no file's
-no_content : {A : Type 0} (content : Option (List ℕ)) (found : Option A) (there : A) → found ≡ Some there → IfSome content (λ _. found ≡ None) → content ≡ None
+pub no_content : {A : Type 0} (content : Option (List ℕ)) (found : Option A) (there : A) → found ≡ Some there → IfSome content (λ _. found ≡ None) → content ≡ None
 no_content None found there is none = refl
 no_content (Some known) found there is none = let clash : Some there ≡ None = sym is ∙ none in cc
 
-pub folder_done : (contents : Contents) (path : List ℕ) (found : Option Survey) (there : Survey) (old new : Option (List ℕ)) (result : Result (Unit {0}) RunFault) → found ≡ Some there →
-    IfSome (contents.file path) (λ _. found ≡ None) → length there.tapes ≡ 64 → IfSome (contents.folder path) (λ known. there ≡ known) →
-    IsFolderListed contents path there old new result → IsTapeDone contents path None old new result
-folder_done contents path found there old new result is none size known listed = inr (record {
-  no_file = no_content (contents.file path) found there is none;
-  survey = there;
-  size = size;
-  known = known;
+pub folder_done : (contents : Contents) (path : List ℕ) (survey : Survey) (first calls later : List Call) (old new : Option (List ℕ)) (result : Result (Unit {0}) RunFault) → first ≡ [] →
+    contents.file path ≡ None → IsSurveyed survey first calls → OnlyReads first calls → OnlyReads calls later → IsFolderListed survey calls later old new result →
+    IsTapeDone contents path None old new result
+folder_done contents path survey first calls later old new result empty none surveyed seen reads listed = inr (record {
+  no_file = none;
+  survey = survey;
+  calls = calls;
+  surveyed = subst (λ (before : List Call). IsSurveyed survey before calls) empty surveyed;
+  later = later;
+  reads = subst (λ (before : List Call). OnlyReads before later) empty (reads_both first calls later seen reads);
   listed = listed;
 })

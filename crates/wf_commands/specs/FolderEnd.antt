@@ -2,6 +2,7 @@
 use Rattle.std.specs.Prelude.{◌≡◌, ◌==◌, ◌⊎◌, ◌++◌, Bool, true, if◌then◌else◌, List, [], ◌∷◌, Option, Some, None, ℕ, codes, decimal, slice_index_or}
 use Rattle.wf_folder.specs.Admission.{IsStart}
 use Rattle.wf_folder.specs.NodeAdmission.{IsNodeRejection, IsNodeStart}
+use Rattle.wf_folder.specs.NodeFile.{IsNodeFile, IsTextOf}
 use Rattle.wf_folder.specs.declared.node_admission.NodeFound.TheVariants as nodes_found
 use Rattle.wf_serve.specs.declared.survey.Survey.{Survey}
 use Rattle.wf_folder.specs.declared.node_file.NodeFile.{NodeFile}
@@ -13,6 +14,8 @@ use Rattle.wf_folder.specs.declared.admission.Start.{Start}
 use Rattle.wf_folder.specs.declared.admission.Start.TheVariants as starts
 use Rattle.wf_serve.specs.StartCause.{IsStartCause}
 use Rattle.wf_serve.specs.TapesTaken.{AreSound, IsTapeCause, NumberedTape}
+use Rattle.wf_store.specs.Call.{Call, failed, read}
+use Rattle.wf_store.specs.declared.file_name.FileName.TheVariants.{Farm}
 use Rattle.wf_commands.specs.declared.folder_state.FolderState.{FolderState}
 use Rattle.wf_commands.specs.declared.folder_state.FolderState.TheVariants as states
 
@@ -40,6 +43,20 @@ rejection_line why = codes "not whole, " ++ why ++ codes "\n"
 -- the tape of a node in a folder
 abbrev pub tape_of : ℕ → Survey → Presence
 tape_of node survey = slice_index_or survey.tapes node Absent
+
+-- ---- whose the folder is
+
+-- the node that has the folder for itself, by the bytes of its file `farm`: none if it has no such
+-- file, or if it isn't a node's
+abbrev pub IsOwnerOf : Option (List ℕ) → Option NodeFile → Type 0
+IsOwnerOf None None = Unit {0}
+IsOwnerOf None (Some file) = ⊥
+IsOwnerOf (Some bytes) None = (file : NodeFile) → IsNodeFile file → ¬ IsTextOf bytes file
+IsOwnerOf (Some bytes) (Some file) = IsNodeFile file × IsTextOf bytes file
+
+-- the file was read, and says so; or it can't be read, and nobody is known to
+abbrev pub IsOwnerRead : Option NodeFile → List Call → List Call → Type 0
+IsOwnerRead owner calls later = ((bytes : Option (List ℕ)) × IsOwnerOf bytes owner × (later ≡ read Farm bytes ∷ calls)) ⊎ ((owner ≡ None) × (later ≡ failed ∷ calls))
 
 -- ---- what a start on a folder would do: of a node that has it for itself, or of a farm's nodes
 

@@ -1,40 +1,48 @@
 //! The listing of a folder's tapes.
-ghost use Rattle.std.specs.Prelude.{◌≡◌, ◌<◌, ◌++◌, [], IfOk, OnOk, length, string_bytes};
+ghost use Rattle.std.specs.Prelude.{◌≡◌, ◌≤◌, ◌<◌, ◌++◌, [], ◌∷◌, Some, IfOk, IfSome, OnOk, length, string_bytes};
 ghost use Rattle.wf_commands.specs.FailureCount.{CountsWrites, FailsLast};
 ghost use Rattle.wf_commands.specs.Folder.{AreTakenUpTo, HasListingAppended, HasTakenNext, HasLastLine, IsFolderListed, IsFolderListing, IsListedAndTaken, IsNamedAndTaken, IsNamedListing, IsNextTaken, HasRejection, ListingsAreDistinct, tape_line};
-ghost use Rattle.wf_commands.specs.FolderEnd.{is_own, node_line, own_line, rejection_line, taken_over_line};
+ghost use Rattle.wf_commands.specs.FolderEnd.{IsOwnerOf, IsOwnerRead, is_own, node_line, own_line, rejection_line, taken_over_line};
 ghost use Rattle.wf_folder.specs.Admission.{is_there};
-ghost use Rattle.wf_serve.specs.Folder.{tape_path};
+ghost use Rattle.wf_folder.specs.NodeFile.{IsNodeFile};
+ghost use Rattle.wf_listing.specs.TapeBytes.{most_tape_bytes};
+ghost use Rattle.wf_store.specs.Call.{OnlyReads, read};
+ghost use Rattle.wf_store.specs.declared.file_name.FileName.TheVariants.{NodeTape};
 
 use crate::fault::RunFault;
 use crate::folder_start::state_of;
 use crate::folder_state::FolderState;
-use crate::tapes::Tapes;
+use crate::tapes::whole_tape;
 use std::alloc::{AllocError, Global};
 use std::fmt::Write;
 use wf_folder::{Beginning, NodeFile, NodeRejection, Presence, Start};
-use wf_listing::{TapeReadFault, list};
+use wf_listing::{MOST_TAPE_BYTES, TapeReadFault, list};
 use wf_serve::{Cause, StartFault, Survey, TapeCheck};
+use wf_store::{FileName, FolderFault, Store};
 use wf_stream::{Sink, write_all};
 
-/// Writes the listing of the tapes in the folder at a path with this in it: each tape's, after a
-/// line with its name, and a line that says whether the nodes of its farm would start on it.
-/// Nothing is written if a tape can't be read or an allocation fails.
+/// More bytes than a node's file `farm` has.
+const MOST_FILE_BYTES: usize = 512;
+
+/// Writes the listing of the tapes in a folder with this in it, whose path a fault names: each
+/// tape's, after a line with its name, and a line that says whether the nodes of its farm would
+/// start on it. Nothing is written if a tape can't be read or an allocation fails.
 #[tactic(auto, using(crate::proofs::Folders::folder_whole, crate::proofs::Folders::folder_in_part, crate::proofs::Folders::folder_unread, crate::proofs::Last::none_failed, crate::proofs::Last::one_failed))]
-pub(crate) fn run_folder<K: Sink, V: Tapes>(
+pub fn run_folder<K: Sink, S: Store>(
     alloc: Global,
     path: &str,
     survey: &Survey,
+    store: &mut S,
     sink: &mut K,
-    tapes: &V,
 ) -> Result<(), RunFault>
     requires { length survey.now.tapes ≡ 64 }
-    ensures listed { IsFolderListed (V.content tapes.now) path.now survey.now
+    ensures listed { IsFolderListed survey.now (S.calls store.old) (S.calls store.new)
         (K.written sink.old) (K.written sink.new) result }
+    ensures reads { OnlyReads (S.calls store.old) (S.calls store.new) }
     ensures writes { CountsWrites result (K.failures sink.old) (K.failures sink.new) }
     ensures last { FailsLast K.Sink sink.old sink.new }
 {
-    let text = match text_of(alloc, path, survey, tapes) {
+    let text = match text_of(alloc, path, survey, store) {
         Ok(text) => text,
         Err(fault) => return Err(RunFault::Tape(fault)),
     };
@@ -47,18 +55,19 @@ pub(crate) fn run_folder<K: Sink, V: Tapes>(
 }
 
 /// The listing of a folder.
-fn text_of<V: Tapes>(
+fn text_of<S: Store>(
     alloc: Global,
     path: &str,
     survey: &Survey,
-    tapes: &V,
+    store: &mut S,
 ) -> Result<String, TapeReadFault>
     requires { length survey.now.tapes ≡ 64 }
-    ensures { IfOk result (λ text.
-        IsFolderListing (V.content tapes.now) path.now survey.now (string_bytes text)) }
+    ensures listed { IfOk result (λ text. IsFolderListing survey.now
+        (S.calls store.old) (S.calls store.new) (string_bytes text)) }
+    ensures reads { OnlyReads (S.calls store.old) (S.calls store.new) }
 {
     let mut text = String::new(alloc);
-    let pushed = push_all(alloc, &mut text, path, survey, tapes);
+    let pushed = push_all(alloc, &mut text, path, survey, store);
     match pushed {
         Ok(()) => Ok(text),
         Err(fault) => {
@@ -69,21 +78,22 @@ fn text_of<V: Tapes>(
 }
 
 /// Appends the listing of a folder.
-
-fn push_all<V: Tapes>(
+#[tactic(auto, using(wf_store::specs::CallTheorems::reads_both))]
+fn push_all<S: Store>(
     alloc: Global,
     text: &mut String,
     path: &str,
     survey: &Survey,
-    tapes: &V,
+    store: &mut S,
 ) -> Result<(), TapeReadFault>
     requires tapes { length survey.now.tapes ≡ 64 }
     requires empty { string_bytes text.old ≡ [] }
-    ensures { OnOk result (IsFolderListing (V.content tapes.now) path.now survey.now
-        (string_bytes text.new)) }
+    ensures listed { OnOk result (IsFolderListing survey.now (S.calls store.old)
+        (S.calls store.new) (string_bytes text.new)) }
+    ensures reads { OnlyReads (S.calls store.old) (S.calls store.new) }
 {
-    let owner = tapes.owner(path);
-    match push_tapes(alloc, text, path, survey, &owner, tapes) {
+    let owner = read_owner(store);
+    match push_tapes(alloc, text, survey, &owner, store) {
         Ok(check) => {
             let cause = check.cause();
             drop(check);
@@ -96,24 +106,54 @@ fn push_all<V: Tapes>(
     }
 }
 
+/// The file `farm` of a folder, if that is a node's. None also if it can't be read.
+#[tactic(auto, using(crate::proofs::FolderStart::owner_found, crate::proofs::FolderStart::owner_absent, crate::proofs::FolderStart::owner_unread))]
+fn read_owner<S: Store>(store: &mut S) -> Option<NodeFile>
+    ensures file { IfSome result IsNodeFile }
+    ensures read { IsOwnerRead result (S.calls store.old) (S.calls store.new) }
+    ensures reads { OnlyReads (S.calls store.old) (S.calls store.new) }
+{
+    match store.read(FileName::Farm, MOST_FILE_BYTES) {
+        Ok(Some(bytes)) => {
+            let owner = owner_of(&bytes);
+            drop(bytes);
+            owner
+        }
+        Ok(None) => None,
+        Err(_) => None,
+    }
+}
+
+/// The file of a node with these bytes.
+fn owner_of(bytes: &[u8]) -> Option<NodeFile>
+    ensures file { IfSome result IsNodeFile }
+    ensures owner { IsOwnerOf (Some bytes.now) result }
+{
+    match NodeFile::read(bytes) {
+        Ok(file) => Some(file),
+        Err(_) => None,
+    }
+}
+
 /// Appends the listing of each tape that is there. Returns the check of those that have to be
 /// sound, by the file of the folder's owner.
-fn push_tapes<V: Tapes>(
+fn push_tapes<S: Store>(
     alloc: Global,
     text: &mut String,
-    path: &str,
     survey: &Survey,
     owner: &Option<NodeFile>,
-    tapes: &V,
+    store: &mut S,
 ) -> Result<TapeCheck, TapeReadFault>
     requires size { length survey.now.tapes ≡ 64 }
     requires empty { string_bytes text.old ≡ [] }
-    ensures { IfOk result (λ check. AreTakenUpTo (V.content tapes.now) path.now survey.now.tapes
-        (length survey.now.tapes) owner.now check (string_bytes text.new)) }
+    ensures taken { IfOk result (λ check. AreTakenUpTo survey.now.tapes
+        (length survey.now.tapes) owner.now check (S.calls store.old) (S.calls store.new)
+        (string_bytes text.new)) }
+    ensures reads { OnlyReads (S.calls store.old) (S.calls store.new) }
 {
     let mut check = TapeCheck::new();
     for (number, tape) in survey.tapes.iter().enumerate() {
-        match push_next(alloc, text, path, number, *tape, owner, check, tapes) {
+        match push_next(alloc, text, number, *tape, owner, check, store) {
             Ok(after) => check = after,
             Err(fault) => return Err(fault),
         }
@@ -122,23 +162,24 @@ fn push_tapes<V: Tapes>(
 }
 
 /// Appends the listing of a tape, if it is there, and lets the check take it.
-#[tactic(auto, using(crate::proofs::Folders::next_there, crate::proofs::Folders::next_absent))]
-fn push_next<V: Tapes>(
+#[tactic(auto, using(crate::proofs::Folders::next_there, crate::proofs::Folders::next_absent, wf_store::specs::CallTheorems::reads_none))]
+fn push_next<S: Store>(
     alloc: Global,
     text: &mut String,
-    path: &str,
     number: usize,
     presence: Presence,
     owner: &Option<NodeFile>,
     check: TapeCheck,
-    tapes: &V,
+    store: &mut S,
 ) -> Result<TapeCheck, TapeReadFault>
     requires { number < 64 }
-    ensures { IfOk result (λ after. IsNextTaken (V.content tapes.now) path.now number
-        (is_there presence) owner.now check after (string_bytes text.old) (string_bytes text.new)) }
+    ensures taken { IfOk result (λ after. IsNextTaken number (is_there presence) owner.now check
+        after (S.calls store.old) (S.calls store.new) (string_bytes text.old)
+        (string_bytes text.new)) }
+    ensures reads { OnlyReads (S.calls store.old) (S.calls store.new) }
 {
     if presence.is_there() {
-        push_tape(alloc, text, path, number, owner, check, tapes)
+        push_tape(alloc, text, number, owner, check, store)
     } else {
         Ok(check)
     }
@@ -146,31 +187,43 @@ fn push_next<V: Tapes>(
 
 /// Appends the listing of a tape, after a line with its name, and lets the check take it.
 #[tactic(auto, using(crate::proofs::Folders::appended))]
-fn push_tape<V: Tapes>(
+fn push_tape<S: Store>(
     alloc: Global,
     text: &mut String,
-    path: &str,
     number: usize,
     owner: &Option<NodeFile>,
     check: TapeCheck,
-    tapes: &V,
+    store: &mut S,
 ) -> Result<TapeCheck, TapeReadFault>
     requires { number < 64 }
-    ensures { IfOk result (λ after. IsListedAndTaken (V.content tapes.now) path.now number owner.now
-        check after (string_bytes text.old) (string_bytes text.new)) }
+    ensures taken { IfOk result (λ after. IsListedAndTaken number owner.now check after
+        (S.calls store.old) (S.calls store.new) (string_bytes text.old)
+        (string_bytes text.new)) }
+    ensures reads { OnlyReads (S.calls store.old) (S.calls store.new) }
 {
-    let Ok(file) = tape_path(alloc, path, number) else {
-        drop(check);
-        return Err(TapeReadFault::Memory);
-    };
-    let bytes = tapes.read(alloc, file.as_str());
-    drop(file);
-    match bytes {
+    match read_tape(store, number) {
         Ok(bytes) => push_read(alloc, text, number, owner, check, bytes),
         Err(fault) => {
             drop(check);
             Err(fault)
         }
+    }
+}
+
+/// The bytes of a tape that was there. Err: `Failed` if it can't be read or is longer than the
+/// longest tape, or `Memory`.
+fn read_tape<S: Store>(store: &mut S, number: usize) -> Result<Vec<u8>, TapeReadFault>
+    requires { number < 64 }
+    ensures read { IfOk result (λ bytes.
+        S.calls store.new ≡ read (NodeTape number) (Some bytes.items) ∷ S.calls store.old) }
+    ensures short { IfOk result (λ bytes. length bytes.items ≤ most_tape_bytes) }
+    ensures reads { OnlyReads (S.calls store.old) (S.calls store.new) }
+{
+    match store.read(FileName::NodeTape(number as u8), MOST_TAPE_BYTES + 1) {
+        Ok(Some(bytes)) => whole_tape(bytes),
+        Ok(None) => Err(TapeReadFault::Failed),
+        Err(FolderFault::Memory) => Err(TapeReadFault::Memory),
+        Err(_) => Err(TapeReadFault::Failed),
     }
 }
 
@@ -228,16 +281,6 @@ fn is_own(owner: &Option<NodeFile>, number: usize) -> bool
     match owner {
         Some(file) => file.node as usize == number,
         None => true,
-    }
-}
-
-/// The path of a node's tape in a folder.
-fn tape_path(alloc: Global, folder: &str, number: usize) -> Result<String, AllocError>
-    ensures { IfOk result (λ path. string_bytes path ≡ tape_path folder.now number) }
-{
-    match format!(in alloc; "{folder}/node-{number}.tape") {
-        Ok(path) => Ok(path),
-        Err(error) => Err(error),
     }
 }
 

@@ -5,7 +5,7 @@
 //!
 //! The crate is thin. [`line`] of `wf_line` parses the command line's arguments to a [`Line`];
 //! [`run_line`] runs the commands about standard input, over any reader and writer; [`run_tape`]
-//! lists the tape in a file or the tapes in a folder, which a [`Tapes`] reads, or writes a map on a
+//! lists the tape in a file or the tapes in a folder, which a [`Tapes`] has, or writes a map on a
 //! tape; [`run_serve`] runs `serve` by a [`NodeServer`], which serves nodes. [`Host`] is both: the
 //! machine's files, and its nodes over HTTP. A [`wf_farm::Carrier`] brings the messages of `wire`
 //! to their nodes: [`wf_link::Connection`], over a connection of the machine. [`run_words`] is the
@@ -41,7 +41,10 @@
 //! one last line of what a start on it would do, by the bytes that are listed; or the text of the
 //! map that the tape has as published. Before a write error a prefix of it is written, before any
 //! other error nothing. A file with known content is listed unless it is too long or an allocation
-//! fails. No text is the listing of both a file and a folder ([`listings_are_distinct`]).
+//! fails. A folder is a `Store` of `wf_store`, and the listing goes by its calls: which tapes are
+//! there was seen, its file `farm` was read, and then each of just these tapes, whole; none of the
+//! calls changes a file ([`run_folder`], `specs/Folder.antt`). No text is the listing of both a
+//! file and a folder ([`listings_are_distinct`]).
 //!
 //! [`run_words`] promises that exactly the command of that line was run, or none: for `serve`, that
 //! the server was called with the line's numbers of nodes, connections and pictures, its port and
@@ -70,7 +73,7 @@ mod server;
 mod tapes;
 
 pub use fault::RunFault;
-pub use folder::listings_are_distinct;
+pub use folder::{listings_are_distinct, run_folder};
 pub use map_check::run_check;
 pub use program::{Ending, rejection_status, run_process, run_serve, run_words};
 pub use run::{

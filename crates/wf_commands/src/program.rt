@@ -163,7 +163,7 @@ fn end(line: Line<'_>, outcome: Result<(), RunFault>) -> Ending
 /// Err: no command was run, and nothing was read or written. The error's text is for the user: it
 /// is help or the version, if the words ask for these.
 #[tactic(auto, using(crate::proofs::Last::none_failed, crate::proofs::Ended::run_ended, crate::proofs::Ended::listing_ended))]
-pub fn run_words<'a, S: AsStr, I: Source, K: Sink, V: NodeServer + Tapes, C: Carrier>(
+pub fn run_words<'a, S: AsStr, I: Source, K: Sink, V: NodeServer + Tapes<'a>, C: Carrier>(
     alloc: Global,
     words: &'a [S],
     source: &mut I,

@@ -1,31 +1,29 @@
 //! Where the tapes of a `tape` line are read from, and the command that lists them.
-ghost use Rattle.std.specs.Prelude.{◌≡◌, ◌<◌, None, Some, IfOk, IfSome, IsErrOf, length};
+ghost use Rattle.std.specs.Prelude.{◌≡◌, ◌≤◌, ◌<◌, [], None, Some, IfErr, IfOk, IfSome, IsErrOf, length};
 ghost use Rattle.wf_commands.specs.FailureCount.{CountsWrites, FailsLast};
 ghost use Rattle.wf_commands.specs.Contents.{Contents, nothing_known};
-ghost use Rattle.wf_commands.specs.Folder.{IsTapeDone};
+ghost use Rattle.wf_commands.specs.Folder.{IsTapeDone, unread_fault};
 ghost use Rattle.wf_commands.specs.Run.{IsListed, IsMapWritten};
-ghost use Rattle.wf_folder.specs.NodeFile.{IsNodeFile};
 ghost use Rattle.wf_listing.specs.TapeBytes.{most_tape_bytes};
 
 use crate::fault::RunFault;
 use crate::folder::run_folder;
 use crate::server::Host;
 use std::alloc::Global;
-use std::fs;
 use std::fs::File;
+use std::io::ErrorKind;
 use std::rt::Files;
-use wf_folder::NodeFile;
-use wf_listing::{TapeReadFault, list, read_tape, text_of_map};
-use wf_serve::{Survey, inspect};
-use wf_store::{FileName, Store, SystemStore};
-use wf_stream::{Sink, Stream, write_all};
+use wf_listing::{MOST_TAPE_BYTES, TapeReadFault, list, text_of_map};
+use wf_serve::inspect;
+use wf_store::{Store, SystemStore, is_folder, read_file};
+use wf_stream::{Sink, write_all};
 
-/// More bytes than a node's file `farm` has.
-const MOST_FILE_BYTES: usize = 512;
+/// What has tapes: the machine, or in a test what stands for it. A path lives for `'p`.
+pub trait Tapes<'p> {
+    /// A folder.
+    type Folder: Store + Drop;
 
-/// What reads tapes: the machine's files, or in a test what stands for them.
-pub trait Tapes {
-    /// The files and folders, as far as they are known.
+    /// The files, as far as they are known.
     ghost content: { Self → Contents };
 
     /// Reads the file at a path to its end, and changes nothing. Returns `Failed` if it can't be
@@ -37,83 +35,74 @@ pub trait Tapes {
             IfSome ((content self.now).file path.now) (λ known. most_tape_bytes < length known) }
         ensures read { IsErrOf result TapeReadFault.NoMap → ⊥ };
 
-    /// What is in the folder at a path. None if there is no folder, or what is in it can't be seen.
-    fn folder(&self, path: &str) -> Option<Survey>
+    /// The folder at a path, before any call of it. None if there is none.
+    fn folder(&self, path: &'p str) -> Option<Self::Folder>
         ensures file { IfSome ((content self.now).file path.now) (λ _. result ≡ None) }
-        ensures tapes { IfSome result (λ survey. length survey.tapes ≡ 64) }
-        ensures known { IfSome result (λ survey.
-            IfSome ((content self.now).folder path.now) (λ known. survey ≡ known)) };
-
-    /// The file `farm` of the folder at a path, if that is the file of a node that has the folder
-    /// for itself.
-    fn owner(&self, path: &str) -> Option<NodeFile>
-        ensures file { IfSome result IsNodeFile }
-        ensures known { IfSome ((content self.now).owner path.now) (λ known. result ≡ known) };
+        ensures new { IfSome result (λ folder. Self.Folder.calls folder ≡ []) };
 }
 
-/// Reads the machine's files, whose content is in no contract. The files are opened to be read and
-/// for nothing else.
-impl<'a, R: Files<File = File> + AllocGlobal> Tapes for Host<'a, R> {
+/// Has the machine's files, whose content is in no contract.
+impl<'a, 'p, R: Files<File = File> + AllocGlobal> Tapes<'p> for Host<'a, R> {
+    type Folder = SystemStore<'a, 'p, R>;
+
     ghost content = { λ _. nothing_known };
 
-    fn read(&self, alloc: Global, path: &str) -> Result<Vec<u8>, TapeReadFault> {
-        match fs::open(self.0, path) {
-            Ok(file) => match read_tape(alloc, &mut Stream::new(file)) {
-                Ok(bytes) => Ok(bytes),
-                Err(TapeReadFault::Memory) => Err(TapeReadFault::Memory),
-                Err(_) => Err(TapeReadFault::Failed),
-            },
-            Err(_) => Err(TapeReadFault::Failed),
+    fn read(&self, _alloc: Global, path: &str) -> Result<Vec<u8>, TapeReadFault>
+        ensures whole { IfOk result
+            (λ bytes. IfSome (nothing_known.file path.now) (λ known. bytes.items ≡ known)) }
+        ensures failed { IsErrOf result TapeReadFault.Failed →
+            IfSome (nothing_known.file path.now) (λ known. most_tape_bytes < length known) }
+        ensures read { IsErrOf result TapeReadFault.NoMap → ⊥ }
+    {
+        match read_file(self.0, path, MOST_TAPE_BYTES + 1) {
+            Ok(bytes) => whole_tape(bytes),
+            Err(error) => Err(unread(error.kind())),
         }
     }
 
-    fn folder(&self, path: &str) -> Option<Survey> {
+    fn folder(&self, path: &'p str) -> Option<SystemStore<'a, 'p, R>>
+        ensures file { IfSome (nothing_known.file path.now) (λ _. result ≡ None) }
+        ensures new { IfSome result (λ folder. folder.calls ≡ []) }
+    {
         if is_folder(self.0, path) {
-            let mut store = SystemStore::new(self.0, path);
-            let survey = inspect(&mut store).ok();
-            drop(store);
-            survey
+            Some(SystemStore::new(self.0, path))
         } else {
             None
         }
     }
-
-    fn owner(&self, path: &str) -> Option<NodeFile> {
-        let mut store = SystemStore::new(self.0, path);
-        let file = node_file(&mut store);
-        drop(store);
-        file
-    }
 }
 
-/// The file `farm` of a folder, if that is a node's.
-fn node_file<S: Store>(store: &mut S) -> Option<NodeFile>
-    ensures { IfSome result IsNodeFile }
+/// The bytes of a tape. Err: `Failed`, if there are more than the longest tape has.
+pub(crate) fn whole_tape(bytes: Vec<u8>) -> Result<Vec<u8>, TapeReadFault>
+    ensures whole { IfOk result
+        (λ tape. (tape.items ≡ bytes.items) × (length tape.items ≤ most_tape_bytes)) }
+    ensures long { IfErr result
+        (λ fault. (fault ≡ TapeReadFault.Failed) × (most_tape_bytes < length bytes.items)) }
 {
-    match store.read(FileName::Farm, MOST_FILE_BYTES) {
-        Ok(Some(bytes)) => {
-            let file = NodeFile::read(&bytes).ok();
-            drop(bytes);
-            file
-        }
-        Ok(None) | Err(_) => None,
+    if bytes.len() <= MOST_TAPE_BYTES {
+        Ok(bytes)
+    } else {
+        drop(bytes);
+        Err(TapeReadFault::Failed)
     }
 }
 
-/// Whether a folder is at a path.
-fn is_folder<R: Files>(rt: &R, path: &str) -> bool {
-    match fs::metadata(rt, path) {
-        Ok(metadata) => metadata.is_dir(),
-        Err(_) => false,
+/// Why a file isn't read, by the system's error.
+fn unread(error: ErrorKind) -> TapeReadFault
+    ensures { result ≡ unread_fault error }
+{
+    match error {
+        ErrorKind::OutOfMemory => TapeReadFault::Memory,
+        _ => TapeReadFault::Failed,
     }
 }
 
 /// Writes the listing of the tape in the file at a path, or of the tapes in the folder at it; or
 /// the text of the map that the tape in the file has as published under a sequence. Nothing is
 /// written if a file can't be read, an allocation fails or there is no such map.
-pub fn run_tape<K: Sink, V: Tapes>(
+pub fn run_tape<'p, K: Sink, V: Tapes<'p>>(
     alloc: Global,
-    path: &str,
+    path: &'p str,
     map: Option<u16>,
     sink: &mut K,
     tapes: &V,
@@ -130,10 +119,10 @@ pub fn run_tape<K: Sink, V: Tapes>(
 }
 
 /// Writes the listing of the tape in the file at a path, or of the tapes in the folder at it.
-#[tactic(auto, using(crate::proofs::Listed::file_done, crate::proofs::Listed::folder_done))]
-fn run_listing<K: Sink, V: Tapes>(
+#[tactic(auto, using(crate::proofs::Listed::file_done, crate::proofs::Listed::no_content))]
+fn run_listing<'p, K: Sink, V: Tapes<'p>>(
     alloc: Global,
-    path: &str,
+    path: &'p str,
     sink: &mut K,
     tapes: &V,
 ) -> Result<(), RunFault>
@@ -143,14 +132,41 @@ fn run_listing<K: Sink, V: Tapes>(
     ensures last { FailsLast K.Sink sink.old sink.new }
 {
     match tapes.folder(path) {
-        Some(survey) => run_folder(alloc, path, &survey, sink, tapes),
+        Some(mut folder) => {
+            let outcome = run_opened(alloc, path, &mut folder, sink, tapes);
+            drop(folder);
+            outcome
+        }
         None => run_file(alloc, path, sink, tapes),
+    }
+}
+
+/// Writes the listing of the tapes in the folder at a path, if it can be seen what is in it; else
+/// that of the tape in the file there.
+#[tactic(auto, using(crate::proofs::Listed::file_done))]
+fn run_opened<'p, K: Sink, V: Tapes<'p>>(
+    alloc: Global,
+    path: &'p str,
+    folder: &mut V::Folder,
+    sink: &mut K,
+    tapes: &V,
+) -> Result<(), RunFault>
+    requires no_file { (V.content tapes.now).file path.now ≡ None }
+    requires new { V.Folder.calls folder.old ≡ [] }
+    ensures done { IsTapeDone (V.content tapes.now) path.now None (K.written sink.old)
+        (K.written sink.new) result }
+    ensures writes { CountsWrites result (K.failures sink.old) (K.failures sink.new) }
+    ensures last { FailsLast K.Sink sink.old sink.new }
+{
+    match inspect(folder) {
+        Ok(survey) => run_folder(alloc, path, &survey, folder, sink),
+        Err(_) => run_file(alloc, path, sink, tapes),
     }
 }
 
 /// Writes the listing of the tape in the file at a path.
 #[tactic(auto, using(crate::proofs::Listed::known_listed, crate::proofs::Listed::unlisted, crate::proofs::Last::none_failed))]
-fn run_file<K: Sink, V: Tapes>(
+fn run_file<'p, K: Sink, V: Tapes<'p>>(
     alloc: Global,
     path: &str,
     sink: &mut K,
@@ -192,7 +208,7 @@ fn write_listing<K: Sink>(alloc: Global, bytes: &[u8], sink: &mut K) -> Result<(
 /// Writes the text of the map that the tape in the file at a path has as published under a
 /// sequence.
 #[tactic(auto, using(crate::proofs::Listed::known_written, crate::proofs::Listed::map_unread, crate::proofs::Last::none_failed))]
-fn run_map<K: Sink, V: Tapes>(
+fn run_map<'p, K: Sink, V: Tapes<'p>>(
     alloc: Global,
     path: &str,
     sequence: u16,

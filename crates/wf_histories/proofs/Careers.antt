@@ -7,7 +7,7 @@ use Rattle.wf_actor.specs.declared.actor.Actor.{Actor}
 use Rattle.wf_career.specs.Career.{AreRuns, Ended, items_by, items_in, values_in, values_of}
 use Rattle.wf_career.specs.CrashImages.{ComparisonLeaves}
 use Rattle.wf_career.specs.Run.{Failed, HasLeft, Input, IsOpenedFrom, IsRun, Run, last}
-use Rattle.wf_loop.specs.Continuation.{AreRunsFrom, IsLater}
+use Rattle.wf_voter.specs.Continuation.{AreRunsFrom, IsLater}
 use Rattle.wf_model.specs.VolatileState.{at_start}
 use Rattle.wf_node.specs.Images.{StandsFor}
 use Rattle.wf_node.specs.Node.{Node, stored_of, volatile_of}

@@ -8,7 +8,7 @@ use Rattle.wf_career.specs.Career.{AreRuns, Ended, items_at, items_by, items_in,
 use Rattle.wf_career.specs.CrashImages.{ComparisonLeaves}
 use Rattle.wf_career.specs.Run.{Between, End, Failed, IsOpenedFrom, IsRun, Run, Within, outputs}
 use Rattle.wf_codec.specs.declared.message.Message.{Message}
-use Rattle.wf_loop.specs.Continuation.{AreRunsFrom}
+use Rattle.wf_voter.specs.Continuation.{AreRunsFrom}
 use Rattle.wf_node.specs.Node.{stored_of}
 use Rattle.wf_node_command.specs.Folder.{StandsForRead, tape_in}
 use Rattle.wf_tape.specs.declared.tape.Tape.{Ghosts as Tape}

@@ -12,7 +12,7 @@ use Rattle.wf_edge.specs.RequestEffect.{Responds}
 use Rattle.wf_edge.specs.Theorem.{AsksMapService}
 use Rattle.wf_edge.specs.declared.outcome.Outcome.TheVariants.{Sent}
 use Rattle.wf_http.specs.Response.{Response, response_bytes}
-use Rattle.wf_loop.specs.Answer.{IsAnswer}
+use Rattle.wf_voter.specs.Answer.{IsAnswer}
 use Rattle.wf_model.specs.DurableState.{definition_at}
 use Rattle.wf_node.specs.Node.{Node}
 use Rattle.wf_safety.specs.Theorems.{IsBeginning}

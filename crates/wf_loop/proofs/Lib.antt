@@ -1,3 +1,0 @@
-pub mod Answered
-pub mod Continuation
-pub mod Reached

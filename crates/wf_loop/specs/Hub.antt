@@ -3,13 +3,13 @@ use Rattle.std.specs.Prelude.{◌≡◌, ℕ, true, List, [], Option}
 use Rattle.std.specs.declared.net.socket_addr.SocketAddr.{SocketAddr}
 use Rattle.wf_actor.specs.declared.process.Process.{Process}
 use Rattle.wf_digest.specs.Digest.{AreDigestsOf}
-use Rattle.wf_loop.specs.Answer.{AreAnswered}
-use Rattle.wf_loop.specs.Continuation.{IsHeardKept, besides_asks, besides_chosen}
+use Rattle.wf_voter.specs.Answer.{AreAnswered}
+use Rattle.wf_voter.specs.Continuation.{HasLearnt, IsHeardKept, besides_asks}
 use Rattle.wf_loop.specs.declared.hub.Hub.{Hub}
-use Rattle.wf_loop.specs.Reach.{IsReachOf}
+use Rattle.wf_voter.specs.Reach.{IsReachOf}
 use Rattle.wf_mesh.specs.Alarms.{IsDue}
-use Rattle.wf_mesh.specs.declared.gate.Gate.TheVariants as gates
-use Rattle.wf_mesh.specs.declared.membership.Membership.{Membership}
+use Rattle.wf_membership.specs.declared.gate.Gate.TheVariants as gates
+use Rattle.wf_membership.specs.declared.membership.Membership.{Membership}
 use Rattle.wf_node.specs.Node.{Node}
 use Rattle.wf_peer.specs.Progress.{reach_of}
 use Rattle.wf_peer.specs.declared.heard.Heard.{Heard}
@@ -68,11 +68,11 @@ membership_of hub = hub.voter.membership
 abbrev pub IsJoiner : {T N C L : Type 0} {tapes : Tape T} {connections : Connection C} → Hub T N C L tapes connections → Type 0
 IsJoiner hub = hub.voter.membership.joins ≡ true
 
--- It still joins; the node was given no message but those that say what is published, and no client
--- was answered.
+-- It still joins; the node was given no message but those that say what is published, and returned
+-- none but those that ask for that; and no client was answered.
 pub record OnlyLearns {T N C L : Type 0} {tapes : Tape T} {connections : Connection C} (before after : Hub T N C L tapes connections) : Type 0 where
   pub joins : IsJoiner after
-  pub given : besides_chosen after.voter.process.actor.given.items ≡ besides_chosen before.voter.process.actor.given.items
+  pub learnt : HasLearnt tapes before.voter.process.actor after.voter.process.actor
   pub answered : after.clients.before.items ≡ before.clients.before.items
 
 -- what was written is for the next start of the folder, and the process is to end

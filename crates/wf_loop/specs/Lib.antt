@@ -1,6 +1,1 @@
-pub mod Answer
-pub mod Continuation
-pub mod Folder
 pub mod Hub
-pub mod Lived
-pub mod Reach

@@ -1,15 +1,11 @@
 //! What a node does by the clock, and for its peers.
 ghost use Rattle.std.specs.Prelude.{◌≡◌};
-ghost use Rattle.wf_loop.specs.Continuation.{Continues, ContinuesIn};
+ghost use Rattle.wf_voter.specs.Continuation.{Continues, ContinuesIn};
 
-use crate::acts::retry;
-use crate::clients::Clients;
 use crate::heard::save;
-use crate::hub::Voter;
 use crate::order::obey;
 use crate::peer_calls::{ask_all, call_all, connect, greet_again};
 use crate::peer_reads::accept;
-use crate::reopening::NodeFolder;
 use std::alloc::Global;
 use std::net::Net;
 use std::time::Clock;
@@ -18,6 +14,7 @@ use wf_mesh::{Desk, Mesh, Pace};
 use wf_sockets::Network;
 use wf_tape::Tape;
 use wf_visitors::Context;
+use wf_voter::{Clients, NodeFolder, Voter, retry};
 
 /// What the node does in a turn by the clock, and for its peers.
 pub(crate) fn turn_by_clock<
@@ -44,7 +41,7 @@ pub(crate) fn turn_by_clock<
 }
 
 /// Does what is to be done at a tick, if one is over.
-#[tactic(auto, using(crate::proofs::Continuation::still_in, crate::proofs::Continuation::on_in, crate::proofs::Continuation::twice_in))]
+#[tactic(auto, using(wf_voter::proofs::Continuation::still_in, wf_voter::proofs::Continuation::on_in, wf_voter::proofs::Continuation::twice_in))]
 fn tick<R: Net + Clock + Eprint + AllocGlobal, T: Tape + Drop, F: NodeFolder<T>, N: Network>(
     context: &Context<'_, '_, R, N>,
     voter: &mut Voter<T>,
@@ -68,7 +65,7 @@ fn tick<R: Net + Clock + Eprint + AllocGlobal, T: Tape + Drop, F: NodeFolder<T>,
 }
 
 /// What the node does at a tick: nothing while it is halted.
-#[tactic(auto, using(crate::proofs::Continuation::still_in, crate::proofs::Continuation::on_in, crate::proofs::Continuation::twice_in))]
+#[tactic(auto, using(wf_voter::proofs::Continuation::still_in, wf_voter::proofs::Continuation::on_in, wf_voter::proofs::Continuation::twice_in))]
 fn go_on<R: Net + Clock + Eprint + AllocGlobal, T: Tape + Drop, F: NodeFolder<T>, N: Network>(
     context: &Context<'_, '_, R, N>,
     voter: &mut Voter<T>,
@@ -88,7 +85,7 @@ fn go_on<R: Net + Clock + Eprint + AllocGlobal, T: Tape + Drop, F: NodeFolder<T>
 
 /// Accepts the connections of peers, ends those on which nothing comes, and connects to peers:
 /// nothing unless it has connections with them.
-#[tactic(auto, using(crate::proofs::Continuation::still_in, crate::proofs::Continuation::twice_in, crate::proofs::Continuation::on_in))]
+#[tactic(auto, using(wf_voter::proofs::Continuation::still_in, wf_voter::proofs::Continuation::twice_in, wf_voter::proofs::Continuation::on_in))]
 fn link<R: Net + Clock + Eprint + AllocGlobal, T: Tape + Drop, F: NodeFolder<T>, N: Network>(
     context: &Context<'_, '_, R, N>,
     voter: &mut Voter<T>,
@@ -107,7 +104,7 @@ fn link<R: Net + Clock + Eprint + AllocGlobal, T: Tape + Drop, F: NodeFolder<T>,
 }
 
 /// What the node says by the clock, and what it saves of what it heard.
-#[tactic(auto, using(crate::proofs::Continuation::twice_in, crate::proofs::Continuation::on_in))]
+#[tactic(auto, using(wf_voter::proofs::Continuation::twice_in, wf_voter::proofs::Continuation::on_in))]
 fn respond_on<R: Clock + Eprint + AllocGlobal, T: Tape + Drop, F: NodeFolder<T>, N: Network>(
     context: &Context<'_, '_, R, N>,
     voter: &mut Voter<T>,
@@ -127,7 +124,7 @@ fn respond_on<R: Clock + Eprint + AllocGlobal, T: Tape + Drop, F: NodeFolder<T>,
 }
 
 /// Begins a running proposal again, if it is time to, or if a majority is heard that wasn't.
-#[tactic(auto, using(crate::proofs::Continuation::still))]
+#[tactic(auto, using(wf_voter::proofs::Continuation::still))]
 fn retry_if_due<T: Tape + Drop, N: Network>(
     alloc: Global,
     voter: &mut Voter<T>,

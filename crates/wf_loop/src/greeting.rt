@@ -1,17 +1,17 @@
 //! What a node says of itself to its peers.
 ghost use Rattle.std.specs.Prelude.{◌≡◌, ◌⊎◌, IfSome};
 ghost use Rattle.wf_loop.specs.Hub.{IsGreetedWith};
-ghost use Rattle.wf_loop.specs.Reach.{IsHighestVoted};
 ghost use Rattle.wf_node.specs.Node.{stored_of};
 ghost use Rattle.wf_rejoin.specs.Replacements.{known_count};
+ghost use Rattle.wf_voter.specs.Reach.{IsHighestVoted};
 
-use crate::hub::Voter;
-use crate::reach::{reach_of, told_votes};
 use wf_actor::Process;
-use wf_mesh::{Gate, Mesh, Told};
+use wf_membership::Gate;
+use wf_mesh::{Mesh, Told};
 use wf_peer::{Greeting, NodeState, Progress};
 use wf_sockets::Network;
 use wf_tape::Tape;
+use wf_voter::{Voter, reach_of, told_votes};
 
 /// How far the node is, in this start of its folder.
 fn progress<T: Tape + Drop, N: Network>(mesh: &Mesh<N>, process: &Process<T>) -> Progress

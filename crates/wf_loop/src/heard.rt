@@ -1,19 +1,19 @@
 //! What was heard of the peers, in the folder of a node.
-ghost use Rattle.wf_loop.specs.Continuation.{ContinuesIn};
+ghost use Rattle.wf_voter.specs.Continuation.{ContinuesIn};
 
-use crate::hub::Voter;
-use crate::reopening::NodeFolder;
 use std::alloc::Global;
 use std::time::Clock;
-use wf_mesh::{FolderError, Gate, Mesh, Notes};
+use wf_membership::{FolderError, Gate};
+use wf_mesh::{Mesh, Notes};
 use wf_sockets::Network;
 use wf_store::{FileName, FolderFault};
 use wf_tape::Tape;
 use wf_visitors::Context;
+use wf_voter::{NodeFolder, Voter};
 
 /// Writes what was heard of the peers to the node's folder, if more was heard than it has. Where
 /// that fails, the node acts no more until it succeeds.
-#[tactic(auto, using(crate::proofs::Continuation::twice_in, crate::proofs::Continuation::on_in))]
+#[tactic(auto, using(wf_voter::proofs::Continuation::twice_in, wf_voter::proofs::Continuation::on_in))]
 pub(crate) fn save<R: Clock + Eprint + AllocGlobal, T: Tape + Drop, F: NodeFolder<T>, N: Network>(
     context: &Context<'_, '_, R, N>,
     voter: &mut Voter<T>,
@@ -37,7 +37,7 @@ pub(crate) fn save<R: Clock + Eprint + AllocGlobal, T: Tape + Drop, F: NodeFolde
 }
 
 /// Writes what was heard of the peers to the node's folder, if more was heard than it has.
-#[tactic(auto, using(crate::proofs::Continuation::still_in))]
+#[tactic(auto, using(wf_voter::proofs::Continuation::still_in))]
 fn keep_heard<T: Tape + Drop, F: NodeFolder<T>>(
     alloc: Global,
     notes: &mut Notes,

@@ -1,10 +1,10 @@
 //! A node in a process of its own: one thread that waits for its sockets and serves them, and never
 //! blocks on one.
 //!
-//! - [`Hub`] has the node, its clients, and the parts of `wf_mesh`: the connections to and from its
-//!   peers, and its readers and operators, who only read, over any network (`wf_sockets`).
-//!   [`Hub::turn`] is one turn: it is handed the time and the tokens of the sockets that may be
-//!   ready, does what there is to do, a bounded part of it, and waits for nothing;
+//! - [`Hub`] has the node and its clients (`wf_voter`), and the parts of `wf_mesh`: the connections
+//!   to and from its peers, and its readers and operators, who only read, over any network
+//!   (`wf_sockets`). [`Hub::turn`] is one turn: it is handed the time and the tokens of the sockets
+//!   that may be ready, does what there is to do, a bounded part of it, and waits for nothing;
 //!   [`Hub::patience`] says for how long the next one may be waited for. Over the system's network
 //!   [`Hub::go_on`] waits and takes a turn. A message for the peers is written before anything else
 //!   is done. Digests of the history are made once nothing came for a moment, or where one is
@@ -13,22 +13,18 @@
 //!   of a lost one ([`Joiner`]) learns what is published, and does nothing else.
 //! - [`Log`] writes each [`NodeEvent`] as a line on standard error.
 //!
-//! **Promises.** After each turn the node has lived by its acts (`specs/Lived.antt`), and the
-//! process has gone on in its run (`specs/Continuation.antt`). Each response that a client was sent
-//! is the one of `wf_edge` to exactly the bytes that had come from it, by a process that had lived
-//! (`specs/Answer.antt`). What was given to the node from a peer came on a connection from that peer
-//! (`wf_wire`). Readers and operators get the node to be read only. What a node goes by
-//! of replacements, and whether its folder joins, is what its plan says, from its first turn to its
-//! last one (`membership_of`, `specs/Hub.antt`): by that it greets and lets peers in. What it is
-//! told is written, and the hub is over.
+//! **Promises.** After each turn the node has lived by its acts, the process has gone on in its
+//! run, and each response that a client was sent is the one that `wf_voter` says (its
+//! `specs/Lived.antt`, `specs/Continuation.antt`, `specs/Answer.antt`). What was given to the node
+//! from a peer came on a connection from that peer (`wf_wire`). Readers and operators get the node
+//! to be read only. What a node goes by of replacements, and whether its folder joins, is what its
+//! plan says, from its first turn to its last one (`membership_of`, `specs/Hub.antt`): by that it
+//! greets and lets peers in. What it is told is written, and the hub is over.
 //!
 //! **Doesn't.** Which sockets are ready and what a clock shows has no model, and no clause relies
 //! on it. That and how connections are made anew is tested with the built program.
 #![tactic(auto)]
 
-mod acts;
-mod answers;
-mod clients;
 mod clock;
 mod greeting;
 mod heard;
@@ -36,14 +32,10 @@ mod hub;
 mod order;
 mod peer_calls;
 mod peer_reads;
-mod reach;
-mod reopening;
 mod service;
 mod turn;
 
 pub use hub::Hub;
-pub use reach::reach_of;
-pub use reopening::{NodeFolder, NotReopened};
 pub use wf_actor::Process;
-pub use wf_mesh::{FolderError, Joiner, LoopFault, NodeEvent, NodePlan, PeerEnd};
-pub use wf_visitors::{Level, Log};
+pub use wf_mesh::{Joiner, LoopFault, NodeEvent, NodePlan};
+pub use wf_visitors::Log;

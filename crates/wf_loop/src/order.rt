@@ -1,24 +1,23 @@
 //! What is written to the folder about replacements before the node goes by it.
 ghost use Rattle.std.specs.Prelude.{◌≡◌};
-ghost use Rattle.wf_loop.specs.Continuation.{ContinuesIn};
+ghost use Rattle.wf_voter.specs.Continuation.{ContinuesIn};
 
-use crate::hub::Voter;
-use crate::reach::reach_of;
-use crate::reopening::NodeFolder;
 use std::alloc::Global;
 use std::time::Clock;
 use wf_actor::Process;
-use wf_mesh::{FolderError, Gate, Joiner, Mesh, Notes, Order};
+use wf_membership::{FolderError, Gate};
+use wf_mesh::{Mesh, Notes, Order};
 use wf_rejoin::Replacements;
 use wf_sockets::Network;
 use wf_store::FolderFault;
 use wf_tape::Tape;
 use wf_visitors::Context;
+use wf_voter::{NodeFolder, Voter, reach_of};
 
 /// Writes what is to be written about replacements, and goes by it then. What only the next start
 /// goes by ends this one: nothing more is sent or taken in. Where it can't be written, the node
 /// acts no more until it can.
-#[tactic(auto, using(crate::proofs::Continuation::still_in, crate::proofs::Continuation::kept_in, crate::proofs::Continuation::gated_in))]
+#[tactic(auto, using(wf_voter::proofs::Continuation::still_in, wf_voter::proofs::Continuation::kept_in, wf_voter::proofs::Continuation::gated_in))]
 pub(crate) fn obey<R: Clock + Eprint + AllocGlobal, T: Tape + Drop, F: NodeFolder<T>, N: Network>(
     context: &Context<'_, '_, R, N>,
     voter: &mut Voter<T>,
@@ -65,8 +64,8 @@ fn keep_order<T: Tape + Drop, F: NodeFolder<T>>(
 {
     match order {
         Order::Note(latest) => keep_replaced::<T, F>(alloc, folder, latest),
-        Order::Join(next) => keep_joining::<T, F>(alloc, folder, next),
-        Order::Joined => keep_joined(alloc, process, notes, folder),
+        Order::Join(step) => folder.keep_joining(step),
+        Order::Joined => keep_joined(process, notes, folder),
     }
 }
 
@@ -84,23 +83,8 @@ fn keep_replaced<T: Tape, F: NodeFolder<T>>(
     }
 }
 
-/// Writes how far the folder is that joins.
-fn keep_joining<T: Tape, F: NodeFolder<T>>(
-    alloc: Global,
-    folder: &mut F,
-    next: &Joiner,
-) -> Result<(), FolderError>
-    ensures stands { F.stands folder.new ≡ F.stands folder.old }
-{
-    match next.text(alloc) {
-        Ok(text) => folder.keep_joining(text),
-        Err(_) => Err(FolderError::Store(FolderFault::Memory)),
-    }
-}
-
 /// Writes that the folder has joined: last, so that whatever it may vote by is there before.
 fn keep_joined<T: Tape + Drop, F: NodeFolder<T>>(
-    alloc: Global,
     process: &Process<T>,
     notes: &mut Notes,
     folder: &mut F,
@@ -108,7 +92,7 @@ fn keep_joined<T: Tape + Drop, F: NodeFolder<T>>(
     ensures stands { F.stands folder.new ≡ F.stands folder.old }
 {
     match keep_reach(process, notes, folder) {
-        Ok(()) => folder.keep_joining(Vec::new(alloc)),
+        Ok(()) => folder.finish_joining(),
         Err(why) => Err(why),
     }
 }

@@ -1,25 +1,24 @@
 //! The connections of a node to its peers: they are opened, written on, and tried again.
 ghost use Rattle.std.specs.Prelude.{◌≡◌};
-ghost use Rattle.wf_loop.specs.Continuation.{Continues, ContinuesIn};
 ghost use Rattle.wf_peer.specs.GreetingReply.{EndsANode};
+ghost use Rattle.wf_voter.specs.Continuation.{Continues, ContinuesIn};
 
-use crate::acts::{ask, finish_post};
 use crate::greeting::greeting;
-use crate::hub::Voter;
 use crate::peer_reads::admit;
-use crate::reopening::NodeFolder;
 use std::alloc::Global;
 use std::net::Net;
 use std::time::Clock;
 use wf_ballot::NodeId;
-use wf_mesh::{Dial, DialTurn, Gate, Mesh, PeerEnd, id_of};
+use wf_membership::Gate;
+use wf_mesh::{Dial, DialTurn, Mesh, PeerEnd, id_of};
 use wf_peer::{GreetingReply, PeerRejection};
 use wf_sockets::{Connection, Network};
 use wf_tape::Tape;
 use wf_visitors::Context;
+use wf_voter::{NodeFolder, Voter, ask, finish_post};
 
 /// Lets the connection to a peer go on.
-#[tactic(auto, using(crate::proofs::Continuation::still_in, crate::proofs::Continuation::on_in, crate::proofs::Continuation::twice_in))]
+#[tactic(auto, using(wf_voter::proofs::Continuation::still_in, wf_voter::proofs::Continuation::on_in, wf_voter::proofs::Continuation::twice_in))]
 pub(crate) fn call<R: Clock + Eprint + AllocGlobal, T: Tape + Drop, F: NodeFolder<T>, N: Network>(
     context: &Context<'_, '_, R, N>,
     voter: &mut Voter<T>,
@@ -67,7 +66,7 @@ fn turn_dial<C: Connection + Drop>(dial: &mut Dial<C>, now: u64) -> DialTurn {
 
 /// Opens the connection to a peer, whose reply has come. One that is open already brings the peer's
 /// greeting again, by which the connection is known to stand.
-#[tactic(auto, using(crate::proofs::Continuation::still_in, crate::proofs::Continuation::on_in, crate::proofs::Continuation::twice_in))]
+#[tactic(auto, using(wf_voter::proofs::Continuation::still_in, wf_voter::proofs::Continuation::on_in, wf_voter::proofs::Continuation::twice_in))]
 fn open<R: Clock + Eprint + AllocGlobal, T: Tape + Drop, F: NodeFolder<T>, N: Network>(
     context: &Context<'_, '_, R, N>,
     voter: &mut Voter<T>,
@@ -96,7 +95,7 @@ fn open<R: Clock + Eprint + AllocGlobal, T: Tape + Drop, F: NodeFolder<T>, N: Ne
 }
 
 /// Why the connection to a peer doesn't open, by its reply.
-#[tactic(auto, using(crate::proofs::Continuation::still_in, crate::proofs::Continuation::on_in))]
+#[tactic(auto, using(wf_voter::proofs::Continuation::still_in, wf_voter::proofs::Continuation::on_in))]
 fn why_not<R: Clock + Eprint + AllocGlobal, T: Tape + Drop, F: NodeFolder<T>, N: Network>(
     context: &Context<'_, '_, R, N>,
     voter: &mut Voter<T>,
@@ -128,7 +127,7 @@ fn why_not<R: Clock + Eprint + AllocGlobal, T: Tape + Drop, F: NodeFolder<T>, N:
 
 /// A peer doesn't let this node in. One that remembers more of the node than it has suspends it:
 /// nothing leaves it from now on. Of one whose history differs that is noted.
-#[tactic(auto, using(crate::proofs::Continuation::still))]
+#[tactic(auto, using(wf_voter::proofs::Continuation::still))]
 fn take_rejection<R: Clock + Eprint, T: Tape + Drop, N: Network>(
     context: &Context<'_, '_, R, N>,
     voter: &mut Voter<T>,
@@ -197,7 +196,7 @@ fn connect_if_due<R: Net + Clock + Eprint + AllocGlobal, T: Tape + Drop, N: Netw
 
 /// Asks a peer for the definitions that the node lacks, if it is time to: nobody once the tape has
 /// failed.
-#[tactic(auto, using(crate::proofs::Continuation::still))]
+#[tactic(auto, using(wf_voter::proofs::Continuation::still))]
 fn ask_next<T: Tape + Drop, N: Network>(
     alloc: Global,
     voter: &mut Voter<T>,
@@ -217,7 +216,7 @@ fn ask_next<T: Tape + Drop, N: Network>(
 }
 
 /// Asks each peer for the next definition: peers learn by this that the node is there.
-#[tactic(auto, using(crate::proofs::Continuation::still, crate::proofs::Continuation::twice))]
+#[tactic(auto, using(wf_voter::proofs::Continuation::still, wf_voter::proofs::Continuation::twice))]
 pub(crate) fn ask_all<T: Tape + Drop, N: Network>(
     alloc: Global,
     voter: &mut Voter<T>,
@@ -231,7 +230,7 @@ pub(crate) fn ask_all<T: Tape + Drop, N: Network>(
 }
 
 /// Asks a peer for the next definition, if messages can be sent to it.
-#[tactic(auto, using(crate::proofs::Continuation::still))]
+#[tactic(auto, using(wf_voter::proofs::Continuation::still))]
 fn ask_at<T: Tape + Drop, N: Network>(
     alloc: Global,
     voter: &mut Voter<T>,
@@ -265,7 +264,7 @@ pub(crate) fn greet_again<R: Clock + Eprint + AllocGlobal, T: Tape + Drop, N: Ne
 
 /// Asks for what the node lacks, writes what waits for the peers, and extends the digests if there
 /// is time.
-#[tactic(auto, using(crate::proofs::Continuation::still, crate::proofs::Continuation::twice))]
+#[tactic(auto, using(wf_voter::proofs::Continuation::still, wf_voter::proofs::Continuation::twice))]
 pub(crate) fn call_all<R: Clock + Eprint + AllocGlobal, T: Tape + Drop, N: Network>(
     context: &Context<'_, '_, R, N>,
     voter: &mut Voter<T>,
@@ -297,7 +296,7 @@ pub(crate) fn send_all<R: Clock + Eprint + AllocGlobal, T: Tape + Drop, N: Netwo
 
 /// Gives the posts that wait to the connections of those of the peers that they are for, and to the
 /// node itself.
-#[tactic(auto, using(crate::proofs::Continuation::still, crate::proofs::Continuation::twice))]
+#[tactic(auto, using(wf_voter::proofs::Continuation::still, wf_voter::proofs::Continuation::twice))]
 fn post_all<T: Tape + Drop, N: Network>(voter: &mut Voter<T>, mesh: &mut Mesh<N>)
     ensures { Continues T.Tape voter.old voter.new }
 {

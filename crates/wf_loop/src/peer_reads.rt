@@ -1,15 +1,12 @@
 //! What comes from the peers of a node: connections, greetings and messages.
 ghost use Rattle.std.specs.Prelude.{◌≡◌, [], OnOk};
-ghost use Rattle.wf_loop.specs.Continuation.{Continues, ContinuesIn};
 ghost use Rattle.wf_peer.specs.Admission.{IsNodesFolder};
+ghost use Rattle.wf_voter.specs.Continuation.{Continues, ContinuesIn};
 
-use crate::acts::deliver;
 use crate::greeting::greeting;
 use crate::heard::save;
-use crate::hub::Voter;
 use crate::order::obey;
 use crate::peer_calls::send_all;
-use crate::reopening::NodeFolder;
 use std::mem::replace;
 use std::net::SocketAddr;
 use std::time::Clock;
@@ -19,13 +16,14 @@ use wf_peer::{Greeting, PeerRejection};
 use wf_sockets::{Connection, Network};
 use wf_tape::Tape;
 use wf_visitors::{Context, micros};
+use wf_voter::{NodeFolder, Voter, deliver};
 use wf_wire::PeerMessage;
 
 /// The most pieces that a turn reads of a peer.
 const MOST_PIECES: u32 = 4;
 
 /// Accepts connections from peers.
-#[tactic(auto, using(crate::proofs::Continuation::still_in, crate::proofs::Continuation::on_in, crate::proofs::Continuation::twice_in))]
+#[tactic(auto, using(wf_voter::proofs::Continuation::still_in, wf_voter::proofs::Continuation::on_in, wf_voter::proofs::Continuation::twice_in))]
 pub(crate) fn accept<R: Clock + Eprint + AllocGlobal, T: Tape + Drop, F: NodeFolder<T>, N: Network>(
     context: &Context<'_, '_, R, N>,
     voter: &mut Voter<T>,
@@ -46,7 +44,7 @@ pub(crate) fn accept<R: Clock + Eprint + AllocGlobal, T: Tape + Drop, F: NodeFol
 }
 
 /// Puts a connection from a peer's address into a free slot.
-#[tactic(auto, using(crate::proofs::Continuation::still_in, crate::proofs::Continuation::on_in))]
+#[tactic(auto, using(wf_voter::proofs::Continuation::still_in, wf_voter::proofs::Continuation::on_in))]
 fn place<R: Clock + Eprint + AllocGlobal, T: Tape + Drop, F: NodeFolder<T>, N: Network>(
     context: &Context<'_, '_, R, N>,
     voter: &mut Voter<T>,
@@ -66,7 +64,7 @@ fn place<R: Clock + Eprint + AllocGlobal, T: Tape + Drop, F: NodeFolder<T>, N: N
 }
 
 /// Reads what came from a peer, a bounded part of it, and delivers it.
-#[tactic(auto, using(crate::proofs::Continuation::still_in, crate::proofs::Continuation::on_in))]
+#[tactic(auto, using(wf_voter::proofs::Continuation::still_in, wf_voter::proofs::Continuation::on_in))]
 pub(crate) fn read_inbound<
     R: Clock + Eprint + AllocGlobal,
     T: Tape + Drop,
@@ -107,7 +105,7 @@ fn receive_out<R: Clock + Eprint + AllocGlobal, T: Tape + Drop, F: NodeFolder<T>
 }
 
 /// Reads what came on a connection, a bounded part of it. Some: it has ended.
-#[tactic(auto, using(crate::proofs::Continuation::still_in, crate::proofs::Continuation::on_in))]
+#[tactic(auto, using(wf_voter::proofs::Continuation::still_in, wf_voter::proofs::Continuation::on_in))]
 fn read<R: Clock + Eprint + AllocGlobal, T: Tape + Drop, F: NodeFolder<T>, N: Network>(
     context: &Context<'_, '_, R, N>,
     voter: &mut Voter<T>,
@@ -126,7 +124,7 @@ fn read<R: Clock + Eprint + AllocGlobal, T: Tape + Drop, F: NodeFolder<T>, N: Ne
 
 /// Reads what came on a connection, a bounded number of pieces, each to the front of the buffer.
 /// Some: it has ended.
-#[tactic(auto, using(crate::proofs::Continuation::still_in, crate::proofs::Continuation::on_in, crate::proofs::Continuation::twice_in))]
+#[tactic(auto, using(wf_voter::proofs::Continuation::still_in, wf_voter::proofs::Continuation::on_in, wf_voter::proofs::Continuation::twice_in))]
 fn read_pieces<R: Clock + Eprint + AllocGlobal, T: Tape + Drop, F: NodeFolder<T>, N: Network>(
     context: &Context<'_, '_, R, N>,
     voter: &mut Voter<T>,
@@ -151,7 +149,7 @@ fn read_pieces<R: Clock + Eprint + AllocGlobal, T: Tape + Drop, F: NodeFolder<T>
 
 /// Takes in what came in one piece. Err: nothing more is to be read now, and why the connection has
 /// ended if it has.
-#[tactic(auto, using(crate::proofs::Continuation::still_in, crate::proofs::Continuation::on_in))]
+#[tactic(auto, using(wf_voter::proofs::Continuation::still_in, wf_voter::proofs::Continuation::on_in))]
 fn take_in<R: Clock + Eprint + AllocGlobal, T: Tape + Drop, F: NodeFolder<T>, N: Network>(
     context: &Context<'_, '_, R, N>,
     voter: &mut Voter<T>,
@@ -184,7 +182,7 @@ fn take_in<R: Clock + Eprint + AllocGlobal, T: Tape + Drop, F: NodeFolder<T>, N:
 
 /// Lets a peer in that has greeted, in the place of an older connection from it. Some: it isn't let
 /// in.
-#[tactic(auto, using(crate::proofs::Continuation::twice_in, crate::proofs::Continuation::on_in))]
+#[tactic(auto, using(wf_voter::proofs::Continuation::twice_in, wf_voter::proofs::Continuation::on_in))]
 fn let_in<R: Clock + Eprint + AllocGlobal, T: Tape + Drop, F: NodeFolder<T>, N: Network>(
     context: &Context<'_, '_, R, N>,
     voter: &mut Voter<T>,
@@ -226,7 +224,7 @@ fn let_in<R: Clock + Eprint + AllocGlobal, T: Tape + Drop, F: NodeFolder<T>, N: 
 /// dialed, or one from an address. What is heard of it is in the folder before it is answered, and
 /// so is of what it is accused, and what it says of replacements. Whether its history differs is
 /// noted.
-#[tactic(auto, using(crate::proofs::Continuation::twice_in))]
+#[tactic(auto, using(wf_voter::proofs::Continuation::twice_in))]
 pub(crate) fn admit<R: Clock + Eprint + AllocGlobal, T: Tape + Drop, F: NodeFolder<T>, N: Network>(
     context: &Context<'_, '_, R, N>,
     voter: &mut Voter<T>,
@@ -255,7 +253,7 @@ pub(crate) fn admit<R: Clock + Eprint + AllocGlobal, T: Tape + Drop, F: NodeFold
 }
 
 /// Judges the messages that came from a peer, and delivers them. Some: the connection has ended.
-#[tactic(auto, using(crate::proofs::Continuation::still_in, crate::proofs::Continuation::on_in, crate::proofs::Continuation::twice_in))]
+#[tactic(auto, using(wf_voter::proofs::Continuation::still_in, wf_voter::proofs::Continuation::on_in, wf_voter::proofs::Continuation::twice_in))]
 fn deliver_all<R: Clock + Eprint + AllocGlobal, T: Tape + Drop, F: NodeFolder<T>, N: Network>(
     context: &Context<'_, '_, R, N>,
     voter: &mut Voter<T>,
@@ -304,7 +302,7 @@ fn takes_next<T: Tape + Drop, C: Connection + Drop>(
 
 /// Judges the first message that waits of a peer, and delivers it: one that raises the peer's round
 /// or promise once that is in the folder. Some: it isn't delivered, and the connection ends.
-#[tactic(auto, using(crate::proofs::Continuation::still_in, crate::proofs::Continuation::on_in, crate::proofs::Continuation::twice_in))]
+#[tactic(auto, using(wf_voter::proofs::Continuation::still_in, wf_voter::proofs::Continuation::on_in, wf_voter::proofs::Continuation::twice_in))]
 fn deliver_next<R: Clock + Eprint + AllocGlobal, T: Tape + Drop, F: NodeFolder<T>, N: Network>(
     context: &Context<'_, '_, R, N>,
     voter: &mut Voter<T>,
@@ -339,7 +337,7 @@ fn hears_next<C: Connection + Drop>(inbound: &Inbound<C>, notes: &mut Notes, pee
 
 /// Whether what the first message tells of its peer is in the folder: where it isn't, it is
 /// written.
-#[tactic(auto, using(crate::proofs::Continuation::still_in))]
+#[tactic(auto, using(wf_voter::proofs::Continuation::still_in))]
 fn keeps_next<R: Clock + Eprint + AllocGlobal, T: Tape + Drop, F: NodeFolder<T>, N: Network>(
     context: &Context<'_, '_, R, N>,
     voter: &mut Voter<T>,
@@ -371,7 +369,7 @@ fn is_kept_next<T: Tape + Drop, C: Connection + Drop>(
 }
 
 /// Delivers a message of a peer, and writes the answer at once: the peers wait for it.
-#[tactic(auto, using(crate::proofs::Continuation::twice))]
+#[tactic(auto, using(wf_voter::proofs::Continuation::twice))]
 fn deliver_first<R: Clock + Eprint + AllocGlobal, T: Tape + Drop, N: Network>(
     context: &Context<'_, '_, R, N>,
     voter: &mut Voter<T>,

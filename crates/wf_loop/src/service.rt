@@ -3,40 +3,34 @@ ghost use Rattle.std.specs.Prelude.{◌≡◌, ◌≤◌, ◌+◌, ◌↔◌, �
 ghost use Rattle.wf_actor.specs.Process.{IsJustOpened};
 ghost use Rattle.wf_digest.specs.Digest.{AreDigestsOf};
 ghost use Rattle.wf_folder.specs.declared.suspension.Suspension.{Suspension as SuspensionValue};
+ghost use Rattle.wf_loop.specs.Hub.{GreetsAsNow, HasAnswered, IsBusy, IsHeardFirst, IsJoiner, IsOutvoted, IsOver, IsReopeningDue, IsSuspended, OnlyAnswersAsks, OnlyLearns, address_of, kept_of, membership_of, process_of, taken_in_by, time_of};
 ghost use Rattle.wf_mesh.specs.Membership.{membership_by};
 ghost use Rattle.wf_mesh.specs.StartErrors.{IsStartError};
 ghost use Rattle.wf_mesh.specs.declared.plan.NodePlan.{NodePlan as NodePlanValue};
-ghost use Rattle.wf_loop.specs.Folder.{counted};
-ghost use Rattle.wf_loop.specs.Hub.{GreetsAsNow, HasAnswered, IsBusy, IsHeardFirst, IsJoiner, IsOutvoted, IsOver, IsReopeningDue, IsSuspended, OnlyAnswersAsks, OnlyLearns, address_of, kept_of, membership_of, process_of, taken_in_by, time_of};
 ghost use Rattle.wf_node.specs.Reopening.{HasStoredAs};
-ghost use Rattle.wf_loop.specs.Lived.{HasLived};
-ghost use Rattle.wf_loop.specs.Continuation.{ContinuesIn, IsNextRun, StaysInRun, KeepsEarlier, StaysSuspended};
 ghost use Rattle.wf_visitors.specs.Visitors.{responses_of};
+ghost use Rattle.wf_voter.specs.Continuation.{ContinuesIn, IsNextRun, StaysInRun, KeepsEarlier, StaysSuspended};
+ghost use Rattle.wf_voter.specs.Folder.{counted};
+ghost use Rattle.wf_voter.specs.Lived.{HasLived};
 
-use crate::acts::begin_run;
-use crate::clients::Clients;
 use crate::clock::turn_by_clock;
-use crate::hub::{Hub, Voter};
+use crate::hub::Hub;
 use crate::order::keep_reach;
-use crate::reopening::{NextRun, NodeFolder, NotReopened, TapeNotReopened};
 use crate::turn::{answer_operators, has_more, serve_all};
 use std::alloc::Global;
 use std::net::{Net, SocketAddr};
 use std::rt::Files;
 use std::time::Clock;
 use wf_actor::Process;
-use wf_digest::Digests;
-use wf_folder::Suspension;
-use wf_mesh::{
-    Gate, HubParts, HubStart, LoopFault, Membership, NodeEvent, NodePlan, Pace, TICK_MILLIS, Tally,
-    bind,
-};
-use wf_operator::{Behind, PictureCounts};
+use wf_membership::Gate;
+use wf_mesh::{HubParts, HubStart, LoopFault, NodeEvent, NodePlan, Pace, TICK_MILLIS, bind};
+use wf_operator::Behind;
 use wf_peer::PeerProgress;
 use wf_sockets::{Network, NetworkError, SystemNetwork};
 use wf_store::FileName;
 use wf_tape::Tape;
 use wf_visitors::{Context, Log, Visitors, now};
+use wf_voter::{Clients, NextRun, NodeFolder, NotReopened, TapeNotReopened, Voter, begin_run};
 
 /// The most sockets of a turn.
 const MOST_READY: usize = 256;
@@ -88,34 +82,6 @@ fn hub_of<T: Tape + Drop, N: Network + Drop>(
     }
 }
 
-/// A process that has answered nobody yet, and doesn't act yet.
-fn voter_of<T: Tape>(
-    alloc: Global,
-    process: Process<T>,
-    kept: PeerProgress,
-    suspension: &Option<Suspension>,
-    membership: Membership,
-) -> Voter<T>
-    ensures process { result.process ≡ process }
-    ensures kept { result.kept ≡ kept }
-    ensures suspended { IsSome suspension.now → result.gate ≡ Gate.Suspended }
-    ensures membership { result.membership ≡ membership }
-{
-    let gate = match suspension {
-        Some(_) => Gate::Suspended,
-        None => Gate::Starting,
-    };
-    Voter {
-        process,
-        gate,
-        is_outvoted: false,
-        membership,
-        kept,
-        rejected: Tally::new(alloc),
-        pictures: PictureCounts::default(),
-    }
-}
-
 /// A hub of these parts.
 fn assemble<T: Tape + Drop, N: Network + Drop>(
     alloc: Global,
@@ -136,7 +102,7 @@ fn assemble<T: Tape + Drop, N: Network + Drop>(
     let pace = parts.pace(time);
     let http = visitors.address(&parts.network);
     let clients = Clients::new(visitors);
-    let voter = voter_of(
+    let voter = Voter::new(
         alloc,
         process,
         known,
@@ -341,7 +307,7 @@ impl<T: Tape + Drop, N: Network + Drop> Hub<T, N> {
     /// Opens the node again on the tape of its folder, once it has failed: the node that it was, of
     /// as many. Its run ends, and another begins, which counts as a start of the folder. Err: why
     /// not; nothing has changed but that it is tried again later, and the log has the cause.
-    #[tactic(auto, using(crate::proofs::Continuation::keeps_same))]
+    #[tactic(auto, using(wf_voter::proofs::Continuation::keeps_same))]
     pub fn reopen<R: Clock + Eprint + AllocGlobal, F: NodeFolder<T>>(
         &mut self,
         rt: &R,
@@ -368,7 +334,7 @@ impl<T: Tape + Drop, N: Network + Drop> Hub<T, N> {
         ensures earlier { (process_of self.old).actor.node.halted ≡ true →
             KeepsEarlier T.Tape (process_of self.old) (process_of self.new) }
     {
-        match self.next_run(rt.alloc(), folder) {
+        match self.voter.next_run(rt.alloc(), folder) {
             Ok(next) => {
                 self.begin_run(next);
                 log.write(&NodeEvent::Reopened);
@@ -384,72 +350,6 @@ impl<T: Tape + Drop, N: Network + Drop> Hub<T, N> {
                 });
                 Err(why)
             }
-        }
-    }
-
-    /// The process's next run, on the tape of its folder, whose start is counted last.
-    fn next_run<F: NodeFolder<T>>(
-        &self,
-        alloc: Global,
-        folder: &mut F,
-    ) -> Result<NextRun<T>, NotReopened>
-        ensures begun { IfOk result (λ next. IsJustOpened next.process) }
-        ensures stored { IfOk result (λ next.
-            HasStoredAs (process_of self.now).actor.node next.process.actor.node) }
-        ensures ended { IfOk result (λ next. next.process.ended.items ≡
-            (process_of self.now).ended.items ++ ((process_of self.now).actor, 0) ∷ []) }
-        ensures follows { IfOk result (λ next. (process_of self.now).actor.node.halted ≡ true →
-            IsNextRun T.Tape (process_of self.now).actor next.process.actor) }
-        ensures digests { IfOk result (λ next. AreDigestsOf [] next.digests) }
-        ensures counted { OnOk result (F.stands folder.new ≡ counted (F.stands folder.old)) }
-        ensures before { (F.stands folder.new).begun ≡ (F.stands folder.old).begun }
-        ensures heard { (F.stands folder.new).heard ≡ (F.stands folder.old).heard }
-        ensures starts { IfOk result (λ next. next.starts ≡ (F.stands folder.new).starts) }
-    {
-        let process = match self.open_process(alloc, folder) {
-            Ok(process) => process,
-            Err(why) => return Err(why),
-        };
-        let Ok(digests) = Digests::new(alloc) else {
-            drop(process);
-            return Err(NotReopened::Memory);
-        };
-        match folder.count_start() {
-            Ok(starts) => Ok(NextRun {
-                process,
-                digests,
-                starts,
-            }),
-            Err(why) => {
-                drop(process);
-                drop(digests);
-                Err(why)
-            }
-        }
-    }
-
-    /// The process in its next run, on the tape of its folder.
-    #[tactic(auto, using(crate::proofs::Continuation::follows_opened))]
-    fn open_process<F: NodeFolder<T>>(
-        &self,
-        alloc: Global,
-        folder: &mut F,
-    ) -> Result<Process<T>, NotReopened>
-        ensures begun { IfOk result (λ process. IsJustOpened process) }
-        ensures stored { IfOk result (λ process.
-            HasStoredAs (process_of self.now).actor.node process.actor.node) }
-        ensures ended { IfOk result (λ process. process.ended.items ≡
-            (process_of self.now).ended.items ++ ((process_of self.now).actor, 0) ∷ []) }
-        ensures follows { IfOk result (λ process. (process_of self.now).actor.node.halted ≡ true →
-            IsNextRun T.Tape (process_of self.now).actor process.actor) }
-        ensures stands { F.stands folder.new ≡ F.stands folder.old }
-    {
-        match folder.open() {
-            Ok(tape) => match self.voter.process.reopen(alloc, tape) {
-                Ok(process) => Ok(process),
-                Err(fault) => Err(NotReopened::Tape(fault)),
-            },
-            Err(why) => Err(why),
         }
     }
 
@@ -610,7 +510,7 @@ impl<T: Tape + Drop, N: Network + Drop> Hub<T, N> {
 
     /// Does what is to be done, unless what was written is for the next start of the folder.
     /// Returns whether there is more to do.
-    #[tactic(auto, using(crate::proofs::Continuation::still_in))]
+    #[tactic(auto, using(wf_voter::proofs::Continuation::still_in))]
     fn act_unless<R: Net + Files + Clock + Eprint + AllocGlobal, F: NodeFolder<T>>(
         &mut self,
         is_over: bool,

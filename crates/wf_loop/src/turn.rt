@@ -1,14 +1,10 @@
 //! What a turn does once it has waited.
 ghost use Rattle.std.specs.Prelude.{◌≡◌, true};
-ghost use Rattle.wf_loop.specs.Continuation.{Continues, ContinuesIn};
+ghost use Rattle.wf_voter.specs.Continuation.{Continues, ContinuesIn};
 
-use crate::acts::handle_own;
-use crate::clients::Clients;
 use crate::greeting::state_of;
-use crate::hub::Voter;
 use crate::peer_calls::{call, send_all};
 use crate::peer_reads::{accept, read_inbound};
-use crate::reopening::NodeFolder;
 use std::net::Net;
 use std::rt::Files;
 use std::time::Clock;
@@ -17,6 +13,7 @@ use wf_operator::Behind;
 use wf_sockets::Network;
 use wf_tape::Tape;
 use wf_visitors::{Context, micros};
+use wf_voter::{Clients, NodeFolder, Voter, handle_own};
 
 /// The most of its own messages that a turn delivers.
 const MOST_OWN: u32 = 64;
@@ -57,11 +54,11 @@ pub(crate) fn has_more<T: Tape + Drop, N: Network>(
     mesh: &Mesh<N>,
     clients: &Clients<T, N>,
 ) -> bool {
-    mesh.is_busy || (voter.answers() && clients.visitors.is_busy())
+    mesh.is_busy || (voter.answers() && clients.visitors().is_busy())
 }
 
 /// Does what the sockets with these tokens ask for: those of peers first.
-#[tactic(auto, using(crate::proofs::Continuation::still_in, crate::proofs::Continuation::on_in, crate::proofs::Continuation::twice_in))]
+#[tactic(auto, using(wf_voter::proofs::Continuation::still_in, wf_voter::proofs::Continuation::on_in, wf_voter::proofs::Continuation::twice_in))]
 fn act_on_all<R: Net + Clock + Eprint + AllocGlobal, T: Tape + Drop, F: NodeFolder<T>, N: Network>(
     context: &Context<'_, '_, R, N>,
     voter: &mut Voter<T>,
@@ -80,7 +77,7 @@ fn act_on_all<R: Net + Clock + Eprint + AllocGlobal, T: Tape + Drop, F: NodeFold
 }
 
 /// Does what those of the sockets with these tokens ask for that are of peers, or the others.
-#[tactic(auto, using(crate::proofs::Continuation::still_in, crate::proofs::Continuation::on_in, crate::proofs::Continuation::twice_in))]
+#[tactic(auto, using(wf_voter::proofs::Continuation::still_in, wf_voter::proofs::Continuation::on_in, wf_voter::proofs::Continuation::twice_in))]
 fn act_on_those<
     R: Net + Clock + Eprint + AllocGlobal,
     T: Tape + Drop,
@@ -110,7 +107,7 @@ fn act_on_those<
 }
 
 /// Does what a ready socket asks for.
-#[tactic(auto, using(crate::proofs::Continuation::still_in, crate::proofs::Continuation::on_in))]
+#[tactic(auto, using(wf_voter::proofs::Continuation::still_in, wf_voter::proofs::Continuation::on_in))]
 fn act_on<R: Net + Clock + Eprint + AllocGlobal, T: Tape + Drop, F: NodeFolder<T>, N: Network>(
     context: &Context<'_, '_, R, N>,
     voter: &mut Voter<T>,
@@ -142,7 +139,7 @@ fn act_on<R: Net + Clock + Eprint + AllocGlobal, T: Tape + Drop, F: NodeFolder<T
 }
 
 /// Delivers messages of the node to itself, a bounded number of them.
-#[tactic(auto, using(crate::proofs::Continuation::still, crate::proofs::Continuation::twice))]
+#[tactic(auto, using(wf_voter::proofs::Continuation::still, wf_voter::proofs::Continuation::twice))]
 fn handle_all_own<R: Clock + Eprint + AllocGlobal, T: Tape + Drop, N: Network>(
     context: &Context<'_, '_, R, N>,
     voter: &mut Voter<T>,
@@ -159,7 +156,7 @@ fn handle_all_own<R: Clock + Eprint + AllocGlobal, T: Tape + Drop, N: Network>(
 
 /// Delivers the first message of the node to itself. What waits for the peers is written before:
 /// they store it while the node does. Returns whether a message waited.
-#[tactic(auto, using(crate::proofs::Continuation::twice))]
+#[tactic(auto, using(wf_voter::proofs::Continuation::twice))]
 fn handle_next_own<R: Clock + Eprint + AllocGlobal, T: Tape + Drop, N: Network>(
     context: &Context<'_, '_, R, N>,
     voter: &mut Voter<T>,
@@ -177,7 +174,7 @@ fn handle_next_own<R: Clock + Eprint + AllocGlobal, T: Tape + Drop, N: Network>(
 }
 
 /// Answers requests of clients that are whole, a bounded number of them.
-#[tactic(auto, using(crate::proofs::Continuation::still, crate::proofs::Continuation::twice))]
+#[tactic(auto, using(wf_voter::proofs::Continuation::still, wf_voter::proofs::Continuation::twice))]
 fn serve_clients<R: Clock + Eprint + AllocGlobal, T: Tape + Drop, N: Network>(
     context: &Context<'_, '_, R, N>,
     voter: &mut Voter<T>,
@@ -199,7 +196,7 @@ fn serve_clients<R: Clock + Eprint + AllocGlobal, T: Tape + Drop, N: Network>(
 
 /// Answers the next request of a client, if it is whole. What it makes the node send is written to
 /// the peers before the client is written to. Returns whether there was one.
-#[tactic(auto, using(crate::proofs::Continuation::twice))]
+#[tactic(auto, using(wf_voter::proofs::Continuation::twice))]
 fn serve_next<R: Clock + Eprint + AllocGlobal, T: Tape + Drop, N: Network>(
     context: &Context<'_, '_, R, N>,
     voter: &mut Voter<T>,
@@ -264,11 +261,11 @@ fn tell_operators<R: Files + Clock + Eprint + AllocGlobal, T: Tape + Drop, N: Ne
         is_halted: process.is_halted(),
         is_outvoted: voter.is_outvoted,
         proposal: process.node().proposal(),
-        requests: clients.visitors.counts(),
+        requests: clients.visitors().counts(),
         rejected: &voter.rejected,
         pictures: voter.pictures,
         unkept: process.cache().unkept(),
-        clients: clients.visitors.taken_slots(),
+        clients: clients.visitors().taken_slots(),
     };
     mesh.answer_operators(context, desk, &view, is_behind);
 }

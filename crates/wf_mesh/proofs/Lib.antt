@@ -1,1 +1,2 @@
+pub mod Joining
 mod Posted

@@ -1,13 +1,24 @@
 -- What is posted to the connections to peers.
-use Rattle.std.specs.Prelude.{◌≡◌, ℕ, Bool, true, false, List, length, slice_get, Option, Some, None}
+use Rattle.std.specs.Prelude.{◌≡◌, ℕ, Bool, true, false, List, [], length, slice_get, is_some, Option, Some, None}
 use Rattle.wf_def.specs.Definition.{Definition}
 use Rattle.wf_mesh.specs.declared.dial.Dial.{Dial}
 use Rattle.wf_model.specs.Message.{Message}
 use Rattle.wf_sockets.specs.declared.connection.Connection.{Ghosts as Connection}
 use Rattle.wf_wire.specs.Offer.{AreOffered}
 use Rattle.wf_wire.specs.Target.{includes}
+use Rattle.wf_wire.specs.ToPeer.{waiting_for}
 use Rattle.wf_wire.specs.declared.target.Target.{Target}
 use Rattle.wf_wire.specs.declared.to_peer.ToPeer.{ToPeer}
+
+-- whether messages can be sent: there is a connection, and an outbox on it
+abbrev pub can_send : {C : Type 0} {connections : Connection C} → Option (ToPeer C connections) → Bool
+can_send None = false
+can_send (Some to) = is_some to.outbox
+
+-- the bytes of messages that wait, if there is one
+abbrev pub waiting_on : {C : Type 0} {connections : Connection C} → Option (ToPeer C connections) → List ℕ
+waiting_on None = []
+waiting_on (Some to) = waiting_for to.outbox
 
 -- The messages were offered to the outbox of the connection, if there is one.
 abbrev pub AreOfferedOn : {C : Type 0} {connections : Connection C} → List (Message Definition) → Option (ToPeer C connections) → Option (ToPeer C connections) → Type 0

@@ -1,7 +1,8 @@
 pub mod Alarms
 pub mod Dials
-pub mod FolderErrors
 pub mod Inbound
+pub mod Joining
 pub mod Membership
 pub mod StartErrors
 pub mod Token
+pub mod Told

@@ -1,6 +1,6 @@
 -- What a node goes by of the replacements of nodes.
 use Rattle.std.specs.Prelude.{is_some}
-use Rattle.wf_mesh.specs.declared.membership.Membership.{Membership}
+use Rattle.wf_membership.specs.declared.membership.Membership.{Membership}
 use Rattle.wf_mesh.specs.declared.plan.NodePlan.{NodePlan}
 
 -- by its plan: whether its folder joins, and the replacements that its folder knows of

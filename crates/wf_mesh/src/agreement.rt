@@ -1,4 +1,5 @@
 //! Whether the histories of the peers agree with a node's.
+ghost use Rattle.std.specs.Prelude.{◌≡◌};
 
 use crate::dial::Dial;
 use crate::event::NodeEvent;
@@ -19,7 +20,10 @@ impl<N: Network> Mesh<N> {
         context: &Context<'_, '_, R, N>,
         peer: NodeId,
         sequence: u16,
-    ) {
+    )
+        ensures order { self.new.order ≡ self.old.order }
+        ensures plan { self.new.plan ≡ self.old.plan }
+    {
         let number = peer.number() as usize;
         let (Some(state), Some(address)) = (
             self.states.get_mut(number),

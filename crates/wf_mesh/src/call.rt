@@ -1,7 +1,7 @@
 //! The connection to a peer begins, opens, is written on and ends.
-ghost use Rattle.std.specs.Prelude.{map};
+ghost use Rattle.std.specs.Prelude.{◌≡◌, None, length, map};
 ghost use Rattle.wf_codec.specs.Message.{view};
-ghost use Rattle.wf_mesh.specs.Dials.{AreOfferedIf, AreOfferedOn, ArePosted};
+ghost use Rattle.wf_mesh.specs.Dials.{AreOfferedIf, AreOfferedOn, ArePosted, can_send, waiting_on};
 
 use crate::dial::{Dial, DialTurn};
 use crate::event::PeerEnd;
@@ -41,7 +41,9 @@ const MINUTE: u64 = 60_000;
 
 impl<C: Connection + Drop> Dial<C> {
     /// No connection yet.
-    pub(crate) fn new(alloc: Global, address: SocketAddr) -> Self {
+    pub(crate) fn new(alloc: Global, address: SocketAddr) -> Self
+        ensures { result.to ≡ None }
+    {
         Dial {
             address,
             to: None,
@@ -64,7 +66,9 @@ impl<C: Connection + Drop> Dial<C> {
     }
 
     /// Whether messages can be sent on it.
-    pub fn is_open(&self) -> bool {
+    pub fn is_open(&self) -> bool
+        ensures { result ≡ can_send self.now.to }
+    {
         match &self.to {
             Some(to) => to.is_open(),
             None => false,
@@ -97,7 +101,9 @@ impl<C: Connection + Drop> Dial<C> {
     }
 
     /// It is open from now on, if all of the greeting was sent. Returns whether it is.
-    pub(crate) fn open(&mut self, alloc: Global, now: u64) -> bool {
+    pub(crate) fn open(&mut self, alloc: Global, now: u64) -> bool
+        ensures { result ≡ can_send self.new.to }
+    {
         let is_open = match &mut self.to {
             Some(to) => to.open(alloc),
             None => false,
@@ -151,7 +157,9 @@ impl<C: Connection + Drop> Dial<C> {
     }
 
     /// Tries again later.
-    fn postpone(&mut self, now: u64) {
+    fn postpone(&mut self, now: u64)
+        ensures { self.new.to ≡ self.old.to }
+    {
         self.due = Alarm::after(now, self.backoff.wait());
     }
 
@@ -173,7 +181,9 @@ impl<C: Connection + Drop> Dial<C> {
     }
 
     /// Ends the connection.
-    pub(crate) fn end(&mut self, now: u64) {
+    pub(crate) fn end(&mut self, now: u64)
+        ensures { self.new.to ≡ None }
+    {
         drop(self.to.take());
         self.is_established = false;
         self.postpone(now);
@@ -277,7 +287,9 @@ impl<C: Connection + Drop> Dial<C> {
     }
 
     /// How many bytes of messages wait.
-    pub fn remaining(&self) -> usize {
+    pub fn remaining(&self) -> usize
+        ensures { result ≡ length (waiting_on self.now.to) }
+    {
         match &self.to {
             Some(to) => to.remaining(),
             None => 0,

@@ -1,9 +1,9 @@
 //! The events of a node, and their lines in its log.
 
-use crate::folder_error::FolderError;
 use std::fmt;
 use std::io::ErrorKind;
 use std::net::SocketAddr;
+use wf_membership::FolderError;
 use wf_peer::{GreetingFault, PeerRejection};
 use wf_store::FileName;
 use wf_visitors::{Level, LogEntry};

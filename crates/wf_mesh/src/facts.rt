@@ -5,7 +5,6 @@ use crate::order::Order;
 use crate::peer_state::{Differing, PeerState};
 use crate::question::{Decision, Standing};
 use crate::steps::Steps;
-use crate::tally::Tally;
 use std::alloc::AllocError;
 use std::fmt::Write;
 use std::net::{Ipv6Addr, SocketAddr};
@@ -13,6 +12,7 @@ use std::rt::Files;
 use wf_ballot::NodeId;
 use wf_folder::{PeerAddress, Suspension};
 use wf_learner::History;
+use wf_membership::Tally;
 use wf_operator::{
     Health, MetricType, Operated, PictureCounts, ReplaceReply, ReplaceRequest, StartTime, counter,
     gauge, head, push_open, push_requests, push_sequences, push_tape_bytes, seconds,
@@ -160,7 +160,7 @@ impl<'a, R> NodeFacts<'a, R> {
     fn note(&mut self, order: &Option<Order>) {
         match order {
             Some(Order::Note(latest)) => self.standing.learned = *latest,
-            Some(Order::Join(next)) => self.standing.joining = Some(*next),
+            Some(Order::Join(step)) => self.standing.tell(step),
             Some(Order::Joined) | None => {}
         }
         if order.is_some() {

@@ -1,11 +1,11 @@
 //! The connections from peers of a node: they are accepted, let in or not, and end.
-ghost use Rattle.std.specs.Prelude.{◌≡◌, [], OnOk};
+ghost use Rattle.std.specs.Prelude.{◌≡◌, ◌⊎◌, [], OnOk};
+ghost use Rattle.wf_mesh.specs.Joining.{IsOrderBy};
 ghost use Rattle.wf_peer.specs.Admission.{IsNodesFolder};
 
 use crate::event::{NodeEvent, PeerEnd};
 use crate::inbound::Inbound;
 use crate::intake::close;
-use crate::membership::Membership;
 use crate::mesh::Mesh;
 use crate::peer_state::Greeted;
 use crate::socket::Socket;
@@ -16,6 +16,7 @@ use std::time::Clock;
 use wf_ballot::{NodeId, SEQUENCES};
 use wf_folder::PeerAddress;
 use wf_learner::History;
+use wf_membership::Membership;
 use wf_peer::{Greeting, PeerRejection};
 use wf_sockets::{Connection, Network};
 use wf_visitors::Context;
@@ -96,6 +97,9 @@ impl<N: Network> Mesh<N> {
     ) -> Result<(), PeerRejection>
         // Only the folder that stands for its node by what this node goes by.
         ensures folder { OnOk result (IsNodesFolder membership.now.replacements greeting.now) }
+        // A folder that joins is to write nothing but what this greeting says to it.
+        ensures order { (self.new.order ≡ self.old.order)
+            ⊎ IsOrderBy self.old.plan membership.now greeting.now self.new.order }
     {
         self.notes.extend(history);
         let published = history.published().number();
@@ -167,7 +171,10 @@ impl<N: Network> Mesh<N> {
     }
 
     /// A peer isn't let in.
-    fn count_rejection(&mut self, number: usize) {
+    fn count_rejection(&mut self, number: usize)
+        ensures order { self.new.order ≡ self.old.order }
+        ensures plan { self.new.plan ≡ self.old.plan }
+    {
         if let Some(state) = self.states.get_mut(number) {
             state.rejected = state.rejected.saturating_add(1);
         }

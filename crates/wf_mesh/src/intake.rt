@@ -1,7 +1,8 @@
 //! What comes on a connection from a peer is taken in, and its greeting is answered.
-ghost use Rattle.std.specs.Prelude.{◌≡◌, ◌∷◌, [], List, IfSome};
+ghost use Rattle.std.specs.Prelude.{◌≡◌, ◌∷◌, [], List, IfSome, None, true};
 ghost use Rattle.wf_codec.specs.declared.message.Message as code;
-ghost use Rattle.wf_mesh.specs.Inbound.{messages_in};
+ghost use Rattle.wf_mesh.specs.Inbound.{messages_in, peer_on};
+ghost use Rattle.wf_wire.specs.FromPeer.{peer_of};
 
 use crate::event::PeerEnd;
 use crate::inbound::{Came, Inbound};
@@ -21,7 +22,8 @@ impl<C: Connection + Drop> Inbound<C> {
     /// A connection that was accepted now, on which nothing was read.
     pub(crate) fn new(alloc: Global, connection: C, address: SocketAddr, now: u64) -> Self
         requires { C.came connection ≡ [] }
-        ensures { messages_in result ≡ [] }
+        ensures waiting { messages_in result ≡ [] }
+        ensures peer { peer_on result ≡ None }
     {
         Inbound {
             peer: FromPeer::new(alloc, connection),
@@ -32,7 +34,9 @@ impl<C: Connection + Drop> Inbound<C> {
     }
 
     /// The peer, once it is let in.
-    pub(crate) fn from(&self) -> Option<NodeId> {
+    pub(crate) fn from(&self) -> Option<NodeId>
+        ensures { result ≡ peer_on self.now }
+    {
         self.peer.from()
     }
 
@@ -45,7 +49,8 @@ impl<C: Connection + Drop> Inbound<C> {
 
     /// Watches the connection under a token. Returns whether it is watched.
     pub(crate) fn watch<N: Network<Connection = C>>(&mut self, network: &N, token: usize) -> bool
-        ensures { messages_in self.new ≡ messages_in self.old }
+        ensures waiting { messages_in self.new ≡ messages_in self.old }
+        ensures peer { peer_on self.new ≡ peer_on self.old }
     {
         self.peer.watch(network, token)
     }
@@ -57,21 +62,30 @@ impl<C: Connection + Drop> Inbound<C> {
 
     /// Lets the peer in that has greeted: from now on its messages come. Some: the connection has
     /// ended.
-    pub fn let_in(&mut self, alloc: Global, own: &Greeting) -> Option<PeerEnd> {
+    pub fn let_in(&mut self, alloc: Global, own: &Greeting) -> Option<PeerEnd>
+        ensures waiting { messages_in self.new ≡ messages_in self.old }
+        ensures peer { peer_on self.new ≡ peer_of self.old.peer.said true }
+    {
         self.peer.let_in();
         self.greet(alloc, own)
     }
 
     /// Greets the peer that was let in again, unless an earlier greeting still waits. What can't be
     /// written is written by a later turn.
-    pub(crate) fn greet_again(&mut self, alloc: Global, own: &Greeting) {
+    pub(crate) fn greet_again(&mut self, alloc: Global, own: &Greeting)
+        ensures waiting { messages_in self.new ≡ messages_in self.old }
+        ensures peer { peer_on self.new ≡ peer_on self.old }
+    {
         if self.peer.from().is_some() && self.reply.is_taken() {
             let _ = self.greet(alloc, own);
         }
     }
 
     /// Greets the peer.
-    fn greet(&mut self, alloc: Global, own: &Greeting) -> Option<PeerEnd> {
+    fn greet(&mut self, alloc: Global, own: &Greeting) -> Option<PeerEnd>
+        ensures waiting { messages_in self.new ≡ messages_in self.old }
+        ensures peer { peer_on self.new ≡ peer_on self.old }
+    {
         let Some(reply) = reply_by(alloc, own) else {
             return Some(PeerEnd::Memory);
         };
@@ -85,7 +99,10 @@ impl<C: Connection + Drop> Inbound<C> {
         alloc: Global,
         why: PeerRejection,
         remembered: &Option<Progress>,
-    ) {
+    )
+        ensures waiting { messages_in self.new ≡ messages_in self.old }
+        ensures peer { peer_on self.new ≡ peer_on self.old }
+    {
         let mut bytes = Vec::new(alloc);
         if encode_rejection(why, remembered, &mut bytes).is_ok()
             && self.reply.write(&bytes).is_ok()
@@ -95,7 +112,10 @@ impl<C: Connection + Drop> Inbound<C> {
     }
 
     /// Writes the rest of the answer to the greeting.
-    pub fn send(&mut self) -> Option<PeerEnd> {
+    pub fn send(&mut self) -> Option<PeerEnd>
+        ensures waiting { messages_in self.new ≡ messages_in self.old }
+        ensures peer { peer_on self.new ≡ peer_on self.old }
+    {
         for _ in 0..u64::MAX {
             if self.reply.is_taken() {
                 return None;

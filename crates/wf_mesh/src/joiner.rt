@@ -1,12 +1,11 @@
 //! A folder that joins in the place of a lost one.
-ghost use Rattle.std.specs.Prelude.{◌≡◌, IfOk, IfSome};
-ghost use Rattle.wf_rejoin.specs.Joining.{AgreementCounts, AnswerCounts, IsJoining, with_stage};
-ghost use Rattle.wf_rejoin.specs.JoiningText.{joins_text};
-ghost use Rattle.wf_rejoin.specs.declared.joining.Stage.TheVariants.{Agreed, Answered};
+ghost use Rattle.std.specs.Prelude.{◌≡◌, IfSome};
+ghost use Rattle.wf_mesh.specs.Told.{IsToldBy};
+ghost use Rattle.wf_rejoin.specs.JoinStep.{StepCounts, stepped};
+ghost use Rattle.wf_rejoin.specs.Joining.{IsJoining};
 
-use std::alloc::{AllocError, Global};
 use wf_ballot::{NodeId, Seq};
-use wf_rejoin::{Answer, Joining, Phase, Replacement};
+use wf_rejoin::{Answer, JoinStep, Joining, Phase, Replacement};
 
 /// A folder that joins in the place of a lost one: what its file `joins` says.
 #[derive(Clone, Copy)]
@@ -31,52 +30,50 @@ impl Joiner {
         self.joining.replacement
     }
 
-    /// Once an operator has begun its replacement under this count. None: the count isn't higher
-    /// than the one before.
-    pub(crate) fn begin(&self, count: u32) -> Option<Joiner> {
-        match self.joining.begin(count) {
+    /// The folder once it was told this. None: that doesn't count, and changes nothing.
+    pub(crate) fn after(&self, step: &JoinStep) -> Option<Joiner>
+        ensures counts { IfSome result (λ _. StepCounts step.now self.now.joining) }
+        ensures value { IfSome result (λ next. next.joining ≡ stepped step.now self.now.joining) }
+    {
+        match self.joining.after(step) {
             Some(joining) => Some(Joiner { joining }),
             None => None,
         }
     }
 
-    /// Once a peer has said that it takes the folder of this replacement for the node's: that it
-    /// agreed to it, and, where half of all had before, how far it is; `answer` is None where the
-    /// peer doesn't vote. None: that doesn't count, and changes nothing.
+    /// What a peer tells it that says that it takes the folder of this replacement for the node's:
+    /// that it agreed to it, and, where half of all had before, how far it is; `answer` is None
+    /// where the peer doesn't vote. None: that doesn't count.
     pub(crate) fn hear(
         &self,
         peer: NodeId,
         replacement: &Replacement,
         answer: &Option<Answer>,
-    ) -> Option<Joiner> {
+    ) -> Option<JoinStep>
+        ensures counts { IfSome result (λ step. StepCounts step self.now.joining) }
+        ensures told { IfSome result (IsToldBy peer replacement.now answer.now) }
+    {
+        let step = self.next_step(peer, replacement, answer)?;
+        match self.after(&step) {
+            Some(_) => Some(step),
+            None => None,
+        }
+    }
+
+    /// What such a peer tells it next: that it agreed, as long as half of all haven't.
+    fn next_step(
+        &self,
+        peer: NodeId,
+        replacement: &Replacement,
+        answer: &Option<Answer>,
+    ) -> Option<JoinStep>
+        ensures { IfSome result (IsToldBy peer replacement.now answer.now) }
+    {
         if !self.has_half() {
-            return self.agree(peer, replacement);
+            return Some(JoinStep::Agree(peer, *replacement));
         }
         match answer {
-            Some(answer) => self.answer(peer, replacement, *answer),
-            None => None,
-        }
-    }
-
-    /// Once a peer has said that it agreed. None: that doesn't count.
-    fn agree(&self, peer: NodeId, replacement: &Replacement) -> Option<Joiner>
-        ensures counts { IfSome result (λ _. AgreementCounts self.now.joining peer replacement.now) }
-        ensures value { IfSome result (λ next. next.joining ≡ with_stage self.now.joining peer Agreed) }
-    {
-        match self.joining.agree(peer, replacement) {
-            Some(joining) => Some(Joiner { joining }),
-            None => None,
-        }
-    }
-
-    /// Once a peer has answered how far it is. None: that doesn't count.
-    fn answer(&self, peer: NodeId, replacement: &Replacement, answer: Answer) -> Option<Joiner>
-        ensures counts { IfSome result (λ _. AnswerCounts self.now.joining peer replacement.now) }
-        ensures value { IfSome result (λ next. next.joining ≡
-            with_stage self.now.joining peer (Answered answer)) }
-    {
-        match self.joining.answer(peer, replacement, answer) {
-            Some(joining) => Some(Joiner { joining }),
+            Some(answer) => Some(JoinStep::Answer(peer, *replacement, *answer)),
             None => None,
         }
     }
@@ -94,12 +91,5 @@ impl Joiner {
     /// How far it is, with this last published sequence.
     pub(crate) fn phase(&self, published: Seq) -> Phase {
         self.joining.phase(published)
-    }
-
-    /// The text of its file `joins`. The only error is allocation failure.
-    pub fn text(&self, alloc: Global) -> Result<Vec<u8>, AllocError>
-        ensures { IfOk result (λ text. text.items ≡ joins_text self.now.joining) }
-    {
-        self.joining.text(alloc)
     }
 }

@@ -7,9 +7,9 @@
 //!   peer: whether it is heard, how its history goes with the node's, and by [`Notes`] how far it
 //!   is. It admits who greets, says why a peer isn't let in, judges which peers' word counts, and
 //!   gives a post to the connections to those that it is for.
-//! - [`NodePlan`] says which node it is, and where the others are. [`Membership`] is what the node
-//!   goes by of replacements, constant for a run; an [`Order`] is what is to be written about them
-//!   for the next one. [`Joiner`] is a folder that joins in the place of a lost one.
+//! - [`NodePlan`] says which node it is, and where the others are. `wf_membership` says what the
+//!   node goes by of replacements, constant for a run; an [`Order`] is what is to be written about
+//!   them for the next one. [`Joiner`] is a folder that joins in the place of a lost one.
 //! - [`Desk`] has the readers and the operators, who are answered from a [`NodeView`]. [`Pace`]
 //!   says what is due by the clock. [`HubParts`] has all of these, over any network
 //!   (`wf_sockets`), and [`bind`] binds their addresses.
@@ -18,14 +18,17 @@
 //! **Promises.** A peer is let in only with the folder that is taken for its node by the membership
 //! that is handed in ([`Mesh::admit`]), and a greeting has the replacements that are handed in
 //! ([`Notes::greeting`]). The membership is the plan's (`specs/Membership.antt`). A node agrees to
-//! a replacement only where its operator may ask for that and nothing stands against it, and an
-//! answer or an agreement of a peer counts for a [`Joiner`] only as `wf_rejoin` says. What is
-//! remembered of the peers is never less than what the file `heard` has ([`Notes::hold`]). An error
-//! of [`bind`] names the address that is taken (`specs/StartErrors.antt`). The messages of a peer
-//! are taken out in the order in which they wait (`specs/Inbound.antt`, [`Inbound::pop`]), and what
-//! is posted is offered to the outbox of each connection that it is for and to no other one
-//! (`specs/Dials.antt`, [`Dial::post`], [`Mesh::post`]). What `wf_wire` says of each connection's
-//! bytes rests on nothing here but that a connection is handed in as it was accepted.
+//! a replacement only where its operator may ask for that and nothing stands against it. A folder
+//! that joins is to write, as an agreement or an answer of a peer, only what counts as `wf_rejoin`
+//! says and what the peer's greeting says (`specs/Joining.antt`). What is remembered of the peers
+//! is never less than what the file `heard` has ([`Notes::hold`]). An error of [`bind`] names the
+//! address that is taken (`specs/StartErrors.antt`). The peer of a connection is the one that has
+//! greeted on it, once it is let in ([`Inbound::let_in`]), and messages can be sent on one while it
+//! has an outbox ([`Dial::is_open`]). The messages of a peer are taken out in the order in which
+//! they wait (`specs/Inbound.antt`, [`Inbound::pop`]), and what is posted is offered to the outbox
+//! of each connection that it is for and to no other one (`specs/Dials.antt`, [`Dial::post`],
+//! [`Mesh::post`]). What `wf_wire` says of each connection's bytes rests on nothing here but that a
+//! connection is handed in as it was accepted.
 //!
 //! **Doesn't.** When a connection begins, opens, is tried again and ends, when something is written
 //! on it, how a greeting is answered, which events the log has, what the metrics count and when
@@ -39,16 +42,12 @@ mod call;
 mod desk;
 mod dial;
 mod dials;
-mod error_file;
 mod event;
 mod facts;
-mod folder_error;
-mod gate;
 mod inbound;
 mod inbounds;
 mod intake;
 mod joiner;
-mod membership;
 mod mesh;
 mod notes;
 mod operators;
@@ -60,18 +59,14 @@ mod plan;
 mod question;
 mod socket;
 mod steps;
-mod tally;
 mod token;
 mod unlisted;
 
 pub use desk::Desk;
 pub use dial::{Dial, DialTurn};
 pub use event::{NodeEvent, PeerEnd};
-pub use folder_error::FolderError;
-pub use gate::Gate;
 pub use inbound::{Came, Inbound};
 pub use joiner::Joiner;
-pub use membership::Membership;
 pub use mesh::{INBOUND_SLOTS, Mesh, id_of};
 pub use notes::{Notes, Told};
 pub use operators::NodeView;
@@ -81,4 +76,3 @@ pub use parts::{HubParts, HubStart, bind};
 pub use plan::{LoopFault, NodePlan};
 pub use socket::Socket;
 pub use steps::Steps;
-pub use tally::Tally;

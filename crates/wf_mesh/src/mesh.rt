@@ -3,8 +3,6 @@ ghost use Rattle.std.specs.Prelude.{◌≡◌};
 
 use crate::dial::Dial;
 use crate::event::FolderNotWritten;
-use crate::folder_error::FolderError;
-use crate::gate::Gate;
 use crate::inbound::Inbound;
 use crate::intake::close;
 use crate::notes::Notes;
@@ -21,6 +19,7 @@ use wf_ballot::NodeId;
 use wf_digest::Digests;
 use wf_folder::Suspension;
 use wf_learner::History;
+use wf_membership::{FolderError, Gate};
 use wf_peer::{PeerProgress, Progress};
 use wf_rejoin::Replacements;
 use wf_sockets::{Connection, Network};

@@ -3,14 +3,13 @@ ghost use Rattle.std.specs.Prelude.{◌≡◌};
 
 use crate::desk::{Desk, serve_operators};
 use crate::facts::NodeFacts;
-use crate::membership::Membership;
 use crate::mesh::Mesh;
 use crate::order::Order;
 use crate::question::Standing;
-use crate::tally::Tally;
 use std::rt::Files;
 use std::time::Clock;
 use wf_learner::History;
+use wf_membership::{Membership, Tally};
 use wf_operator::{Operator, PictureCounts};
 use wf_peer::NodeState;
 use wf_proposer::ProposalState;

@@ -1,14 +1,16 @@
 //! What is to be written to the folder about replacements before the node goes by it.
-ghost use Rattle.std.specs.Prelude.{◌≡◌};
+ghost use Rattle.std.specs.Prelude.{◌≡◌, ◌⊎◌, IfSome};
+ghost use Rattle.wf_mesh.specs.Joining.{IsOrderBy, IsToldIn};
+ghost use Rattle.wf_mesh.specs.Told.{answer_in};
 
 use crate::event::NodeEvent;
 use crate::joiner::Joiner;
-use crate::membership::Membership;
 use crate::mesh::{MOST_NODES, Mesh, id_of};
 use std::time::Clock;
-use wf_ballot::Seq;
+use wf_ballot::{NodeId, Seq};
+use wf_membership::Membership;
 use wf_peer::{Greeting, NodeState};
-use wf_rejoin::{Answer, Replacements};
+use wf_rejoin::{Answer, JoinStep, Replacements};
 use wf_sockets::Network;
 use wf_store::FileName;
 use wf_visitors::{Context, Log};
@@ -25,8 +27,8 @@ const JOINER_NOTING_MILLIS: u64 = 1_000;
 pub enum Order {
     /// What is known of replacements from now on, for the next start.
     Note(Replacements),
-    /// How far the folder is that joins.
-    Join(Joiner),
+    /// What a folder that joins is told.
+    Join(JoinStep),
     /// The folder has joined: the next start may vote.
     Joined,
 }
@@ -59,7 +61,10 @@ impl<N: Network> Mesh<N> {
         is_reply: bool,
         greeting: &Greeting,
         time: u64,
-    ) {
+    )
+        ensures { (self.new.order ≡ self.old.order)
+            ⊎ IsOrderBy self.old.plan membership.now greeting.now self.new.order }
+    {
         self.learn_of_replacements(greeting, time);
         if is_reply && self.order.is_none() {
             self.hear_as_joiner(membership, greeting);
@@ -73,7 +78,9 @@ impl<N: Network> Mesh<N> {
         membership: &Membership,
         greeting: &Greeting,
         time: u64,
-    ) {
+    )
+        ensures { self.new.order ≡ self.old.order }
+    {
         if membership.joins {
             self.learn_of_replacements(greeting, time);
         }
@@ -81,7 +88,10 @@ impl<N: Network> Mesh<N> {
 
     /// Takes in what a greeting says of the replacements of other nodes, unless its folder joins:
     /// that one has it from others.
-    fn learn_of_replacements(&mut self, greeting: &Greeting, time: u64) {
+    fn learn_of_replacements(&mut self, greeting: &Greeting, time: u64)
+        ensures order { self.new.order ≡ self.old.order }
+        ensures plan { self.new.plan ≡ self.old.plan }
+    {
         if greeting.state == NodeState::Joins {
             return;
         }
@@ -94,20 +104,15 @@ impl<N: Network> Mesh<N> {
 
     /// What a folder that joins takes in of a peer's reply to its greeting: nothing before it began
     /// with its own replacement among those that it knows of.
-    fn hear_as_joiner(&mut self, membership: &Membership, greeting: &Greeting) {
-        let Some(joiner) = &self.plan.joining else {
+    fn hear_as_joiner(&mut self, membership: &Membership, greeting: &Greeting)
+        ensures { (self.new.order ≡ self.old.order)
+            ⊎ IsOrderBy self.old.plan membership.now greeting.now self.new.order }
+    {
+        let Some(joiner) = self.plan.joining else {
             return;
         };
-        let own = self.plan.own.node;
-        let replacement = joiner.replacement();
-        if !membership.replacements.has_agreed(own, &replacement)
-            || !greeting.replacements.has_agreed(own, &replacement)
-        {
-            return;
-        }
-        let answer = answer_of(greeting);
-        if let Some(next) = joiner.hear(greeting.node, &replacement, &answer) {
-            self.order = Some(Order::Join(next));
+        if let Some(step) = step_by(&joiner, self.plan.own.node, membership, greeting) {
+            self.order = Some(Order::Join(step));
         }
     }
 
@@ -156,7 +161,7 @@ impl<N: Network> Mesh<N> {
         self.note_written(order.file());
         match order {
             Order::Note(latest) => log_news(context.log, &membership.replacements, latest),
-            Order::Join(next) => self.take_joiner(next, context.time),
+            Order::Join(step) => self.tell_joiner(step, context.time),
             Order::Joined => context.log.write(&NodeEvent::Joined {
                 published: published.number(),
             }),
@@ -167,26 +172,47 @@ impl<N: Network> Mesh<N> {
         }
     }
 
-    /// The folder that joins is so far. Once half of all nodes have agreed, each is to say on a new
-    /// connection how far it is.
-    fn take_joiner(&mut self, next: &Joiner, time: u64) {
-        let had_half = match &self.plan.joining {
-            Some(joiner) => joiner.has_half(),
-            None => false,
+    /// The folder that joins was told this. Once half of all nodes have agreed, each is to say on a
+    /// new connection how far it is.
+    fn tell_joiner(&mut self, step: &JoinStep, time: u64) {
+        let Some(joiner) = self.plan.joining else {
+            return;
         };
-        self.plan.joining = Some(*next);
-        if next.has_half() && !had_half {
-            self.close_all(time);
+        if let Some(next) = joiner.after(step) {
+            self.plan.joining = Some(next);
+            if next.has_half() && !joiner.has_half() {
+                self.close_all(time);
+            }
         }
     }
 }
 
+/// What the greeting of a peer tells a folder that joins, if anything that counts: only of its own
+/// replacement, as the latest of its node that both know of.
+fn step_by(
+    joiner: &Joiner,
+    own: NodeId,
+    membership: &Membership,
+    greeting: &Greeting,
+) -> Option<JoinStep>
+    ensures { IfSome result (IsToldIn own membership.now greeting.now joiner.now) }
+{
+    let replacement = joiner.replacement();
+    if !membership.replacements.has_agreed(own, &replacement)
+        || !greeting.replacements.has_agreed(own, &replacement)
+    {
+        return None;
+    }
+    joiner.hear(greeting.node, &replacement, &answer_of(greeting))
+}
+
 /// How far a peer is by its greeting, if it votes.
-fn answer_of(greeting: &Greeting) -> Option<Answer> {
-    if greeting.state == NodeState::Serves {
-        Some(Answer::new(greeting.progress.published, greeting.voted))
-    } else {
-        None
+fn answer_of(greeting: &Greeting) -> Option<Answer>
+    ensures { result ≡ answer_in greeting.now }
+{
+    match greeting.state {
+        NodeState::Serves => Some(Answer::new(greeting.progress.published, greeting.voted)),
+        NodeState::Halted | NodeState::Suspended | NodeState::Joins | NodeState::Outvoted => None,
     }
 }
 

@@ -5,7 +5,6 @@ ghost use Rattle.wf_mesh.specs.StartErrors.{IsStartError};
 ghost use Rattle.wf_visitors.specs.Visitors.{responses_of};
 
 use crate::desk::Desk;
-use crate::membership::Membership;
 use crate::mesh::{Mesh, Rooms};
 use crate::pace::Pace;
 use crate::plan::{LoopFault, NodePlan};
@@ -14,6 +13,7 @@ use crate::token::CLIENT;
 use std::alloc::{AllocError, Global};
 use std::net::{Net, SocketAddr};
 use std::time::Clock;
+use wf_membership::Membership;
 use wf_operator::StartTime;
 use wf_peer::PeerProgress;
 use wf_reader::Answerer;

@@ -1,7 +1,9 @@
 //! What a node answers an operator who asks it about a replacement.
 ghost use Rattle.std.specs.Prelude.{◌≡◌, false, IfSome, None};
+ghost use Rattle.wf_mesh.specs.declared.order.Order.TheVariants.{Join};
 ghost use Rattle.wf_operator.specs.declared.replacement.ReplaceReply.TheVariants.{NotPermitted};
 ghost use Rattle.wf_rejoin.specs.Agreement.{Agrees};
+ghost use Rattle.wf_rejoin.specs.declared.join_step.JoinStep.TheVariants.{Begin};
 
 use crate::joiner::Joiner;
 use crate::order::Order;
@@ -10,7 +12,7 @@ use std::fmt::Write;
 use wf_ballot::Seq;
 use wf_operator::{Proposed, ReplaceReply, ReplaceRequest};
 use wf_peer::NodeState;
-use wf_rejoin::{Asked, Replacement, Replacements};
+use wf_rejoin::{Asked, JoinStep, Replacement, Replacements};
 
 /// What a node answers by where it is asked about a replacement.
 #[derive(Clone, Copy)]
@@ -100,16 +102,29 @@ impl Standing {
     }
 
     /// The replacement by the node's own folder begins, if it joins.
-    fn begin(&self, count: u32) -> Decision {
+    fn begin(&self, count: u32) -> Decision
+        ensures { IfSome result.order (λ order. order ≡ Join (Begin count)) }
+    {
         let Some(joiner) = &self.joining else {
             return only(ReplaceReply::NotJoining);
         };
-        match joiner.begin(count) {
-            Some(next) => Decision {
+        let step = JoinStep::Begin(count);
+        match joiner.after(&step) {
+            Some(_) => Decision {
                 reply: ReplaceReply::Noted,
-                order: Some(Order::Join(next)),
+                order: Some(Order::Join(step)),
             },
             None => only(ReplaceReply::NoHigherCount),
+        }
+    }
+
+    /// The node's folder, if it joins, is told this.
+    pub(crate) fn tell(&mut self, step: &JoinStep) {
+        let Some(joiner) = self.joining else {
+            return;
+        };
+        if let Some(next) = joiner.after(step) {
+            self.joining = Some(next);
         }
     }
 

@@ -3,14 +3,12 @@ use Rattle.std.proofs.Common.{◌≡◌, ◌∙◌, ℕ, List, [], ◌∷◌, �
 use Rattle.std.specs.Prelude.{Result, Ok, Err, OnErr, OnOk}
 use Rattle.wf_actor.specs.Process.{IsJustOpened}
 use Rattle.wf_actor.specs.declared.actor.Actor.{Actor}
-use Rattle.wf_actor.specs.declared.actor.Origin.{Origin}
 use Rattle.wf_actor.specs.declared.process.Process.{Process}
-use Rattle.wf_codec.specs.declared.message.Message.{Message}
-use Rattle.wf_loop.specs.Continuation.{StaysInRun, besides_chosen}
+use Rattle.wf_voter.specs.Continuation.{StaysInRun, besides_chosen, besides_questions}
 use Rattle.wf_loop.specs.Hub.{IsJoiner, OnlyLearns, process_of}
 use Rattle.wf_loop.specs.declared.hub.Hub.{Hub}
-use Rattle.wf_loop.specs.declared.reopening.NotReopened.{NotReopened}
-use Rattle.wf_node_command.specs.Learned.{HasOnlyLearned, HaveOnlyLearned, IsLearner}
+use Rattle.wf_voter.specs.declared.reopening.NotReopened.{NotReopened}
+use Rattle.wf_node_command.specs.Learned.{HasOnlyLearned, HaveOnlyLearned, IsLearner, IsLearning}
 use Rattle.wf_sockets.specs.declared.connection.Connection.{Ghosts as Connection}
 use Rattle.wf_tape.specs.declared.tape.Tape.{Ghosts as Tape}
 
@@ -18,24 +16,28 @@ nothing_given : besides_chosen [] ≡ []
 unfolding besides_chosen
 nothing_given = refl
 
-none_given : (given : List (Message × Origin)) → given ≡ [] → besides_chosen given ≡ []
-none_given given none = ap besides_chosen none ∙ nothing_given
+nothing_returned : besides_questions [] ≡ []
+unfolding besides_questions
+nothing_returned = refl
 
 module _ {T : Type 0} (tapes : Tape T) where
+  just_learning : (process : Process T tapes) → IsJustOpened process → IsLearning tapes process.actor
+  just_learning process opened = record { given = ap besides_chosen opened.given ∙ nothing_given; returned = ap besides_questions opened.emitted ∙ nothing_returned }
+
   no_runs : HaveOnlyLearned tapes []
   unfolding HaveOnlyLearned
   no_runs = tt
 
   -- a run more has ended
-  one_run_more : (runs : List (Actor T tapes × ℕ)) (run : Actor T tapes) (number : ℕ) → HaveOnlyLearned tapes runs → besides_chosen run.given.items ≡ [] → HaveOnlyLearned tapes (runs ++ (run, number) ∷ [])
+  one_run_more : (runs : List (Actor T tapes × ℕ)) (run : Actor T tapes) (number : ℕ) → HaveOnlyLearned tapes runs → IsLearning tapes run → HaveOnlyLearned tapes (runs ++ (run, number) ∷ [])
   unfolding HaveOnlyLearned
-  one_run_more [] run number have given = (given, tt)
-  one_run_more (first ∷ runs) run number have given = (have.0, one_run_more runs run number have.1 given)
+  one_run_more [] run number have learns = (learns, tt)
+  one_run_more (first ∷ runs) run number have learns = (have.0, one_run_more runs run number have.1 learns)
 
   -- it begins so: nothing was given to it yet
   begins : (process : Process T tapes) → IsJustOpened process → process.ended.items ≡ [] → HasOnlyLearned tapes process
   begins process opened first = record {
-    given = none_given process.actor.given.items opened.given;
+    now = just_learning process opened;
     ended = subst (λ (runs : List (Actor T tapes × ℕ)). HaveOnlyLearned tapes runs) (sym first) no_runs;
   }
 
@@ -49,7 +51,7 @@ module _ {T : Type 0} (tapes : Tape T) where
       let only = learns was.0 in (
         only.joins,
         record {
-          given = only.given ∙ was.1.given;
+          now = record { given = only.learnt.given ∙ was.1.now.given; returned = only.learnt.returned ∙ was.1.now.returned };
           ended = subst (λ (runs : List (Actor T tapes × ℕ)). HaveOnlyLearned tapes runs) (sym stays.ended) was.1.ended;
         },
       )
@@ -60,8 +62,8 @@ module _ {T : Type 0} (tapes : Tape T) where
   learner_reopened old new (Ok done) joins opened ended same was = (
     joins was.0,
     record {
-      given = none_given (process_of new).actor.given.items opened.given;
-      ended = subst (λ (runs : List (Actor T tapes × ℕ)). HaveOnlyLearned tapes runs) (sym ended) (one_run_more (process_of old).ended.items (process_of old).actor 0 was.1.ended was.1.given);
+      now = just_learning (process_of new) opened;
+      ended = subst (λ (runs : List (Actor T tapes × ℕ)). HaveOnlyLearned tapes runs) (sym ended) (one_run_more (process_of old).ended.items (process_of old).actor 0 was.1.ended was.1.now);
     },
   )
   learner_reopened old new (Err why) joins opened ended same was = (joins was.0, subst (λ (p : Process T tapes). HasOnlyLearned tapes p) (sym same) was.1)

@@ -1,6 +1,7 @@
 mod Clearing
 mod Faults
 mod Found
+mod Joined
 mod Kept
 mod Learned
 mod Making

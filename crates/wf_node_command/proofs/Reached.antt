@@ -8,7 +8,7 @@ use Rattle.wf_folder.specs.NodeAdmission.{IsTapeAdmitted, IsTapeRejection}
 use Rattle.wf_folder.specs.declared.node_admission.NodeRejection.{NodeRejection}
 use Rattle.wf_folder.specs.declared.reach.Known.{Known}
 use Rattle.wf_folder.specs.declared.reach.Reach.{Reach}
-use Rattle.wf_loop.specs.Reach.{IsReachOf}
+use Rattle.wf_voter.specs.Reach.{IsReachOf}
 use Rattle.wf_model.specs.DurableState.{DurableState}
 use Rattle.wf_node.specs.Node.{Node, stored_of}
 use Rattle.wf_node_command.specs.Held.{HasReached, HoldsAll, HoldsLess, IsKnownOf, digest_up_to}

@@ -12,7 +12,8 @@ use Rattle.wf_folder.specs.declared.presence.Presence.{Presence}
 use Rattle.wf_line.specs.declared.node_line.NodeLine.{NodeLine}
 use Rattle.wf_node_command.specs.Folder.{IsFarmFound}
 use Rattle.wf_node_command.specs.FolderTheorems.{with_starts}
-use Rattle.wf_node_command.specs.ReplacementFiles.{AreFilesFound, AreNoted, IsJoinsIn, IsReplacedIn, IsReplacementCause, is_joins, is_replaced, text_in}
+use Rattle.wf_node_command.specs.ReplacementFiles.{AreFilesFound, AreNoted, IsJoinsIn, IsReplacedIn, IsReplacementCause}
+use Rattle.wf_node_command.specs.Texts.{is_joins, is_replaced, text_in}
 use Rattle.wf_node_command.specs.Start.{IsFileAdmitted, IsFileCause, IsLookedAt, IsRejectedBy, IsStartAdmitted, IsWhyNotAdmitted, node_in}
 use Rattle.wf_node_command.specs.declared.fault.CommandFault.{CommandFault}
 use Rattle.wf_node_command.specs.declared.fault.CommandFault.TheVariants as faults

@@ -15,7 +15,8 @@ use Rattle.wf_node_command.specs.Fault.{IsFromSystem, IsWhyUnheard}
 use Rattle.wf_node_command.specs.Folder.{IsHeardFound, StandsForRead, tape_in}
 use Rattle.wf_node_command.specs.Held.{IsKnownOf, IsRaisedTo}
 use Rattle.wf_node_command.specs.Ready.{IsPlanOf, IsPlanned, IsReady, IsReadyAs}
-use Rattle.wf_node_command.specs.ReplacementFiles.{AreNoted, IsJoinsIn, IsOwnJoining, IsReplacedIn, is_joins, is_replaced, text_in}
+use Rattle.wf_node_command.specs.ReplacementFiles.{AreNoted, IsJoinsIn, IsOwnJoining, IsReplacedIn}
+use Rattle.wf_node_command.specs.Texts.{is_joins, is_replaced, text_in}
 use Rattle.wf_node_command.specs.Start.{
   IsCountedOn,
   IsReadyCounted,

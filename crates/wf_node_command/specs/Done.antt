@@ -6,10 +6,10 @@ use Rattle.wf_folder.specs.declared.node_file.NodeFile.{NodeFile}
 use Rattle.wf_line.specs.declared.node_line.NodeCommand.{NodeCommand}
 use Rattle.wf_line.specs.declared.node_line.NodeCommand.TheVariants as commands
 use Rattle.wf_line.specs.declared.node_line.NodeLine.{NodeLine}
-use Rattle.wf_loop.specs.Answer.{AreAnswered}
-use Rattle.wf_loop.specs.Continuation.{IsEarlier, IsHeardKept}
-use Rattle.wf_loop.specs.Lived.{HasLived}
-use Rattle.wf_loop.specs.declared.hub.Voter.{Voter}
+use Rattle.wf_voter.specs.Answer.{AreAnswered}
+use Rattle.wf_voter.specs.Continuation.{IsEarlier, IsHeardKept}
+use Rattle.wf_voter.specs.Lived.{HasLived}
+use Rattle.wf_voter.specs.declared.voter.Voter.{Voter}
 use Rattle.wf_mesh.specs.Membership.{membership_by}
 use Rattle.wf_mesh.specs.declared.plan.NodePlan.{NodePlan}
 use Rattle.wf_node.specs.Node.{stored_of}

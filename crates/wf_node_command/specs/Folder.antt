@@ -7,6 +7,7 @@ use Rattle.wf_folder.specs.declared.node_admission.NodeFound.TheVariants as find
 use Rattle.wf_folder.specs.declared.node_file.NodeFile.{NodeFile}
 use Rattle.wf_model.specs.DurableState.{DurableState}
 use Rattle.wf_node.specs.Images.{StandsFor}
+use Rattle.wf_node_command.specs.Joined.{AreJoinedSoundly}
 use Rattle.wf_peer.specs.PeerProgressText as peers
 use Rattle.wf_peer.specs.declared.heard.Heard.{Heard as HeardOfNode}
 use Rattle.wf_store.specs.Call.{Call, IsAfter, changes, read}
@@ -157,8 +158,10 @@ AreInLockedFolder [] begun = ⊤
 AreInLockedFolder (call ∷ later) begun = (needs_own call.deed ≡ true → is_own (later ++ begun) ≡ true) × AreInLockedFolder later begun
 
 -- Calls came after these. None of them made a tape, or put one in the place of another, and only
--- the folder that is locked was written to.
+-- the folder that is locked was written to. What was put in the place of the file `joins` may be:
+-- so the folder ceases to join only where it may vote.
 pub record StaysFrom (begun calls : List Call) : Type 0 where
   pub after : IsAfter begun calls
   pub tapes : tape_changes calls ≡ tape_changes begun
   pub guarded : AreInLockedFolder after.later begun
+  pub joined : AreJoinedSoundly after.later begun

@@ -9,7 +9,7 @@ use Rattle.wf_folder.specs.declared.node_file.NodeFile.{NodeFile}
 use Rattle.wf_folder.specs.declared.reach.Known.{Known}
 use Rattle.wf_folder.specs.declared.reach.Reach.{Reach}
 use Rattle.wf_journal.specs.Journal.{ReadsSame}
-use Rattle.wf_loop.specs.Reach.{IsHighestVote}
+use Rattle.wf_voter.specs.Reach.{IsHighestVote}
 use Rattle.wf_model.specs.DurableState.{DurableState}
 use Rattle.wf_model.specs.VolatileState.{at_start}
 use Rattle.wf_node.specs.Images.{StandsFor}

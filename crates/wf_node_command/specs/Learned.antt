@@ -2,21 +2,28 @@
 use Rattle.std.specs.Prelude.{◌≡◌, ℕ, List, [], ◌∷◌}
 use Rattle.wf_actor.specs.declared.actor.Actor.{Actor}
 use Rattle.wf_actor.specs.declared.process.Process.{Process}
-use Rattle.wf_loop.specs.Continuation.{besides_chosen}
+use Rattle.wf_voter.specs.Continuation.{besides_chosen, besides_questions}
 use Rattle.wf_loop.specs.Hub.{IsJoiner, process_of}
 use Rattle.wf_loop.specs.declared.hub.Hub.{Hub}
 use Rattle.wf_sockets.specs.declared.connection.Connection.{Ghosts as Connection}
 use Rattle.wf_tape.specs.declared.tape.Tape.{Ghosts as Tape}
+use Rattle.wf_wire.specs.Post.{logged}
 
--- in each of these runs the node was given no message but those that say what is published
+-- In this run the node was given no message but those that say what is published, and returned none
+-- but those that ask for that.
+pub record IsLearning {T : Type 0} (tapes : Tape T) (run : Actor T tapes) : Type 0 where
+  pub given : besides_chosen run.given.items ≡ []
+  pub returned : besides_questions (logged run.emitted.items) ≡ []
+
+-- so it is in each of these
 unfoldable pub HaveOnlyLearned : {T : Type 0} (tapes : Tape T) → List (Actor T tapes × ℕ) → Type 0
 HaveOnlyLearned tapes [] = Unit {0}
-HaveOnlyLearned tapes (run ∷ runs) = (besides_chosen run.0.given.items ≡ []) × HaveOnlyLearned tapes runs
+HaveOnlyLearned tapes (run ∷ runs) = IsLearning tapes run.0 × HaveOnlyLearned tapes runs
 
--- So it is in the run that it is in, and in those that have ended: it never voted, and promised
--- nothing.
+-- So it is in the run that it is in, and in those that have ended: it never voted, promised
+-- nothing, and proposed nothing.
 pub record HasOnlyLearned {T : Type 0} (tapes : Tape T) (process : Process T tapes) : Type 0 where
-  pub given : besides_chosen process.actor.given.items ≡ []
+  pub now : IsLearning tapes process.actor
   pub ended : HaveOnlyLearned tapes process.ended.items
 
 -- the folder of a hub's process joins, and the process has only learned

@@ -5,9 +5,11 @@ pub mod Folder
 pub mod FolderTheorems
 pub mod From
 pub mod Held
+pub mod Joined
 pub mod Learned
 pub mod Made
 pub mod Ready
 pub mod ReplacementFiles
 pub mod Running
 pub mod Start
+pub mod Texts

@@ -7,7 +7,8 @@ use Rattle.wf_mesh.specs.declared.plan.NodePlan.{NodePlan}
 use Rattle.wf_node.specs.Node.{stored_of}
 use Rattle.wf_node_command.specs.Folder.{StandsForRead, heard_in, tape_in}
 use Rattle.wf_node_command.specs.Held.{IsRaisedTo}
-use Rattle.wf_node_command.specs.ReplacementFiles.{IsJoinsIn, IsOwnJoining, IsReplacedIn, is_joins, is_replaced, text_in}
+use Rattle.wf_node_command.specs.ReplacementFiles.{IsJoinsIn, IsOwnJoining, IsReplacedIn}
+use Rattle.wf_node_command.specs.Texts.{is_joins, is_replaced, text_in}
 use Rattle.wf_node_command.specs.Start.{IsCountedOn, IsStartAdmitted, IsStarted}
 use Rattle.wf_node_command.specs.declared.ready.ReadyNode.{ReadyNode}
 use Rattle.wf_node_command.specs.declared.replacement_files.ReplacementFiles.{ReplacementFiles}

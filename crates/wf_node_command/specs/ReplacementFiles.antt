@@ -1,8 +1,9 @@
 -- What a node's folder says of replacements: its files `replaced` and `joins`.
-use Rattle.std.specs.Prelude.{◌≡◌, ◌≢◌, ℕ, Bool, true, false, List, [], ◌∷◌, Option, Some, None, IfSome, length, option_map, replicate, if◌then◌else◌}
+use Rattle.std.specs.Prelude.{◌≡◌, ◌≢◌, ℕ, List, [], ◌∷◌, Option, Some, None, IfSome, length, option_map, replicate}
 use Rattle.wf_folder.specs.declared.node_file.NodeFile.{NodeFile}
 use Rattle.wf_mesh.specs.declared.joiner.Joiner.{Joiner}
 use Rattle.wf_node_command.specs.Fault.{IsFromSystem}
+use Rattle.wf_node_command.specs.Texts.{is_joins, is_replaced, text_in}
 use Rattle.wf_node_command.specs.declared.fault.CommandFault.{CommandFault}
 use Rattle.wf_node_command.specs.declared.fault.CommandFault.TheVariants as faults
 use Rattle.wf_node_command.specs.declared.replacement_fault.ReplacementFault.{ReplacementFault}
@@ -14,9 +15,6 @@ use Rattle.wf_rejoin.specs.ReplacementsText.{IsEntry, replaced_text}
 use Rattle.wf_rejoin.specs.declared.joining.Joining.{Joining}
 use Rattle.wf_rejoin.specs.declared.replacement.Replacement.{Replacement}
 use Rattle.wf_store.specs.Call.{Call, read}
-use Rattle.wf_store.specs.declared.deed.Deed.{Deed}
-use Rattle.wf_store.specs.declared.deed.Deed.TheVariants as deeds
-use Rattle.wf_store.specs.declared.file_name.FileName.{FileName}
 use Rattle.wf_store.specs.declared.file_name.FileName.TheVariants as names
 
 -- ---- what bytes say
@@ -112,26 +110,6 @@ IsJoinsFault file new fault = IsFromSystem fault
 abbrev pub IsReplacementCause : NodeFile → List Call → CommandFault → Type 0
 IsReplacementCause file new (faults.Replacement why) = IsBadFile file why new
 IsReplacementCause file new fault = IsFromSystem fault
-
--- ---- what a file has by the calls of its folder
-
-abbrev pub is_replaced : FileName → Bool
-is_replaced names.Replaced = true
-is_replaced file = false
-
-abbrev pub is_joins : FileName → Bool
-is_joins names.Joins = true
-is_joins file = false
-
--- what was read of such a file last, or what it got by a call that succeeded
-abbrev pub text_by : (FileName → Bool) → Deed → (bytes earlier : Option (List ℕ)) → Option (List ℕ)
-text_by is (deeds.Reads file) bytes earlier = if is file then bytes else earlier
-text_by is (deeds.Replaces file) bytes earlier = if is file then bytes else earlier
-text_by is deed bytes earlier = earlier
-
-abbrev pub text_in : (FileName → Bool) → List Call → Option (List ℕ)
-text_in is [] = None
-text_in is (call ∷ earlier) = text_by is call.deed call.bytes (text_in is earlier)
 
 -- The files say what was last read of them, or written to them, of the folder with this file
 -- `farm`.

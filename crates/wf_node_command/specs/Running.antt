@@ -3,7 +3,7 @@ use Rattle.std.specs.Prelude.{◌≡◌, ◌∷◌, List, Option}
 use Rattle.wf_actor.specs.declared.process.Process.{Process}
 use Rattle.wf_line.specs.declared.node_line.NodeLine.{NodeLine}
 use Rattle.wf_mesh.specs.Membership.{membership_by}
-use Rattle.wf_mesh.specs.declared.membership.Membership.{Membership}
+use Rattle.wf_membership.specs.declared.membership.Membership.{Membership}
 use Rattle.wf_node_command.specs.Ready.{IsReady}
 use Rattle.wf_node_command.specs.declared.ready.ReadyNode.{ReadyNode}
 use Rattle.wf_peer.specs.declared.heard.Heard.{Heard as HeardOfNode}

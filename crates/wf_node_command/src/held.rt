@@ -1,16 +1,18 @@
 //! The folder of a node, as its process has locked it: there a tape that failed is opened again,
 //! and is written how far the node is, and what it heard.
-ghost use Rattle.std.specs.Prelude.{◌≡◌, ◌+◌, IfSome, OnOk, Some, false};
+ghost use Rattle.std.specs.Prelude.{◌≡◌, ◌+◌, IfSome, OnOk};
 ghost use Rattle.wf_folder.specs.NodeFile.{IsNodeFile};
-ghost use Rattle.wf_node_command.specs.Folder.{AreFiles, StaysFrom, calls_in, heard_in, heard_of_file, is_own, is_tape};
+ghost use Rattle.wf_node_command.specs.Folder.{AreFiles, StaysFrom, calls_in, heard_in, is_own};
 ghost use Rattle.wf_node_command.specs.FolderTheorems.{are_files_prop};
 
 use crate::running::{RunningStore, not_reopened};
 use std::alloc::Global;
 use std::io::ErrorKind;
 use wf_folder::{NodeFile, NodeFound, Reach, Suspension};
-use wf_loop::{FolderError, NodeFolder, NotReopened};
+use wf_membership::FolderError;
+use wf_rejoin::JoinStep;
 use wf_store::{FileName, FolderFault, Store};
+use wf_voter::{NodeFolder, NotReopened};
 
 /// The folder of a node, as its process has locked it, with the file `farm` that the process wrote
 /// last.
@@ -126,25 +128,6 @@ impl<S: Store> HeldFolder<S> {
         }
     }
 
-    /// Puts a text in the place of a file about replacements, synced, with the folder: only into
-    /// the folder that is locked. After an error either may be there.
-    #[tactic(auto, using(crate::proofs::Stays::nothing_heard))]
-    fn put(&mut self, file: FileName, text: Vec<u8>) -> Result<(), FolderError>
-        requires tape { is_tape file ≡ false }
-        requires heard { heard_of_file file (Some text.items) (heard_in (S.calls self.old.running.store)) ≡
-            heard_in (S.calls self.old.running.store) }
-        ensures starts { self.new.starts ≡ self.old.starts }
-        ensures began { self.new.running.began.items ≡ self.old.running.began.items }
-        ensures heard { heard_in (S.calls self.new.running.store) ≡
-            heard_in (S.calls self.old.running.store) }
-    {
-        if let Err(error) = self.running.examine() {
-            drop(text);
-            return Err(error);
-        }
-        self.running.replace(file, text)
-    }
-
     /// Writes another file `farm`, synced, with the folder: only into the folder that is locked.
     /// After an error either may be there.
     fn write(&mut self, next: &NodeFile) -> Result<(), FolderError>
@@ -225,12 +208,32 @@ impl<S: Store> NodeFolder<S::Tape> for HeldFolder<S> {
         self.running.replace(FileName::Heard, text)
     }
 
+    #[tactic(auto, using(crate::proofs::Stays::nothing_heard))]
     fn keep_replaced(&mut self, text: Vec<u8>) -> Result<(), FolderError> {
-        self.put(FileName::Replaced, text)
+        if let Err(error) = self.running.examine() {
+            drop(text);
+            return Err(error);
+        }
+        self.running.replace(FileName::Replaced, text)
     }
 
-    fn keep_joining(&mut self, text: Vec<u8>) -> Result<(), FolderError> {
-        self.put(FileName::Joins, text)
+    fn keep_joining(&mut self, step: &JoinStep) -> Result<(), FolderError> {
+        if let Err(error) = self.running.examine() {
+            return Err(error);
+        }
+        self.running.tell_joining(self.alloc, step)
+    }
+
+    fn finish_joining(&mut self) -> Result<(), FolderError> {
+        if let Err(error) = self.running.examine() {
+            return Err(error);
+        }
+        let published = match self.running.find_farm() {
+            Ok(NodeFound::File(found)) if self.is_own(&found) => found.known.reach.published,
+            Ok(_) => return Err(unwritten(ErrorKind::InvalidData)),
+            Err(fault) => return Err(FolderError::Store(fault)),
+        };
+        self.running.finish_joining(self.alloc, published)
     }
 }
 

@@ -9,9 +9,9 @@ use std::alloc::{AllocError, Global};
 use wf_digest::Digests;
 use wf_folder::{Known, Reach, admit_tape};
 use wf_learner::History;
-use wf_loop::reach_of;
 use wf_node::Node;
 use wf_tape::Tape;
+use wf_voter::reach_of;
 
 /// How far a node is, with the digest of its history, if it holds all that is known of it. Err: why
 /// it doesn't, or an allocation failed.

@@ -21,7 +21,7 @@
 //! - A start that is rejected by what its tape holds has changed no file of the folder. A bad file
 //!   `heard` is an error.
 //! - However many turns it was to take, and however it ended after it had begun, its process has
-//!   lived as `HasLived` of `wf_loop` says, from that node on, and each client was sent the
+//!   lived as `HasLived` of `wf_voter` says, from that node on, and each client was sent the
 //!   response to exactly what had come of its request (`HasAnswered`). Meanwhile no tape was made
 //!   or put in the place of another, and a file was opened or written only where the folder at its
 //!   path had been seen to be the one that is locked (`specs/Folder.antt`).

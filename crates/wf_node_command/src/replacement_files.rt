@@ -12,7 +12,7 @@ use wf_rejoin::{Joining, Replacements};
 use wf_store::{FileName, Store};
 
 /// More bytes than a file `replaced` or `joins` has.
-const MOST_BYTES: usize = 65_536;
+pub(crate) const MOST_BYTES: usize = 65_536;
 
 /// What the files `replaced` and `joins` of a folder say.
 #[derive(Clone, Copy)]

@@ -5,7 +5,7 @@ use Rattle.std.proofs.lemmas.List.{append-nil}
 use Rattle.wf_def.specs.Definition.{Definition}
 use Rattle.wf_reader.specs.declared.answerer.Answerer.{Answerer}
 use Rattle.wf_sockets.specs.declared.connection.Connection.{Ghosts as Connection}
-use Rattle.wf_readers_port.specs.Exchanges.{AreAmong, AreRepliedBy, Exchange, HasConversed, HasExchange, HasReplied}
+use Rattle.wf_readers_port.specs.Exchanges.{AreExchangesOf, AreRepliedBy, Exchange, HasConversed, HasExchange, HasReplied}
 use Rattle.wf_readers_port.specs.Readers.{AreReplied, IsReplied}
 use Rattle.wf_readers_port.specs.declared.reader.Reader.{Reader}
 
@@ -22,35 +22,35 @@ unfolding HasExchange
 has_behind [] second exchange has = has
 has_behind (one ∷ first) second exchange has = inr (has_behind first second exchange has)
 
-among_before : (first second exchanges : List Exchange) → AreAmong first exchanges → AreAmong (first ++ second) exchanges
-unfolding AreAmong
+among_before : (first second exchanges : List Exchange) → AreExchangesOf first exchanges → AreExchangesOf (first ++ second) exchanges
+unfolding AreExchangesOf
 among_before first second [] are = tt
 among_before first second (exchange ∷ exchanges) are = (∥∥₁_map are.0 (λ has. has_before first second exchange has), among_before first second exchanges are.1)
 
-among_behind : (first second exchanges : List Exchange) → AreAmong second exchanges → AreAmong (first ++ second) exchanges
-unfolding AreAmong
+among_behind : (first second exchanges : List Exchange) → AreExchangesOf second exchanges → AreExchangesOf (first ++ second) exchanges
+unfolding AreExchangesOf
 among_behind first second [] are = tt
 among_behind first second (exchange ∷ exchanges) are = (∥∥₁_map are.0 (λ has. has_behind first second exchange has), among_behind first second exchanges are.1)
 
-among_itself : (exchanges : List Exchange) → AreAmong exchanges exchanges
-unfolding AreAmong HasExchange
+among_itself : (exchanges : List Exchange) → AreExchangesOf exchanges exchanges
+unfolding AreExchangesOf HasExchange
 among_itself [] = tt
 among_itself (exchange ∷ exchanges) = (∣ inl refl ∣₁, among_behind (exchange ∷ []) exchanges exchanges (among_itself exchanges))
 
-among_append : (all first second : List Exchange) → AreAmong all first → AreAmong all second → AreAmong all (first ++ second)
-unfolding AreAmong
+among_append : (all first second : List Exchange) → AreExchangesOf all first → AreExchangesOf all second → AreExchangesOf all (first ++ second)
+unfolding AreExchangesOf
 among_append all [] second are more = more
 among_append all (exchange ∷ first) second are more = (are.0, among_append all first second are.1 more)
 
-pub among_none : (all exchanges : List Exchange) → exchanges ≡ [] → AreAmong all exchanges
-unfolding AreAmong
-among_none all exchanges none = subst (λ (s : List Exchange). AreAmong all s) (sym none) tt
+pub among_none : (all exchanges : List Exchange) → exchanges ≡ [] → AreExchangesOf all exchanges
+unfolding AreExchangesOf
+among_none all exchanges none = subst (λ (s : List Exchange). AreExchangesOf all s) (sym none) tt
 
 -- a reader asked more
-pub among_along : (own : Answerer) (history : List Definition) (digests : List (List ℕ)) (asked all asked' all' : List Exchange) → HasConversed own history digests asked all asked' all' → AreAmong all asked → AreAmong all' asked'
+pub among_along : (own : Answerer) (history : List Definition) (digests : List (List ℕ)) (asked all asked' all' : List Exchange) → HasConversed own history digests asked all asked' all' → AreExchangesOf all asked → AreExchangesOf all' asked'
 among_along own history digests asked all asked' all' conversed are =
-    subst (λ (s : List Exchange). AreAmong s asked') (sym conversed.logged)
-    (subst (λ (s : List Exchange). AreAmong (all ++ conversed.more) s) (sym conversed.asked_more)
+    subst (λ (s : List Exchange). AreExchangesOf s asked') (sym conversed.logged)
+    (subst (λ (s : List Exchange). AreExchangesOf (all ++ conversed.more) s) (sym conversed.asked_more)
     (among_append (all ++ conversed.more) asked conversed.more (among_before all conversed.more asked are)
     (among_behind all conversed.more conversed.more (among_itself conversed.more))))
 
@@ -110,7 +110,7 @@ module _ {C : Type 0} (connections : Connection C) where
   pub left_at : (all : List Exchange) (slots slots' : List (Option (Reader C connections))) (i : ℕ) → slots' ≡ slice_set slots i None → AreReplied connections all slots → AreReplied connections all slots'
   left_at all slots slots' i is are = subst (λ (s : List (Option (Reader C connections))). AreReplied connections all s) (sym is) (without all slots i are)
 
-  pub taken_at : (all : List Exchange) (slots : List (Option (Reader C connections))) (i : ℕ) (reader : Reader C connections) → Some reader ≡ slice_index_or slots i None → AreReplied connections all slots → AreAmong all reader.exchanges.items
+  pub taken_at : (all : List Exchange) (slots : List (Option (Reader C connections))) (i : ℕ) (reader : Reader C connections) → Some reader ≡ slice_index_or slots i None → AreReplied connections all slots → AreExchangesOf all reader.exchanges.items
   unfolding AreReplied
   taken_at all slots i reader is are =
       let one : AreReplied connections all (Some reader ∷ []) = subst (λ (x : Option (Reader C connections)). AreReplied connections all (x ∷ [])) (sym is) (read_at all slots i are) in
@@ -118,7 +118,7 @@ module _ {C : Type 0} (connections : Connection C) where
 
   -- a reader is put into a slot
   pub put_at : (all : List Exchange) (slots slots' : List (Option (Reader C connections))) (i : ℕ) (reader : Reader C connections) → slots' ≡ slice_set slots i (Some reader) → AreReplied connections all slots
-      → AreAmong all reader.exchanges.items → AreReplied connections all slots'
+      → AreExchangesOf all reader.exchanges.items → AreReplied connections all slots'
   put_at all slots slots' i reader is are among = subst (λ (s : List (Option (Reader C connections))). AreReplied connections all s) (sym is)
       (with_one all slots i reader (record { asked = reader.asked; replied = reader.replied; logged = among }) are)
 

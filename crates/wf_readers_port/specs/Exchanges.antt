@@ -27,9 +27,9 @@ HasExchange [] exchange = ⊥
 HasExchange (one ∷ exchanges) exchange = (one ≡ exchange) ⊎ HasExchange exchanges exchange
 
 -- each of some exchanges is one of all
-unfoldable pub AreAmong : List Exchange → List Exchange → Type 0
-AreAmong all [] = ⊤
-AreAmong all (exchange ∷ exchanges) = ∥ HasExchange all exchange ∥₁ × AreAmong all exchanges
+unfoldable pub AreExchangesOf : List Exchange → List Exchange → Type 0
+AreExchangesOf all [] = ⊤
+AreExchangesOf all (exchange ∷ exchanges) = ∥ HasExchange all exchange ∥₁ × AreExchangesOf all exchanges
 
 -- one whole question, with the reply that it has by that history
 pub record IsRepliedBy (own : Answerer) (history : List Definition) (exchange : Exchange) : Type 0 where

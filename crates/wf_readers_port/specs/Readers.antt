@@ -2,7 +2,7 @@
 use Rattle.std.specs.Prelude.{◌≡◌, ⊤, List, [], ◌∷◌, ◌++◌, Option, Some, None}
 use Rattle.wf_client.specs.ResponseBuffer.{rest_of}
 use Rattle.wf_sockets.specs.declared.connection.Connection.{Ghosts as Connection}
-use Rattle.wf_readers_port.specs.Exchanges.{Exchange, AreAmong, questions_of, replies_of}
+use Rattle.wf_readers_port.specs.Exchanges.{Exchange, AreExchangesOf, questions_of, replies_of}
 use Rattle.wf_readers_port.specs.declared.reader.Reader.{Reader}
 
 module _ {C : Type 0} (connections : Connection C) where
@@ -12,7 +12,7 @@ module _ {C : Type 0} (connections : Connection C) where
   pub record IsReplied (all : List Exchange) (reader : Reader C connections) : Type 0 where
     pub asked : connections.came reader.connection ≡ questions_of reader.exchanges.items ++ reader.question.items
     pub replied : connections.sent reader.connection ++ rest_of reader.reply ≡ replies_of reader.exchanges.items
-    pub logged : AreAmong all reader.exchanges.items
+    pub logged : AreExchangesOf all reader.exchanges.items
 
   -- so in each slot that has a reader
   unfoldable pub AreReplied : List Exchange → List (Option (Reader C connections)) → Type 0

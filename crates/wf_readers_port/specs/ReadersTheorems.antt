@@ -2,12 +2,12 @@
 use Rattle.std.specs.Prelude.{List, [], ◌∷◌, Option, Some, None}
 use Rattle.std.proofs.Props.{props}
 use Rattle.wf_sockets.specs.declared.connection.Connection.{Ghosts as Connection}
-use Rattle.wf_readers_port.specs.Exchanges.{Exchange, AreAmong}
+use Rattle.wf_readers_port.specs.Exchanges.{Exchange, AreExchangesOf}
 use Rattle.wf_readers_port.specs.Readers.{AreReplied, IsReplied}
 use Rattle.wf_readers_port.specs.declared.reader.Reader.{Reader}
 
-are_among_prop : (all exchanges : List Exchange) → IsProp (AreAmong all exchanges)
-unfolding AreAmong
+are_among_prop : (all exchanges : List Exchange) → IsProp (AreExchangesOf all exchanges)
+unfolding AreExchangesOf
 are_among_prop all [] = hlevel props
 are_among_prop all (exchange ∷ exchanges) = hlevel (props, are_among_prop all exchanges)
 

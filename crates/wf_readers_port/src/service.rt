@@ -1,6 +1,6 @@
 //! How readers come, ask, are replied to and go.
 ghost use Rattle.std.specs.Prelude.{◌≡◌, [], IfOk, IfSome};
-ghost use Rattle.wf_readers_port.specs.Exchanges.{AreAmong, HasReplied};
+ghost use Rattle.wf_readers_port.specs.Exchanges.{AreExchangesOf, HasReplied};
 ghost use Rattle.wf_readers_port.specs.Readers.{AreReplied};
 ghost use Rattle.wf_readers_port.specs.ReadersPort.{exchanges_of};
 
@@ -147,14 +147,14 @@ impl<N: Network> ReadersPort<N> {
     fn take(&mut self, index: usize) -> Option<Reader<N::Connection>>
         ensures exchanges { exchanges_of self.new ≡ exchanges_of self.old }
         ensures among { IfSome result (λ reader.
-            AreAmong (exchanges_of self.old) reader.exchanges.items) }
+            AreExchangesOf (exchanges_of self.old) reader.exchanges.items) }
     {
         take_out(&mut self.slots, index)
     }
 
     /// Puts a reader into a slot.
     fn put(&mut self, index: usize, reader: Reader<N::Connection>)
-        requires { AreAmong (exchanges_of self.old) reader.exchanges.items }
+        requires { AreExchangesOf (exchanges_of self.old) reader.exchanges.items }
         ensures { exchanges_of self.new ≡ exchanges_of self.old }
     {
         put_in(&mut self.slots, index, reader);
@@ -200,11 +200,11 @@ impl<N: Network> ReadersPort<N> {
         reader: &mut Reader<N::Connection>,
         time: u64,
     ) -> ReaderTurn
-        requires { AreAmong (exchanges_of self.old) reader.old.exchanges.items }
+        requires { AreExchangesOf (exchanges_of self.old) reader.old.exchanges.items }
         ensures replied { HasReplied
             published.now.own.now published.now.history.now.definitions published.now.digests.now
             (exchanges_of self.old) (exchanges_of self.new) }
-        ensures among { AreAmong (exchanges_of self.new) reader.new.exchanges.items }
+        ensures among { AreExchangesOf (exchanges_of self.new) reader.new.exchanges.items }
     {
         reader.turn(alloc, published, time, &mut self.exchanges)
     }

@@ -1,6 +1,6 @@
 //! The slots of readers.
 ghost use Rattle.std.specs.Prelude.{◌≡◌, List, None, Some, IfOk, IfSome, slice_index_or, slice_set};
-ghost use Rattle.wf_readers_port.specs.Exchanges.{AreAmong, Exchange};
+ghost use Rattle.wf_readers_port.specs.Exchanges.{AreExchangesOf, Exchange};
 ghost use Rattle.wf_readers_port.specs.Readers.{AreReplied};
 
 use crate::reader::Reader;
@@ -55,7 +55,7 @@ pub(crate) fn take_out<C: Connection + Drop>(
     ensures kept { (all : List Exchange) → AreReplied C.Connection all slots.old.items
         → AreReplied C.Connection all slots.new.items }
     ensures given { (all : List Exchange) → AreReplied C.Connection all slots.old.items
-        → IfSome result (λ reader. AreAmong all reader.exchanges.items) }
+        → IfSome result (λ reader. AreExchangesOf all reader.exchanges.items) }
 {
     take_one(slots, index)
 }
@@ -68,7 +68,7 @@ pub(crate) fn put_in<C: Connection + Drop>(
     reader: Reader<C>,
 )
     ensures { (all : List Exchange) → AreReplied C.Connection all slots.old.items
-        → AreAmong all reader.exchanges.items
+        → AreExchangesOf all reader.exchanges.items
         → AreReplied C.Connection all slots.new.items }
 {
     put_one(slots, index, reader);

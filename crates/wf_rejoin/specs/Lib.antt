@@ -1,6 +1,7 @@
 pub mod Admission
 pub mod Agreement
 pub mod Answer
+pub mod JoinStep
 pub mod Joining
 pub mod JoiningText
 pub mod Lines

@@ -10,9 +10,10 @@
 //!
 //! The new folder joins ([`Joining`], its file `joins`). Once at least half of all nodes have
 //! agreed, it asks just these how far they are, by what they have published and by the sequences at
-//! which they have votes ([`Answer`]). The highest of all answers is m. It may vote once it has
-//! published all definitions up to four after m, or all that there can be, and answer clients once
-//! it has m maps ([`Phase`]).
+//! which they have votes ([`Answer`]). What it is told comes one thing after the other
+//! ([`JoinStep`]). The highest of all answers is m. It may vote once it has published all
+//! definitions up to four after m, or all that there can be, and answer clients once it has m maps
+//! ([`Phase`]).
 //!
 //! **How to use it.** Each call gives the next value and changes nothing. Its text is written, and
 //! synced, before anything else goes by it: `replaced` before a node says that it agreed, `joins`
@@ -36,6 +37,7 @@ mod admission;
 mod agreement;
 mod answer;
 mod fault;
+mod join_step;
 mod joining;
 mod joining_reader;
 mod joining_text;
@@ -50,6 +52,7 @@ pub use admission::{FolderRejection, GreetedFolder};
 pub use agreement::{Asked, Hindrance, Objection, QUIET_TIME};
 pub use answer::Answer;
 pub use fault::{JoiningFault, ReplacementsFault};
+pub use join_step::JoinStep;
 pub use joining::{Joining, Stage};
 pub use phase::Phase;
 pub use replacement::Replacement;

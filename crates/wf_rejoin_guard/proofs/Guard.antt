@@ -14,16 +14,16 @@ use Rattle.wf_replacement.specs.Rejoining.{EachMayRejoin, MayRejoin, WasAsked}
 use Rattle.wf_replacement.specs.Theorems.{ListsGrow, OneHistory}
 use Rattle.wf_replacement.specs.Timeline.{ProcessEvent}
 use Rattle.wf_tape.specs.declared.tape.Tape.{Ghosts as Tape}
-use Rattle.wf_rejoin_guard.specs.Joined.{EachHasJoined, HasJoined, IsTakenFrom, IsTrueTo, JoinedListsGrow, JoinedMayRejoin, JoinedOneHistory}
+use Rattle.wf_rejoin_guard.specs.Joined.{EachHasJoined, HasJoined, IsGreetedAnswer, IsTrueTo, JoinedListsGrow, JoinedMayRejoin, JoinedOneHistory}
 
 -- ---- an answer is about what a node had stored
 
-none_after : (stored : DurableState Definition) (g : Greeting) (a : Answer) → IsTrueTo stored g → IsTakenFrom g a → (s : ℕ) → a.voted < s → (vote : Option (Vote Definition)) → stored.votes s ≡ vote → vote ≡ None
+none_after : (stored : DurableState Definition) (g : Greeting) (a : Answer) → IsTrueTo stored g → IsGreetedAnswer g a → (s : ℕ) → a.voted < s → (vote : Option (Vote Definition)) → stored.votes s ≡ vote → vote ≡ None
 none_after stored g a is taken s after None at = refl
 none_after stored g a is taken s after (Some vote) at =
     absurd (omega (arith, after, taken.voted, is.voted_to s vote (is.at_slots s vote at) at))
 
-pub about : (stored : DurableState Definition) (g : Greeting) (a : Answer) → IsTrueTo stored g → IsTakenFrom g a → IsAbout stored a
+pub about : (stored : DurableState Definition) (g : Greeting) (a : Answer) → IsTrueTo stored g → IsGreetedAnswer g a → IsAbout stored a
 about stored g a is taken = record {
   published_to = omega (arith, taken.published, is.published_to);
   voted_to = λ s after. none_after stored g a is taken s after (stored.votes s) refl;
@@ -32,10 +32,10 @@ about stored g a is taken = record {
 -- ---- who has joined may rejoin
 
 was_asked : {T : Type 0} → AnswersAreBounds Definition → (events : List (ProcessEvent T)) (until i : ℕ) (bytes : List ℕ) (j : Joining) → (joined : HasJoined events until bytes j) →
-    (guarded : IsGuardedByAnswers j (published joined.holds.stored)) → i < j.nodes → guarded.asked i ≡ true → WasAsked events joined.since until guarded.m i
+    (guarded : IsGuardedByAnswers j (published joined.holds.stored)) → i < j.nodes → guarded.asked i ≡ true → WasAsked events joined.answered.since until guarded.m i
 was_asked bounds events until i bytes j joined guarded below is_in =
     let (a, at, bound) = guarded.each i below is_in in
-    let answered = joined.answers i a below at in
+    let answered = joined.answered.answers i a below at in
     record {
       moment = answered.moment;
       after = answered.after;
@@ -48,11 +48,11 @@ was_asked bounds events until i bytes j joined guarded below is_in =
 
 pub joined_may_rejoin : {T : Type 0} (tapes : Tape T) → VotersAreGuarded → AnswersAreBounds Definition → JoinedMayRejoin tapes
 joined_may_rejoin tapes guard bounds events until bytes j joined =
-    let guarded = guard j (published joined.holds.stored) joined.joins joined.may_vote in
+    let guarded = guard j (published joined.holds.stored) joined.answered.joins joined.may_vote in
     record {
-      since = joined.since;
-      earlier = joined.earlier;
-      silent = joined.silent;
+      since = joined.answered.since;
+      earlier = joined.answered.earlier;
+      silent = joined.answered.silent;
       m = guarded.m;
       asked = guarded.asked;
       half = guarded.half;

@@ -28,7 +28,7 @@ pub record IsTrueTo (stored : DurableState Definition) (g : Greeting) : Type 0 w
   pub at_slots : (s : ℕ) (vote : Vote Definition) → stored.votes s ≡ Some vote → IsSlot s
 
 -- the answer is what the greeting says
-pub record IsTakenFrom (g : Greeting) (a : Answer) : Type 0 where
+pub record IsGreetedAnswer (g : Greeting) (a : Answer) : Type 0 where
   pub published : a.published ≡ g.progress.published
   pub voted : a.voted ≡ g.voted
 
@@ -43,11 +43,11 @@ pub record WasAnswered {T : Type 0} (events : List (ProcessEvent T)) (since unti
   pub runs : node.halted ≡ false
   pub greeting : Greeting
   pub is_true : IsTrueTo (stored_of node) greeting
-  pub taken : IsTakenFrom greeting a
+  pub taken : IsGreetedAnswer greeting a
 
 -- So the answer is about what the node had stored.
 abbrev pub GreetingsAnswer : Type 0
-GreetingsAnswer = (stored : DurableState Definition) (g : Greeting) (a : Answer) → IsTrueTo stored g → IsTakenFrom g a → IsAbout stored a
+GreetingsAnswer = (stored : DurableState Definition) (g : Greeting) (a : Answer) → IsTrueTo stored g → IsGreetedAnswer g a → IsAbout stored a
 
 -- ---- a folder that has joined
 
@@ -61,15 +61,19 @@ pub record IsPublishedBy {T : Type 0} (n : ℕ) (events : List (ProcessEvent T))
   pub at : node_at events known source ≡ Some node
   pub copied : IsBeginning holds.stored.history node.parts.history
 
--- The folder with this file `joins` has joined by the moment, and its next run is opened from these
--- bytes: since anything happened to its process, those answered it whose answers it has; it may
--- vote, with what the bytes hold; and some process had published that.
-pub record HasJoined {T : Type 0} (events : List (ProcessEvent T)) (until : ℕ) (bytes : List ℕ) (j : Joining) : Type 0 where
+-- Since anything happened to the process with this file `joins`, those answered it whose answers it
+-- has.
+pub record IsAnsweredSince {T : Type 0} (events : List (ProcessEvent T)) (until : ℕ) (j : Joining) : Type 0 where
   pub since : ℕ
   pub earlier : since ≤ until
   pub silent : IsSilent events since until j.node
   pub joins : IsJoining j
   pub answers : (i : ℕ) (a : Answer) → i < j.nodes → stage_of j i ≡ Answered a → WasAnswered events since until i a
+
+-- The folder has joined by the moment, and its next run is opened from these bytes: it has its
+-- answers; it may vote, with what the bytes hold; and some process had published that.
+pub record HasJoined {T : Type 0} (events : List (ProcessEvent T)) (until : ℕ) (bytes : List ℕ) (j : Joining) : Type 0 where
+  pub answered : IsAnsweredSince events until j
   pub holds : HoldsCopy bytes
   pub may_vote : MayVote j (published holds.stored)
   pub source : IsPublishedBy j.nodes events until bytes holds

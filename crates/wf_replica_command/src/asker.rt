@@ -19,8 +19,8 @@ pub(crate) struct Asker<N: Network> {
     pub(crate) sources: Vec<SocketAddr>,
     pub(crate) asking: Asking,
     pub(crate) source: Option<SourceConnection<N::Connection>>,
-    // the one to which the connection is, and whether the log's last line about it says that it is
-    // asked
+    // the one to which the connection is, and whether the log's last line about a source says that
+    // one is asked: where it goes on to the next one it says nothing
     pub(crate) of: usize,
     pub(crate) is_named: bool,
     pub(crate) heard: Past<Reply, Asked>,

@@ -204,21 +204,13 @@ impl<N: Network> Asker<N> {
             self.asking.answer(brings, context.time);
         }
         if self.asking.source != self.of {
-            self.pass(context);
+            // It has brought nothing for long. The log doesn't say so: where nothing is published
+            // the next one is asked each second.
+            self.source = None;
         } else if published < answer.published() {
             // What comes next is more than one answer, whose digest can't be compared yet. On a
             // connection of its own its question has no other reply than its own.
             self.source = None;
-        }
-    }
-
-    /// Ends the connection to a source that has brought nothing for long.
-    fn pass<R: Clock + Eprint>(&mut self, context: &Context<'_, '_, R, N>)
-        ensures heard { self.new.heard.items ≡ self.old.heard.items }
-        ensures refusals { self.new.refusals ≡ self.old.refusals }
-    {
-        if self.source.take().is_some() {
-            self.log_lost(context, SourceEnd::Passed);
         }
     }
 
@@ -349,7 +341,7 @@ impl<N: Network> Asker<N> {
             context.network,
             address,
         );
-        if !self.is_named || self.of != index {
+        if !self.is_named {
             context.log.write(&ReplicaEvent::Asking {
                 source: index,
                 address,

@@ -22,8 +22,6 @@ pub(crate) enum SourceEnd {
     Unfit,
     /// The source doesn't answer.
     Rejected(QuestionRejection),
-    /// Another source is asked.
-    Passed,
 }
 
 impl fmt::Display for SourceEnd {
@@ -36,7 +34,6 @@ impl fmt::Display for SourceEnd {
             SourceEnd::Unasked => f.write_str("\"a reply that wasn't asked for\""),
             SourceEnd::Unfit => f.write_str("\"a reply that doesn't fit the question\""),
             SourceEnd::Rejected(rejection) => write!(f, "\"refused by it: {rejection}\""),
-            SourceEnd::Passed => f.write_str("passed"),
         }
     }
 }
@@ -58,7 +55,7 @@ pub(crate) enum ReplicaEvent {
     Learned { published: u16 },
     /// A source is asked.
     Asking { source: usize, address: SocketAddr },
-    /// The connection to a source has ended.
+    /// The connection to a source has ended, and not since another one is asked.
     Lost { source: usize, why: SourceEnd },
 }
 
@@ -66,12 +63,7 @@ impl LogEntry for ReplicaEvent {
     fn level(&self) -> Level {
         match self {
             ReplicaEvent::TapeFailed => Level::Error,
-            ReplicaEvent::Damaged => Level::Warn,
-            ReplicaEvent::Lost {
-                why: SourceEnd::Passed,
-                ..
-            } => Level::Info,
-            ReplicaEvent::Lost { .. } => Level::Warn,
+            ReplicaEvent::Damaged | ReplicaEvent::Lost { .. } => Level::Warn,
             ReplicaEvent::Listening { .. }
             | ReplicaEvent::Opened { .. }
             | ReplicaEvent::Missing

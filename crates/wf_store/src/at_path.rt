@@ -16,6 +16,22 @@ pub enum ProbeFault {
     Unwritten(ErrorKind),
 }
 
+/// Whether a folder is at a path; false also if the system doesn't say.
+pub fn is_folder<R: Files>(rt: &R, path: &str) -> bool {
+    match fs::metadata(rt, path) {
+        Ok(metadata) => metadata.is_dir(),
+        Err(_) => false,
+    }
+}
+
+/// The number of bytes of the file at a path, if the system says so.
+pub fn file_length<R: Files>(rt: &R, path: &str) -> Option<u64> {
+    match fs::metadata(rt, path) {
+        Ok(metadata) => Some(metadata.len()),
+        Err(_) => None,
+    }
+}
+
 /// The first bytes of the file at a path, at most `limit` of them. Err: the system's error;
 /// `OutOfMemory` if an allocation failed.
 pub fn read_file<R: Files + AllocGlobal>(rt: &R, path: &str, limit: usize) -> io::Result<Vec<u8>> {

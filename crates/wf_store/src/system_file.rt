@@ -3,7 +3,7 @@ ghost use Rattle.std.specs.Prelude.{◌≡◌, IfErr};
 ghost use Rattle.wf_store.specs.Fault.{IsWhyUnopened, IsWhyUnread, IsWhyUnwritten};
 ghost use Rattle.wf_store.specs.FileName.{path_in};
 
-use crate::at_path::read_file;
+use crate::at_path::{file_length, read_file};
 use crate::fault::FolderFault;
 use crate::file_name::{FileName, path_in};
 use crate::new_file::NewFile;
@@ -61,9 +61,9 @@ pub(crate) fn length_in<R: Files + AllocGlobal>(
     file: FileName,
 ) -> Option<u64> {
     let path = path_in(rt.alloc(), folder, file).ok()?;
-    let metadata = fs::metadata(rt, path.as_str());
+    let length = file_length(rt, path.as_str());
     drop(path);
-    Some(metadata.ok()?.len())
+    length
 }
 
 /// The first bytes of a file of a folder, if it is there.

@@ -1,10 +1,11 @@
 //! Command lines.
-use crate::recorder::Recorder;
+use crate::recorder::{Recorder, folder_with};
 use clap::Error;
 use std::alloc::Global;
 use wf_commands::{Ending, rejection_status, run_words};
 use wf_farm::Carrier;
 use wf_line::{Format, Line, Service, line};
+use wf_store::MemoryFolder;
 use wf_stream::Stream;
 use wf_test_table::{Answered, CaseInput, Transcript, Unanswered, unescape};
 
@@ -136,6 +137,7 @@ fn write_ending(ending: Ending, answer: &mut Transcript) {
 // Runs what a command line asks for. In place of serving nodes a line tells what is to be served.
 fn write_run<C: Carrier>(
     asked: CaseInput<'_>,
+    folder: &MemoryFolder,
     carrier: &mut C,
     words: &[&str],
     answer: &mut Transcript,
@@ -145,6 +147,7 @@ fn write_run<C: Carrier>(
     let server = Recorder {
         alloc: asked.alloc,
         tape: asked.input,
+        folder,
     };
     let outcome = run_words(asked.alloc, words, &mut source, &mut sink, &server, carrier);
     drop(sink);
@@ -156,8 +159,8 @@ fn write_run<C: Carrier>(
 
 /// `run WORDS`: what the program writes about the input, its error line, and the exit status if
 /// that isn't 0. WORDS are the command line's, spelled with escapes, with `\n` between. The input
-/// is also the file `node-0.tape`, the only one that there is. The messages of `wire` come by the
-/// carrier.
+/// is also the file `node-0.tape`, the only one that there is, and each of two tapes in the folder
+/// `farm`. The messages of `wire` come by the carrier.
 pub(crate) fn run<C: Carrier>(
     asked: CaseInput<'_>,
     carrier: &mut C,
@@ -182,7 +185,9 @@ fn run_text<C: Carrier>(
         return Err(Unanswered::BadWords);
     };
     let words = words_of(asked.alloc, text, '\n')?;
-    write_run(asked, carrier, &words, answer);
+    let folder = folder_with(asked.alloc, asked.input)?;
+    write_run(asked, &folder, carrier, &words, answer);
+    drop(folder);
     drop(words);
     Ok(())
 }

@@ -1,43 +1,52 @@
 //! A server that tells what it is asked to serve, and the files that it has.
-ghost use Rattle.std.specs.Prelude.{◌≡◌, length};
+ghost use Rattle.std.specs.Prelude.{◌≡◌, ◌<◌, [], None, IfOk, IfSome, IsErrOf, length};
 ghost use Rattle.wf_commands.specs.FailureCount.{FailsLast};
+ghost use Rattle.wf_listing.specs.TapeBytes.{most_tape_bytes};
 ghost use Rattle.wf_serve.specs.StartFault.{CountsWrites};
-ghost use Rattle.wf_test_commands.specs.Files.{files_of, found_with, is_file, survey_of};
+ghost use Rattle.wf_test_commands.specs.Files.{content_at, files_of, is_file};
 
 use std::alloc::Global;
 use wf_commands::{NodeServer, ServeFault, Tapes};
-use wf_folder::{Beginning, FarmFile, FoundFile, NodeFile, Presence};
 use wf_line::Service;
 use wf_listing::TapeReadFault;
-use wf_serve::Survey;
+use wf_store::{FileName, MemoryFolder, MemoryStore, Store};
 use wf_stream::{Sink, write_all};
+use wf_test_table::{Answered, Unanswered};
 
 /// The port that this server never gets.
 const TAKEN_PORT: u16 = 1;
 
-/// The path of a file that can be read.
+/// The path of the one file that can be read.
 const TAPE_PATH: &str = "node-0.tape";
 
-/// The path of the one folder, and those of the files in it.
+/// The path of the one folder.
 const FOLDER_PATH: &str = "farm";
 
-const FIRST_PATH: &str = "farm/node-0.tape";
+/// A file `farm` of three nodes.
+const FILE_OF_THREE: &[u8] =
+    b"wfarm folder 1\nkind serve\nbegan empty\nnodes 03\nmark 00000000000000000000000000000000\n";
 
-const SECOND_PATH: &str = "farm/node-1.tape";
-
-/// Writes a line with the service in place of serving nodes. Port 1 is taken. The only files are
-/// `node-0.tape` and two like it in the folder `farm`; if they are empty, that is a folder of three
-/// nodes.
+/// Writes a line with the service in place of serving nodes. Port 1 is taken. The only file is
+/// `node-0.tape`, and the only folder `farm`.
 #[derive(Drop)]
 pub(crate) struct Recorder<'a> {
     pub(crate) alloc: Global,
     pub(crate) tape: &'a [u8],
+    pub(crate) folder: &'a MemoryFolder,
 }
 
-impl<'a> Tapes for Recorder<'a> {
+impl<'a, 'p> Tapes<'p> for Recorder<'a> {
+    type Folder = MemoryStore<'a>;
+
     ghost content = { λ recorder. files_of recorder.tape.now };
 
-    fn read(&self, alloc: Global, path: &str) -> Result<Vec<u8>, TapeReadFault> {
+    fn read(&self, alloc: Global, path: &str) -> Result<Vec<u8>, TapeReadFault>
+        ensures whole { IfOk result
+            (λ bytes. IfSome (content_at self.now.tape.now path.now) (λ known. bytes.items ≡ known)) }
+        ensures failed { IsErrOf result TapeReadFault.Failed →
+            IfSome (content_at self.now.tape.now path.now) (λ known. most_tape_bytes < length known) }
+        ensures read { IsErrOf result TapeReadFault.NoMap → ⊥ }
+    {
         if !is_file(path) {
             return Err(TapeReadFault::Failed);
         }
@@ -47,52 +56,58 @@ impl<'a> Tapes for Recorder<'a> {
         }
     }
 
-    fn folder(&self, path: &str) -> Option<Survey> {
+    fn folder(&self, path: &'p str) -> Option<MemoryStore<'a>>
+        ensures file { IfSome (content_at self.now.tape.now path.now) (λ _. result ≡ None) }
+        ensures new { IfSome result (λ folder. folder.calls ≡ []) }
+    {
         if path == FOLDER_PATH && !is_file(path) {
-            Some(survey_of(self.tape))
+            Some(MemoryStore::new(self.folder))
         } else {
             None
         }
     }
-
-    fn owner(&self, _: &str) -> Option<NodeFile> {
-        None
-    }
 }
 
-/// Whether one of the files is at a path.
+/// Whether the file is at a path.
 #[tactic(auto, unfolding(crate::specs::Files::is_file))]
 fn is_file(path: &str) -> bool
     ensures { result ≡ is_file path.now }
 {
-    path == TAPE_PATH || path == FIRST_PATH || path == SECOND_PATH
+    path == TAPE_PATH
 }
 
-/// What is in the folder `farm` where the files have this content.
-fn survey_of(tape: &[u8]) -> Survey
-    ensures size { length result.tapes ≡ 64 }
-    ensures is { result ≡ survey_of tape.now }
-{
-    let mut tapes = [Presence::Absent; 64];
-    tapes[0] = Presence::Written;
-    tapes[1] = Presence::Written;
-    Survey {
-        found: found_with(tape),
-        tapes,
+/// A folder with two tapes, each with these bytes; if they are none, that of a farm of three nodes.
+pub(crate) fn folder_with(alloc: Global, tape: &[u8]) -> Result<MemoryFolder, Unanswered> {
+    let folder = MemoryFolder::new(alloc, 2)?;
+    let mut store = MemoryStore::new(&folder);
+    let filled = fill(alloc, &mut store, tape);
+    drop(store);
+    match filled {
+        Ok(()) => Ok(folder),
+        Err(unanswered) => {
+            drop(folder);
+            Err(unanswered)
+        }
     }
 }
 
-/// Its file `farm`: that of a farm of three nodes if the files are empty.
-fn found_with(tape: &[u8]) -> FoundFile
-    ensures { result ≡ found_with tape.now }
-{
-    match tape {
-        [] => FoundFile::File(FarmFile {
-            nodes: 3,
-            beginning: Beginning::Empty,
-            mark: [0; 16],
-        }),
-        [_, ..] => FoundFile::Nothing,
+/// Puts the tapes into it, and the file `farm`.
+fn fill(alloc: Global, store: &mut MemoryStore<'_>, tape: &[u8]) -> Answered {
+    put(alloc, store, FileName::NodeTape(0), tape)?;
+    put(alloc, store, FileName::NodeTape(1), tape)?;
+    if tape.is_empty() {
+        put(alloc, store, FileName::Farm, FILE_OF_THREE)
+    } else {
+        Ok(())
+    }
+}
+
+/// Puts a file into it.
+fn put(alloc: Global, store: &mut MemoryStore<'_>, file: FileName, bytes: &[u8]) -> Answered {
+    let bytes = bytes.to_vec(alloc)?;
+    match store.replace(file, bytes) {
+        Ok(()) => Ok(()),
+        Err(_) => Err(Unanswered::Memory),
     }
 }
 

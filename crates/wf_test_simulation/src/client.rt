@@ -1,5 +1,5 @@
 //! A client of a process: it publishes and asks what has become of that, or looks at maps, or is an
-//! operator or a reader of the history.
+//! operator or a reader of the history. It may stop on a connection, and goes on by others.
 
 use crate::dice::Dice;
 use crate::exchange::{Ending, Exchange, Stage, head_of, number_behind, text_of};
@@ -11,6 +11,7 @@ use crate::requests::{
     publish_request, question,
 };
 use crate::scene::Scene;
+use crate::schedule::Stroke;
 use std::alloc::{AllocError, Global};
 use std::mem::replace;
 use std::net::SocketAddr;
@@ -21,6 +22,15 @@ const ASKING_MILLIS: u64 = 50;
 
 /// The time after which an operator looks again whether all is healed, in milliseconds.
 const LOOKING_MILLIS: u64 = 200;
+
+/// The time after which it looks again whether connections were given back, in milliseconds.
+const COUNTING_MILLIS: u64 = 500;
+
+/// The pixels of a picture each way: of an ordinary one, and of one that no connection has room
+/// for.
+const SIDE: u32 = 8;
+
+const LARGE_SIDE: u32 = 160;
 
 /// What a client does.
 #[derive(Clone, Copy, PartialEq)]
@@ -41,6 +51,27 @@ pub(crate) const ROLES: [Role; 4] = [Role::Publisher, Role::Viewer, Role::Operat
 /// Those of the clients of a replica.
 pub(crate) const REPLICA_ROLES: [Role; 3] = [Role::Viewer, Role::Operator, Role::Reader];
 
+/// How a client stops: it sends half of a request, or a whole one and takes no byte of the
+/// response.
+#[derive(Clone, Copy, PartialEq)]
+enum Stop {
+    Within,
+    Behind,
+}
+
+/// How far the play is.
+#[derive(Clone, Copy, PartialEq)]
+enum Period {
+    /// Faults happen.
+    Faults,
+    /// They are over.
+    Healing,
+    /// All is healed: clients go, and operators count connections.
+    Leaving,
+    /// They have gone.
+    Gone,
+}
+
 /// What a client wants to know.
 #[derive(Clone, Copy)]
 enum Goal {
@@ -52,8 +83,8 @@ enum Goal {
     Status { map: u32, sequence: u16 },
     /// What the capabilities are.
     Capabilities,
-    /// What the picture at a sequence is.
-    Picture { sequence: u16 },
+    /// What the picture at a sequence is, of so many pixels each way.
+    Picture { sequence: u16, side: u32 },
     /// Whether the node is ready.
     Readiness,
     /// What the metrics are.
@@ -72,9 +103,14 @@ pub(crate) struct Client<'a> {
     goal: Goal,
     exchange: Option<Exchange<'a>>,
     next: u64,
+    period: Period,
+    // how its next request stops, and the last one that has, whose connection is kept
+    stop: Option<Stop>,
+    stopped: Option<Exchange<'a>>,
+    // how many connections of clients and of readers were open, as it was told since all is healed
+    open: Option<(u32, u32)>,
     // whether it has had an answer since all faults are over
     is_served: bool,
-    is_healing: bool,
     // whether a folder joins then
     has_joiner: bool,
     // the last sequence that it was told of, and, of a reader, the digest up to that
@@ -91,8 +127,11 @@ impl<'a> Client<'a> {
             goal: Goal::Nothing,
             exchange: None,
             next,
+            period: Period::Faults,
+            stop: None,
+            stopped: None,
+            open: None,
             is_served: false,
-            is_healing: false,
             has_joiner: false,
             told: 0,
             digest: [0; 32],
@@ -121,15 +160,46 @@ impl<'a> Client<'a> {
         }
     }
 
+    /// Whether it is an operator.
+    pub(crate) fn is_operator(&self) -> bool {
+        self.role == Role::Operator
+    }
+
+    /// How many connections of clients and of readers its process had, as it was told since all is
+    /// healed. None: it wasn't.
+    pub(crate) fn open(&self) -> Option<(u32, u32)> {
+        self.open
+    }
+
     /// Whether it wants nothing more. An operator goes on, since a node may be suspended after it
     /// was ready, and where a folder joins a publisher too, since that needs more maps.
     fn is_at_rest(&self) -> bool {
-        let goes_on = match self.role {
+        match self.period {
+            Period::Faults => false,
+            Period::Healing => self.is_served && !self.goes_on(),
+            Period::Leaving => !self.is_operator(),
+            Period::Gone => true,
+        }
+    }
+
+    /// Whether it goes on once it was served.
+    fn goes_on(&self) -> bool {
+        match self.role {
             Role::Operator => true,
             Role::Publisher => self.has_joiner,
             Role::Viewer | Role::Reader => false,
-        };
-        self.is_healing && self.is_served && !goes_on
+        }
+    }
+
+    /// A fault happens: if it is the client that is meant, its next request stops.
+    pub(crate) fn stop(&mut self, stroke: &Stroke) {
+        if self.process.host() as usize == stroke.host && is_role_at(self.role, stroke.kept) {
+            self.stop = Some(if stroke.older == 0 {
+                Stop::Within
+            } else {
+                Stop::Behind
+            });
+        }
     }
 
     /// All faults are over: it begins anew, at once. A folder joins then, or doesn't.
@@ -137,9 +207,26 @@ impl<'a> Client<'a> {
         self.end();
         self.goal = Goal::Nothing;
         self.next = time;
+        self.stop = None;
         self.is_served = false;
-        self.is_healing = true;
+        self.period = Period::Healing;
         self.has_joiner = has_joiner && !self.process.is_replica();
+    }
+
+    /// All is healed: it goes, but for the connection on which it has stopped. An operator counts
+    /// connections.
+    pub(crate) fn leave(&mut self, time: u64) {
+        self.end();
+        self.goal = Goal::Nothing;
+        self.next = time;
+        self.period = Period::Leaving;
+    }
+
+    /// It goes, and closes the connection on which it has stopped.
+    pub(crate) fn go(&mut self) {
+        self.end();
+        drop(self.stopped.take());
+        self.period = Period::Gone;
     }
 
     /// Closes its connection, if it has one.
@@ -149,11 +236,19 @@ impl<'a> Client<'a> {
 
     /// Begins a request if it is time to, and goes on with one that has begun.
     pub(crate) fn turn(&mut self, scene: &Scene<'a>, dice: &mut Dice, ledger: &mut Ledger) {
+        self.send_stopped();
         match self.exchange.take() {
             Some(exchange) => self.go_on(exchange, scene, dice, ledger),
             None => if self.next <= scene.time && !self.is_at_rest() {
                 self.begin(scene, dice, ledger);
             },
+        }
+    }
+
+    /// The request that has stopped is sent as far as it goes.
+    fn send_stopped(&mut self) {
+        if let Some(stopped) = &mut self.stopped {
+            stopped.send();
         }
     }
 
@@ -163,9 +258,33 @@ impl<'a> Client<'a> {
         self.goal = self.next_goal(dice, ledger);
         let (address, ending) = self.target();
         match request_for(scene.alloc, self.process, self.goal, self.told, self.digest) {
-            Ok(request) => self.keep(Exchange::begin(scene, address, ending, request)),
+            Ok(request) => {
+                let exchange = Exchange::begin(scene, address, ending, request);
+                self.hold(exchange, ledger);
+            }
             Err(_) => ledger.cut(),
         }
+    }
+
+    /// It has this exchange from now on; or, if that stops, keeps its connection beside that of the
+    /// next one.
+    fn hold(&mut self, exchange: Option<Exchange<'a>>, ledger: &mut Ledger) {
+        match self.stop.take() {
+            Some(stop) => self.stop_on(exchange, stop, ledger),
+            None => self.keep(exchange),
+        }
+    }
+
+    /// It stops on the connection of an exchange, and closes the one on which it had stopped.
+    fn stop_on(&mut self, exchange: Option<Exchange<'a>>, stop: Stop, ledger: &mut Ledger) {
+        let Some(mut exchange) = exchange else {
+            return;
+        };
+        if stop == Stop::Within {
+            exchange.halve();
+        }
+        ledger.answers.stopped = ledger.answers.stopped.saturating_add(1);
+        drop(replace(&mut self.stopped, Some(exchange)));
     }
 
     /// It has this exchange from now on.
@@ -201,12 +320,13 @@ impl<'a> Client<'a> {
 
     /// It begins the next request later.
     fn rest(&mut self, time: u64, dice: &mut Dice) {
-        let pause = match (self.is_healing, self.role) {
-            (true, Role::Operator) => LOOKING_MILLIS,
-            (true, _) => ASKING_MILLIS,
-            (false, Role::Publisher) => dice.millis(10, 300),
-            (false, Role::Viewer) => dice.millis(50, 1_000),
-            (false, _) => dice.millis(500, 3_000),
+        let pause = match (self.period, self.role) {
+            (Period::Healing, Role::Operator) => LOOKING_MILLIS,
+            (Period::Leaving, Role::Operator) => COUNTING_MILLIS,
+            (Period::Faults, Role::Publisher) => dice.millis(10, 300),
+            (Period::Faults, Role::Viewer) => dice.millis(50, 1_000),
+            (Period::Faults, _) => dice.millis(500, 3_000),
+            _ => ASKING_MILLIS,
         };
         self.next = time.saturating_add(pause);
     }
@@ -239,20 +359,29 @@ impl<'a> Client<'a> {
                 },
             },
             Role::Viewer => {
-                if self.told == 0 || self.is_healing || dice.below(2) == 0 {
+                if self.told == 0 || self.period == Period::Healing || dice.below(2) == 0 {
                     Goal::Capabilities
                 } else {
                     Goal::Picture {
                         sequence: self.told,
+                        side: self.side(),
                     }
                 }
             }
-            Role::Operator => match (self.is_healing, self.has_joiner, dice.below(2)) {
-                (false, _, 0) => Goal::Metrics,
-                (true, true, 0) => Goal::Replacement,
+            Role::Operator => match (self.period, self.has_joiner, dice.below(2)) {
+                (Period::Faults, _, 0) | (Period::Leaving, _, _) => Goal::Metrics,
+                (Period::Healing, true, 0) => Goal::Replacement,
                 _ => Goal::Readiness,
             },
             Role::Reader => Goal::Reply,
+        }
+    }
+
+    /// The pixels of its next picture each way: many, if it takes no byte of that.
+    fn side(&self) -> u32 {
+        match self.stop {
+            Some(Stop::Behind) => LARGE_SIDE,
+            _ => SIDE,
         }
     }
 
@@ -265,7 +394,7 @@ impl<'a> Client<'a> {
                 self.take_status(response, map, sequence, scene.time, ledger);
             }
             Goal::Capabilities => self.take_document(response, ledger),
-            Goal::Picture { sequence } => self.take_picture(response, sequence, ledger),
+            Goal::Picture { sequence, .. } => self.take_picture(response, sequence, ledger),
             Goal::Readiness | Goal::Metrics | Goal::Replacement => self.take_page(response, ledger),
             Goal::Reply => self.take_reply(response, scene.alloc, ledger),
         }
@@ -334,6 +463,9 @@ impl<'a> Client<'a> {
     /// Takes a page of the operator's port. A node that isn't ready says so.
     fn take_page(&mut self, response: &[u8], ledger: &mut Ledger) {
         ledger.answers.pages = ledger.answers.pages.saturating_add(1);
+        if self.period == Period::Leaving {
+            self.open = open_in(text_of(response));
+        }
         if has_succeeded(response) {
             self.is_served = true;
         } else if text_of(response).contains("suspended: ") {
@@ -385,12 +517,27 @@ fn request_for(
         Goal::Nothing | Goal::Status { .. } => bytes_of(alloc, STATUS),
         Goal::Publish { map } => publish_request(alloc, map),
         Goal::Capabilities => bytes_of(alloc, CAPABILITIES),
-        Goal::Picture { sequence } => picture_request(alloc, sequence),
+        Goal::Picture { sequence, side } => picture_request(alloc, sequence, side),
         Goal::Readiness => bytes_of(alloc, READINESS),
         Goal::Metrics => bytes_of(alloc, METRICS),
         Goal::Replacement => bytes_of(alloc, if process.host() == 0 { BEGIN } else { AGREE }),
         Goal::Reply => question(alloc, told, digest),
     }
+}
+
+/// Whether a role is the one at this index, which goes round.
+fn is_role_at(role: Role, index: usize) -> bool {
+    match ROLES.get(index.checked_rem(ROLES.len()).unwrap_or(0)) {
+        Some(found) => *found == role,
+        None => false,
+    }
+}
+
+/// How many connections of clients and of readers are open, by metrics.
+fn open_in(text: &str) -> Option<(u32, u32)> {
+    let clients = number_behind(text, "gauge\nwfarm_open_clients ")?;
+    let readers = number_behind(text, "gauge\nwfarm_open_readers ")?;
+    Some((clients, readers))
 }
 
 /// Whether a response says that the request succeeded.

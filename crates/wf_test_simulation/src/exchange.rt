@@ -80,6 +80,16 @@ impl<'a> Exchange<'a> {
         self.deadline
     }
 
+    /// The second half of the request is never sent.
+    pub(crate) fn halve(&mut self) {
+        self.request.truncate(self.request.len() / 2);
+    }
+
+    /// Writes as much as can be now, and reads nothing.
+    pub(crate) fn send(&mut self) {
+        let _ = self.write_all();
+    }
+
     /// Writes and reads as much as can be now.
     pub(crate) fn turn(&mut self, time: u64) -> Stage {
         let written = self.write_all();

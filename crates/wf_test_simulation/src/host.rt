@@ -1,7 +1,9 @@
 //! A host of a simulated farm, on which a process runs.
 
+use crate::lag::Lag;
 use crate::plan::Fault;
 use crate::schedule::Stroke;
+use crate::slow_store::SlowStore;
 use std::cell::RefCell;
 use wf_simulation::World;
 use wf_store::MemoryFolder;
@@ -18,6 +20,12 @@ pub(crate) struct Host<'a> {
     pub(crate) due: u64,
     /// How many sequences its process had published when that was noted last.
     pub(crate) published: u16,
+    lag: &'a Lag,
+    // how many milliseconds a sync takes, until when that is so, and until when its process waits
+    // for one
+    sync_millis: u64,
+    slow_until: u64,
+    busy_until: u64,
     // by how much its clock is ahead, in milliseconds
     ahead: u64,
     // whether a call of its disks is to fail, and how many have
@@ -28,12 +36,16 @@ pub(crate) struct Host<'a> {
 impl<'a> Host<'a> {
     /// A host whose process is to be started at this time. Its clock is ahead by as many minutes as
     /// its number says.
-    pub(crate) fn new(number: u8, folder: &'a MemoryFolder, due: u64) -> Self {
+    pub(crate) fn new(number: u8, folder: &'a MemoryFolder, lag: &'a Lag, due: u64) -> Self {
         Host {
             number,
             folder,
             due,
             published: 0,
+            lag,
+            sync_millis: 0,
+            slow_until: 0,
+            busy_until: 0,
             ahead: u64::from(number).saturating_mul(60_000),
             will_fail: false,
             failed: 0,
@@ -56,7 +68,33 @@ impl<'a> Host<'a> {
             world.turn_on(self.number as usize);
         }
         self.mend_disk();
+        self.busy_until = 0;
         self.folder.set_bits(bits);
+    }
+
+    /// The folder, as its process sees it: its syncs take time.
+    pub(crate) fn store(&self) -> SlowStore<'a> {
+        SlowStore::new(self.folder, self.lag)
+    }
+
+    /// Whether its process waits for a sync.
+    pub(crate) fn is_busy(&self, time: u64) -> bool {
+        time < self.busy_until
+    }
+
+    /// A turn of its process begins.
+    pub(crate) fn begin(&self, time: u64) {
+        self.lag.begin(if time < self.slow_until {
+            self.sync_millis
+        } else {
+            0
+        });
+    }
+
+    /// The turn is over. Returns when its process has waited for all syncs of it.
+    pub(crate) fn end(&mut self, time: u64) -> u64 {
+        self.busy_until = time.saturating_add(self.lag.end());
+        self.busy_until
     }
 
     /// A fault happens. Returns whether the process ends by it.
@@ -69,7 +107,12 @@ impl<'a> Host<'a> {
             }
             Fault::Jump => {
                 self.ahead = self.ahead.saturating_add(stroke.until.saturating_sub(time));
-                self.due = 0;
+                self.due = self.busy_until;
+                return false;
+            }
+            Fault::SlowSync => {
+                self.sync_millis = (stroke.kept as u64).saturating_add(1);
+                self.slow_until = stroke.until;
                 return false;
             }
             _ => {
@@ -95,9 +138,10 @@ impl<'a> Host<'a> {
         self.will_fail = false;
     }
 
-    /// All faults are over: no call of its disks fails any more, and its process is started by this
-    /// time at the latest.
+    /// All faults are over: no call of its disks fails or takes time any more, and its process is
+    /// started by this time at the latest.
     pub(crate) fn heal(&mut self, time: u64) {
+        self.slow_until = 0;
         self.due = self.due.min(time);
         self.mend_disk();
     }

@@ -50,6 +50,15 @@ pub(crate) enum Violation {
     /// A process hasn't published as many sequences as others then.
     #[error("{0} has published {1} of {2}")]
     NotEqual(Process, u16, usize),
+    /// A process still has connections of clients once all are gone, or have stopped for too long.
+    #[error("{0} has {1} connections of clients that are gone")]
+    NotGivenBack(Process, u32),
+    /// Nodes have more connections of readers then than there are replicas.
+    #[error("{0} readers are connected, of {1} that are there")]
+    ReadersNotGivenBack(u32, u8),
+    /// More connections are there than those of nodes to each other, and of replicas.
+    #[error("{0} connections are there, of {1} that anybody has")]
+    ConnectionsLeft(usize, usize),
 }
 
 /// A request about a sequence, whose answer is one at all nodes.
@@ -90,6 +99,8 @@ pub(crate) struct Answers {
     pub(crate) replies: u64,
     /// Requests that nothing answered.
     pub(crate) failed: u64,
+    /// Connections on which a client stopped.
+    pub(crate) stopped: u64,
 }
 
 /// What was seen of a farm: its maps and answers by sequence, and which maps were reported as

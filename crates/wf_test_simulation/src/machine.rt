@@ -1,5 +1,6 @@
 //! What the processes of a simulated farm run on.
 
+use crate::lag::Lag;
 use std::alloc::{Allocator, Global};
 use std::cell::Cell;
 use std::fmt::Display;
@@ -13,12 +14,14 @@ use std::time::Duration;
 /// The seconds from 1970 to when a play begins.
 const EPOCH_SECONDS: u64 = 1_800_000_000;
 
-/// A runtime whose time is set by the driver of a play. It has no files and no sockets of the
-/// system. Lines of errors are counted, and printed where that was asked.
+/// A runtime whose time is set by the driver of a play, and goes on within syncs that take time. It
+/// has no files and no sockets of the system. Lines of errors are counted, and printed where that
+/// was asked.
 #[derive(Drop)]
 pub(crate) struct Machine<'a, R> {
     rt: &'a R,
     alloc: Global,
+    lag: &'a Lag,
     millis: Cell<u64>,
     lines: Cell<u64>,
     is_printed: bool,
@@ -26,14 +29,20 @@ pub(crate) struct Machine<'a, R> {
 
 impl<'a, R> Machine<'a, R> {
     /// A runtime whose time is 0.
-    pub(crate) fn new(rt: &'a R, alloc: Global, is_printed: bool) -> Self {
+    pub(crate) fn new(rt: &'a R, alloc: Global, lag: &'a Lag, is_printed: bool) -> Self {
         Machine {
             rt,
             alloc,
+            lag,
             millis: Cell::new(0),
             lines: Cell::new(0),
             is_printed,
         }
+    }
+
+    /// The time that syncs take.
+    pub(crate) fn lag(&self) -> &'a Lag {
+        self.lag
     }
 
     /// The time, in milliseconds.
@@ -51,9 +60,9 @@ impl<'a, R> Machine<'a, R> {
         self.lines.get()
     }
 
-    /// The time since the play began.
-    fn elapsed(&self) -> Duration {
-        Duration::from_millis(self.millis.get())
+    /// The time since the play began, with what the syncs of this turn took, in milliseconds.
+    fn elapsed(&self) -> u64 {
+        self.millis.get().saturating_add(self.lag.passed())
     }
 }
 
@@ -67,13 +76,13 @@ impl<'a, R> Alloc for Machine<'a, R> {
 
 impl<'a, R> Clock for Machine<'a, R> {
     fn monotonic(&self) -> io::Result<Duration> {
-        Ok(self.elapsed())
+        Ok(Duration::from_millis(self.elapsed()))
     }
 
     fn since_1970(&self) -> io::Result<Duration> {
         let millis = EPOCH_SECONDS
             .saturating_mul(1_000)
-            .saturating_add(self.millis.get());
+            .saturating_add(self.elapsed());
         Ok(Duration::from_millis(millis))
     }
 }

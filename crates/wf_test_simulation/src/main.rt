@@ -7,8 +7,9 @@
 //! ([`wf_replica_command::RunningReplica`], [`replica`]), each on a folder in memory and a simulated
 //! network, with a clock of its own ([`host`]). All the while clients publish at each node, ask for
 //! capabilities and pictures, look at the operator's port, and read the history ([`client`]), and
-//! faults happen that are drawn from the seed ([`schedule`]). After each step is checked what a
-//! farm promises ([`ledger`]):
+//! faults happen that are drawn from the seed ([`schedule`]); a client may stop within its request,
+//! or take no byte of the response, and a sync may take time ([`slow_store`]). After each step is
+//! checked what a farm promises ([`ledger`]):
 //!
 //! - Two answers to one request about a sequence are equal, and so are two maps.
 //! - No list of maps goes back, and each published map is one that a client sent. A replica has
@@ -19,6 +20,9 @@
 //! - Once all faults are over, each client has its answer and all nodes have published equally many
 //!   within five seconds; within twelve where connections had died in silence, or where a folder
 //!   joins in the place of a lost one. Each replica follows within five seconds.
+//! - Then all clients go, but for those that have stopped: within 25 seconds each process has no
+//!   connection of a client any more, and none of a reader but a replica. Once those have gone too
+//!   no connection is there but one of each node to each other, and one of each replica.
 //!
 //! The answer has what was violated, how much happened, and a digest of all answers, which is one
 //! on every machine.
@@ -31,6 +35,7 @@ mod client;
 mod dice;
 mod exchange;
 mod host;
+mod lag;
 mod ledger;
 mod machine;
 mod member;
@@ -43,6 +48,7 @@ mod replica;
 mod requests;
 mod scene;
 mod schedule;
+mod slow_store;
 mod tally;
 
 use questions::Plays;

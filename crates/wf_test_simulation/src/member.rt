@@ -8,6 +8,7 @@ use crate::names::{Names, init_line};
 use crate::plan::Relapse;
 use crate::process::Process;
 use crate::schedule::Stroke;
+use crate::slow_store::SlowStore;
 use std::cell::RefCell;
 use wf_loop::Log;
 use wf_node_command::{RunningNode, run};
@@ -18,7 +19,7 @@ use wf_store::{FileName, MemoryFolder, MemoryStore, Store};
 #[derive(Drop)]
 pub(crate) struct Member<'a> {
     host: Host<'a>,
-    process: Option<RunningNode<MemoryStore<'a>, SimulatedNetwork<'a>>>,
+    process: Option<RunningNode<SlowStore<'a>, SimulatedNetwork<'a>>>,
     // how many messages its processes that have ended took in
     messages: u64,
     // whether its folder isn't its last one, and whether it didn't start on that
@@ -29,7 +30,7 @@ pub(crate) struct Member<'a> {
 impl<'a> Member<'a> {
     /// A node that is to be started at this time, on its folder, which is made.
     pub(crate) fn new<R: Eprint>(
-        machine: &Machine<'_, R>,
+        machine: &Machine<'a, R>,
         folder: &'a MemoryFolder,
         number: u8,
         nodes: u8,
@@ -37,7 +38,7 @@ impl<'a> Member<'a> {
     ) -> Self {
         make_folder(machine, folder, number, nodes, false);
         Member {
-            host: Host::new(number, folder, due),
+            host: Host::new(number, folder, machine.lag(), due),
             process: None,
             messages: 0,
             has_relapsed: false,
@@ -152,6 +153,9 @@ impl<'a> Member<'a> {
             }
             return false;
         }
+        if self.host.is_busy(time) {
+            return false;
+        }
         let mut tokens = [0usize; MOST_READY];
         let count = self.host.take_ready(world, &mut tokens);
         if count == 0 && time < self.host.due {
@@ -172,9 +176,12 @@ impl<'a> Member<'a> {
         let own = self.own();
         if let Some(process) = &mut self.process {
             machine.set_millis(clock);
+            self.host.begin(time);
             process.turn(machine, &Log::new(machine, true), ready, clock);
+            let over = self.host.end(time);
             machine.set_millis(time);
-            self.host.due = time.saturating_add(process.patience(clock).max(1));
+            let patience = process.patience(self.host.clock(over)).max(1);
+            self.host.due = over.saturating_add(patience);
             let history = process.process().node().history();
             self.host.published = ledger.note_list(own, history, self.host.published);
         }
@@ -201,7 +208,7 @@ impl<'a> Member<'a> {
         self.host.turn_on(world, dice.bits());
         let number = self.host.number as usize;
         let network = SimulatedNetwork::new(world, number);
-        let store = MemoryStore::new(self.host.folder);
+        let store = self.host.store();
         let line = names.node_line(number);
         match RunningNode::start(machine, network, store, &line, self.host.clock(time)) {
             Ok(process) => {

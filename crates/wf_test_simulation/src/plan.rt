@@ -18,16 +18,22 @@ pub(crate) enum Fault {
     Disk,
     /// Its clock jumps ahead.
     Jump,
+    /// Each sync of its disks takes time, for a while.
+    SlowSync,
+    /// A client of it stops within its next request, or takes no byte of the response.
+    Stop,
 }
 
 /// Each of them, with its word, and the word that leaves it out.
-pub(crate) const FAULTS: [(&str, &str, Fault); 6] = [
+pub(crate) const FAULTS: [(&str, &str, Fault); 8] = [
     ("alone", "no-alone", Fault::Alone),
     ("one-way", "no-one-way", Fault::OneWay),
     ("kills", "no-kills", Fault::Kill),
     ("cuts", "no-cuts", Fault::Cut),
     ("disks", "no-disks", Fault::Disk),
     ("jumps", "no-jumps", Fault::Jump),
+    ("slow-syncs", "no-slow-syncs", Fault::SlowSync),
+    ("stops", "no-stops", Fault::Stop),
 ];
 
 /// What takes the place of the folder of node 0 once the faults are over. The node has to be
@@ -87,8 +93,8 @@ pub(crate) struct Plan {
     /// Between two faults there are so many milliseconds at most.
     pub(crate) pause: u32,
     /// How often each fault is drawn, in the order of `FAULTS`, and whether none of a kind happens.
-    pub(crate) weights: [u32; 6],
-    pub(crate) skips: [bool; 6],
+    pub(crate) weights: [u32; 8],
+    pub(crate) skips: [bool; 8],
     /// The first and the last of the drawn faults that happen, counted from 1.
     pub(crate) first: u32,
     pub(crate) last: u32,
@@ -112,8 +118,8 @@ impl Plan {
             seconds: u64::from(words.number()?),
             network: Faults::NONE,
             pause: 1_500,
-            weights: [0; 6],
-            skips: [false; 6],
+            weights: [0; 8],
+            skips: [false; 8],
             first: 1,
             last: u32::MAX,
             relapse: Relapse::Nothing,
@@ -207,6 +213,12 @@ impl Plan {
     pub(crate) fn has(&self, number: u32, kind: usize) -> bool {
         let is_skipped = self.skips.get(kind).copied().unwrap_or(false);
         self.first <= number && number <= self.last && !is_skipped
+    }
+
+    /// Whether clients may stop.
+    pub(crate) fn has_stops(&self) -> bool {
+        let [_, _, _, _, _, _, _, stops] = self.weights;
+        stops != 0
     }
 
     /// The index of the fault for a number that is drawn below the sum of all weights.

@@ -2,6 +2,7 @@
 
 use crate::client::{Client, REPLICA_ROLES, ROLES};
 use crate::dice::Dice;
+use crate::lag::Lag;
 use crate::ledger::{Ledger, Violation};
 use crate::machine::Machine;
 use crate::member::{Member, make_folder};
@@ -32,6 +33,10 @@ const SILENT_MILLIS: u64 = 12_000;
 /// For how long replicas heal at most once the nodes are healed, in milliseconds.
 const REPLICA_MILLIS: u64 = 5_000;
 
+/// For how long stopped clients are kept at most, in milliseconds: for ten seconds the rest of a
+/// request is waited for, for ten more an answer is to be taken, and one is for parting.
+const LEAVING_MILLIS: u64 = 25_000;
+
 /// The stream of the generator: another one than that of the network.
 const STREAM: u64 = 7;
 
@@ -50,7 +55,7 @@ pub(crate) struct Play<'a, R> {
     clients: Vec<Client<'a>>,
     ledger: Ledger,
     // how often each fault happened
-    faults: [u64; 6],
+    faults: [u64; 8],
     turns: u64,
 }
 
@@ -70,7 +75,8 @@ pub(crate) fn run_play<R: Eprint>(
     before: &str,
     answer: &mut Transcript,
 ) -> Result<Outcome, AllocError> {
-    let machine = Machine::new(rt, alloc, plan.is_printed);
+    let lag = Lag::new();
+    let machine = Machine::new(rt, alloc, &lag, plan.is_printed);
     let world = RefCell::new(World::new(
         alloc,
         plan.seed,
@@ -89,12 +95,16 @@ pub(crate) fn run_play<R: Eprint>(
 
 /// The most connections of the network: one from each node to each other, and eight for the clients
 /// of each, of which four are at most; and eight for each replica, of which three are its clients.
+/// Where clients stop, as many more of each may have.
 fn connections(plan: &Plan) -> usize {
     let nodes = plan.nodes as usize;
+    let processes = nodes.saturating_add(plan.replicas as usize);
+    let stopped = processes.saturating_mul(if plan.has_stops() { 4 } else { 0 });
     nodes
         .saturating_mul(nodes.saturating_add(7))
         .saturating_add(8)
         .saturating_add((plan.replicas as usize).saturating_mul(8))
+        .saturating_add(stopped)
 }
 
 /// A folder for each host, that of the clients for another one of node 0, and one more for another
@@ -129,7 +139,7 @@ impl<'a, R: Eprint> Play<'a, R> {
             replicas: Vec::new(alloc),
             clients: Vec::new(alloc),
             ledger: Ledger::new(alloc),
-            faults: [0; 6],
+            faults: [0; 8],
             turns: 0,
         }
     }
@@ -160,7 +170,8 @@ impl<'a, R: Eprint> Play<'a, R> {
     /// Adds the replica of a host, and its clients.
     fn add_replica(&mut self, host: u8, folder: &'a MemoryFolder) -> Result<(), AllocError> {
         let start = self.dice.millis(0, 500);
-        self.replicas.push(Replica::new(host, folder, start))?;
+        self.replicas
+            .push(Replica::new(host, folder, self.machine.lag(), start))?;
         for role in REPLICA_ROLES {
             let start = self.dice.millis(500, 2_000);
             self.clients
@@ -169,7 +180,8 @@ impl<'a, R: Eprint> Play<'a, R> {
         Ok(())
     }
 
-    /// Plays: faults happen for the plan's time, and then the nodes heal, and then the replicas.
+    /// Plays: faults happen for the plan's time, and then the nodes heal, and then the replicas. At
+    /// last the clients go.
     fn run(&mut self) {
         if self.populate().is_err() {
             self.ledger.cut();
@@ -186,6 +198,23 @@ impl<'a, R: Eprint> Play<'a, R> {
         let healed = self.machine.millis();
         self.run_healing(healed.saturating_add(REPLICA_MILLIS), true);
         self.judge();
+        self.leave();
+    }
+
+    /// The clients go, and then those that have stopped, whose connections were given back by then.
+    fn leave(&mut self) {
+        let time = self.machine.millis();
+        for client in self.clients.iter_mut() {
+            client.leave(time);
+        }
+        self.run_leaving(time.saturating_add(LEAVING_MILLIS), false);
+        self.judge_slots();
+        for client in self.clients.iter_mut() {
+            client.go();
+        }
+        let time = self.machine.millis();
+        self.run_leaving(time.saturating_add(LEAVING_MILLIS), true);
+        self.judge_connections();
     }
 
     /// Goes on until that moment, while faults happen.
@@ -207,6 +236,59 @@ impl<'a, R: Eprint> Play<'a, R> {
             }
             self.step(latest);
         }
+    }
+
+    /// Goes on until that moment at the latest, or until the connections of all clients that have
+    /// gone or stopped were given back; or, once the latter have gone too, none is left of them.
+    fn run_leaving(&mut self, latest: u64, has_none: bool) {
+        for _ in 0..MOST_MOMENTS {
+            if latest <= self.machine.millis() || self.is_given_back(has_none) {
+                return;
+            }
+            self.step(latest);
+        }
+    }
+
+    /// Whether each process says that it has no client, and no reader but a replica; or no
+    /// connection is left of any client.
+    fn is_given_back(&self, has_none: bool) -> bool {
+        if has_none {
+            return self.connection_count() <= self.connections_left();
+        }
+        for client in &self.clients {
+            if is_counted(&self.plan, client) && clients_of(client) != 0 {
+                return false;
+            }
+        }
+        self.reader_count() <= u32::from(self.plan.replicas)
+    }
+
+    /// How many readers all processes say that they have.
+    fn reader_count(&self) -> u32 {
+        let mut count = 0u32;
+        for client in &self.clients {
+            if let Some((_, readers)) = client.open() {
+                count = count.saturating_add(readers);
+            }
+        }
+        count
+    }
+
+    /// How many connections are there.
+    fn connection_count(&self) -> usize {
+        match self.world.try_borrow() {
+            Ok(world) => world.count(),
+            Err(_) => 0,
+        }
+    }
+
+    /// How many connections are there without clients: one of each node to each other, and one of
+    /// each replica.
+    fn connections_left(&self) -> usize {
+        let nodes = self.plan.nodes as usize;
+        nodes
+            .saturating_mul(nodes.saturating_sub(1))
+            .saturating_add(self.plan.replicas as usize)
     }
 
     /// For how long the farm may heal.
@@ -343,12 +425,20 @@ impl<'a, R: Eprint> Play<'a, R> {
         match stroke.fault {
             Fault::Alone => self.cut_off(stroke.host, stroke.until),
             Fault::OneWay => self.block(stroke.host, stroke.other, stroke.until),
+            Fault::Stop => self.stop(stroke),
             _ => return self.fail_process(stroke),
         }
         true
     }
 
-    /// A process ends, or its disk fails, or its clock jumps. Returns whether it ran.
+    /// A client stops at its next request.
+    fn stop(&mut self, stroke: &Stroke) {
+        for client in self.clients.iter_mut() {
+            client.stop(stroke);
+        }
+    }
+
+    /// A process ends, or its disk fails or takes time, or its clock jumps. Returns whether it ran.
     fn fail_process(&mut self, stroke: &Stroke) -> bool {
         let time = self.machine.millis();
         if let Some(member) = self.members.get_mut(stroke.host) {
@@ -490,6 +580,30 @@ impl<'a, R: Eprint> Play<'a, R> {
         self.ledger.compare_reports();
     }
 
+    /// Notes which processes have connections of clients that have gone or stopped.
+    fn judge_slots(&mut self) {
+        let readers = self.reader_count();
+        if u32::from(self.plan.replicas) < readers {
+            self.ledger.violate(Violation::ReadersNotGivenBack(readers, self.plan.replicas));
+        }
+        for client in &self.clients {
+            let clients = clients_of(client);
+            if is_counted(&self.plan, client) && clients != 0 {
+                self.ledger
+                    .violate(Violation::NotGivenBack(client.process(), clients));
+            }
+        }
+    }
+
+    /// Notes whether connections are left that nobody has.
+    fn judge_connections(&mut self) {
+        let count = self.connection_count();
+        let left = self.connections_left();
+        if left < count {
+            self.ledger.violate(Violation::ConnectionsLeft(count, left));
+        }
+    }
+
     /// Writes a line behind these words for each violation. Returns what happened.
     fn finish(&self, before: &str, answer: &mut Transcript) -> Result<Outcome, AllocError> {
         self.ledger.write(before, answer);
@@ -507,7 +621,7 @@ impl<'a, R: Eprint> Play<'a, R> {
     fn tally(&self) -> Tally {
         let answers = self.ledger.answers;
         let network = self.network_counts();
-        let [alone, one_way, kills, cuts, _, jumps] = self.faults;
+        let [alone, one_way, kills, cuts, _, jumps, _, _] = self.faults;
         let mut messages = 0u64;
         let mut disks = 0u64;
         let mut learned = 0u64;
@@ -540,6 +654,8 @@ impl<'a, R: Eprint> Play<'a, R> {
             cuts,
             disks,
             jumps,
+            self.machine.lag().count(),
+            answers.stopped,
             network.opened,
             network.refused,
             network.unanswered,
@@ -558,6 +674,21 @@ impl<'a, R: Eprint> Play<'a, R> {
             Ok(world) => world.counts(),
             Err(_) => Counts::default(),
         }
+    }
+}
+
+/// Whether a client is the operator of a process that runs in the end.
+fn is_counted(plan: &Plan, client: &Client<'_>) -> bool {
+    let runs = !plan.relapse.is_unstartable() || client.process().host() != 0;
+    client.is_operator() && runs
+}
+
+/// How many connections of clients the process of an operator said that it has; all, if it said
+/// nothing.
+fn clients_of(client: &Client<'_>) -> u32 {
+    match client.open() {
+        Some((clients, _)) => clients,
+        None => u32::MAX,
     }
 }
 

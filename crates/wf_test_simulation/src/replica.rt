@@ -2,33 +2,34 @@
 
 use crate::dice::Dice;
 use crate::host::{Host, MOST_READY};
+use crate::lag::Lag;
 use crate::ledger::{Ledger, Violation};
 use crate::machine::Machine;
 use crate::names::Names;
 use crate::process::Process;
 use crate::schedule::Stroke;
+use crate::slow_store::{SlowStore, SlowTape};
 use std::cell::RefCell;
 use wf_loop::Log;
 use wf_replica_command::{RunningReplica, Turn, start_replica};
 use wf_simulation::{SimulatedNetwork, World};
-use wf_store::{MemoryFolder, MemoryStore, SharedDisk};
-use wf_tape::DiskTape;
+use wf_store::MemoryFolder;
 
 /// A replica: its host, which outlives its process, and the folder as its process has locked it.
 #[derive(Drop)]
 pub(crate) struct Replica<'a> {
     host: Host<'a>,
-    process: Option<RunningReplica<DiskTape<SharedDisk<'a>>, SimulatedNetwork<'a>>>,
-    store: Option<MemoryStore<'a>>,
+    process: Option<RunningReplica<SlowTape<'a>, SimulatedNetwork<'a>>>,
+    store: Option<SlowStore<'a>>,
     // whether what it had published when that was noted last is on its tape
     has_tape: bool,
 }
 
 impl<'a> Replica<'a> {
     /// A replica that is to be started at this time, on an empty folder.
-    pub(crate) fn new(host: u8, folder: &'a MemoryFolder, due: u64) -> Self {
+    pub(crate) fn new(host: u8, folder: &'a MemoryFolder, lag: &'a Lag, due: u64) -> Self {
         Replica {
-            host: Host::new(host, folder, due),
+            host: Host::new(host, folder, lag, due),
             process: None,
             store: None,
             has_tape: true,
@@ -102,6 +103,9 @@ impl<'a> Replica<'a> {
             }
             return false;
         }
+        if self.host.is_busy(time) {
+            return false;
+        }
         let mut tokens = [0usize; MOST_READY];
         let count = self.host.take_ready(world, &mut tokens);
         if count == 0 && time < self.host.due {
@@ -120,9 +124,12 @@ impl<'a> Replica<'a> {
         let own = self.own();
         if let Some(process) = &mut self.process {
             machine.set_millis(clock);
+            self.host.begin(time);
             let turn = process.turn(machine, &Log::new(machine, true), ready, clock);
+            let over = self.host.end(time);
             machine.set_millis(time);
-            self.host.due = time.saturating_add(process.patience(clock).max(1));
+            let patience = process.patience(self.host.clock(over)).max(1);
+            self.host.due = over.saturating_add(patience);
             self.host.published = ledger.note_list(own, process.history(), self.host.published);
             self.has_tape = process.has_tape();
             if turn != Turn::On {
@@ -144,7 +151,7 @@ impl<'a> Replica<'a> {
         self.host.turn_on(world, dice.bits());
         let number = self.host.number as usize;
         let network = SimulatedNetwork::new(world, number);
-        let mut store = MemoryStore::new(self.host.folder);
+        let mut store = self.host.store();
         let line = names.replica_line(number);
         let started = start_replica(machine, network, &mut store, &line, self.host.clock(time));
         match started {

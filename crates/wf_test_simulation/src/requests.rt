@@ -58,10 +58,14 @@ fn with_body(alloc: Global, body: &str) -> Result<Vec<u8>, AllocError> {
     bytes
 }
 
-/// A request for the picture of the map at a sequence.
-pub(crate) fn picture_request(alloc: Global, sequence: u16) -> Result<Vec<u8>, AllocError> {
+/// A request for the picture of the map at a sequence, of so many pixels each way.
+pub(crate) fn picture_request(
+    alloc: Global,
+    sequence: u16,
+    side: u32,
+) -> Result<Vec<u8>, AllocError> {
     let request = format!(in alloc;
-        "GET /wms?VERSION=1.3.0&REQUEST=GetMap&LAYERS=it&STYLES=&CRS=EPSG:3857&BBOX=0,0,4,4&WIDTH=8&HEIGHT=8&FORMAT=image/x-portable-pixmap&MAPSEQ={sequence} HTTP/1.1\r\nHost: farm\r\n\r\n"
+        "GET /wms?VERSION=1.3.0&REQUEST=GetMap&LAYERS=it&STYLES=&CRS=EPSG:3857&BBOX=0,0,4,4&WIDTH={side}&HEIGHT={side}&FORMAT=image/x-portable-pixmap&MAPSEQ={sequence} HTTP/1.1\r\nHost: farm\r\n\r\n"
     )?;
     let bytes = bytes_of(alloc, request.as_str());
     drop(request);

@@ -19,8 +19,9 @@ pub(crate) struct Stroke {
     /// Until when others aren't reached, and when a process is started again.
     pub(crate) until: u64,
     pub(crate) back: u64,
-    /// Which call of a disk fails, how much is kept of what isn't synced, and whether the file from
-    /// before is put back.
+    /// Which call of a disk fails; how much is kept of what isn't synced, or how long a sync takes,
+    /// or which client stops; and whether the file from before is put back, or the client stops
+    /// behind its request.
     pub(crate) call: usize,
     pub(crate) kept: usize,
     pub(crate) older: usize,

@@ -3,7 +3,7 @@
 use wf_test_table::Transcript;
 
 /// What is counted, in this order.
-const WORDS: [&str; 29] = [
+const WORDS: [&str; 31] = [
     "published",
     "reported",
     "accepted",
@@ -24,6 +24,8 @@ const WORDS: [&str; 29] = [
     "cuts",
     "disks",
     "jumps",
+    "slow-syncs",
+    "stops",
     "connections",
     "refused",
     "silent",
@@ -38,17 +40,17 @@ const WORDS: [&str; 29] = [
 /// How often what happened, in a play or in several.
 #[derive(Clone, Copy)]
 pub(crate) struct Tally {
-    counts: [u64; 29],
+    counts: [u64; 31],
 }
 
 impl Tally {
     /// Nothing happened.
     pub(crate) fn new() -> Self {
-        Tally { counts: [0; 29] }
+        Tally { counts: [0; 31] }
     }
 
     /// So much happened, in the order of the words.
-    pub(crate) fn of(counts: [u64; 29]) -> Self {
+    pub(crate) fn of(counts: [u64; 31]) -> Self {
         Tally { counts }
     }
 

@@ -1,10 +1,12 @@
 -- What came on a connection from a peer.
-use Rattle.std.proofs.Common.{◌≡◌, ◌∙◌, ℕ, ◌+◌, ◌<◌, ◌≤◌, List, [], ◌∷◌, ◌++◌, length, map, refl, sym, ap, subst, append_assoc, append-nil, arith, length-append, Option, Some, None, true, false, inl, inr, Vec}
+use Rattle.std.proofs.Common.{◌≡◌, ◌∙◌, ℕ, ◌<◌, ◌≤◌, List, [], ◌∷◌, ◌++◌, length, map, take, refl, sym, ap, subst, append_assoc, append-nil, arith, length-append, Option, Some, None, true, false, inl, inr, Vec}
 use Rattle.std.specs.Prelude.{◌-◌, ◌≢◌, Bool}
+use Rattle.std.proofs.lemmas.List.{length-take-le}
 use Rattle.std.proofs.Math.Logic.{∥∥₁_map, ∥∥₁_map₂}
 use Rattle.std.specs.declared.alloc.Global.{Global}
 use Rattle.wf_codec.specs.Message.{view}
 use Rattle.wf_codec.specs.declared.fault.DecodeFault.{DecodeFault}
+use Rattle.wf_codec.specs.declared.fault.DecodeFault.TheVariants.{Memory}
 use Rattle.wf_codec.specs.declared.message.Message as code
 use Rattle.wf_def.specs.Definition.{Definition}
 use Rattle.wf_mail.specs.Mail.{spelled}
@@ -15,9 +17,13 @@ use Rattle.wf_model.specs.Chosen.{IsIn}
 use Rattle.wf_model.specs.Message.{Message}
 use Rattle.wf_peer.specs.Greeting.{IsGreeting, greeting_bytes}
 use Rattle.wf_peer.specs.declared.greeting.Greeting.{Greeting}
-use Rattle.wf_wire.specs.FromPeer.{HasComeFrom, IsSaid, IsTakenIn}
+use Rattle.wf_wire.specs.FromPeer.{HasComeFrom, IsGreetedBy, IsTakenIn, takes_more}
 use Rattle.wf_wire.specs.Post.{AreAmong}
-use Rattle.wf_wire.specs.Reception.{AreLostOn, AreTakenOn, IsLostOn, IsReadBehind}
+use Rattle.wf_sockets.specs.declared.connection.Connection.{Ghosts as Connection}
+use Rattle.wf_wire.specs.Reception.{AreLostOn, AreTakenOn, IsBrokenOn, IsLoss, IsLostBy, IsLostOn, IsReadBehind, IsStoppedBy}
+use Rattle.wf_wire.specs.declared.from_peer.FromPeer.{FromPeer}
+use Rattle.wf_wire.specs.declared.receipt.ReceptionFault.{ReceptionFault}
+use Rattle.wf_wire.specs.declared.receipt.ReceptionFault.TheVariants as faults
 use Rattle.wf_wire.proofs.Offers.{in_along, in_right}
 
 -- ---- bytes
@@ -106,6 +112,10 @@ pub none_came : (all all' greeting : List ℕ) (receiver receiver' : ReceiverSta
 none_came all all' greeting receiver receiver' whole same still is =
     subst (λ (l : List ℕ). ∥ IsTakenIn l greeting receiver' whole ∥₁) (sym same) (subst (λ (r : ReceiverState). ∥ IsTakenIn all greeting r whole ∥₁) (sym still) is)
 
+-- the bytes that were moved are so many
+pub some_moved : (count : ℕ) (bytes piece : List ℕ) → piece ≡ take count bytes → 0 < count → count ≤ length bytes → 0 < length piece
+some_moved count bytes piece is some within = subst (λ (l : List ℕ). 0 < length l) (sym is) (omega (arith, some, length-take-le count bytes within))
+
 -- ---- the greeting
 
 -- no more bytes came than a greeting has, so these are the whole of it
@@ -130,11 +140,11 @@ now_said all greeting all' greeting' count most wanted g read some room within i
     empty [] none = refl
     empty (x ∷ l) none = absurd (omega (arith, none))
 
-pub said_now : (g : Greeting) (greeting : List ℕ) (said : Option Greeting) → said ≡ Some g → IsGreeting g → greeting ≡ greeting_bytes g → ∥ IsSaid said greeting ∥₁
-said_now g greeting said now is whole = subst (λ (s : Option Greeting). ∥ IsSaid s greeting ∥₁) (sym now) ∣ (is, whole) ∣₁
+pub said_now : (g : Greeting) (greeting : List ℕ) (said : Option Greeting) → said ≡ Some g → IsGreeting g → greeting ≡ greeting_bytes g → ∥ IsGreetedBy said greeting ∥₁
+said_now g greeting said now is whole = subst (λ (s : Option Greeting). ∥ IsGreetedBy s greeting ∥₁) (sym now) ∣ (is, whole) ∣₁
 
-pub unsaid : (said : Option Greeting) (greeting : List ℕ) → said ≡ None → ∥ IsSaid said greeting ∥₁
-unsaid said greeting none = subst (λ (s : Option Greeting). ∥ IsSaid s greeting ∥₁) (sym none) ∣ tt ∣₁
+pub unsaid : (said : Option Greeting) (greeting : List ℕ) → said ≡ None → ∥ IsGreetedBy said greeting ∥₁
+unsaid said greeting none = subst (λ (s : Option Greeting). ∥ IsGreetedBy s greeting ∥₁) (sym none) ∣ tt ∣₁
 
 -- ---- messages
 
@@ -153,11 +163,11 @@ among_behind messages front rest all e are = ∥∥₁_map are (λ all_are x the
 
 -- the first of those that wait came
 pub come_from : (said : Greeting) (greeting : Vec ℕ Global) (receiver : ReceiverState) (stream : List (Vec ℕ Global × ReceiverState)) (messages others : List code.Message) (m : code.Message) (rest : List ℕ) →
-    stream ≡ (greeting, receiver) ∷ [] → ∥ IsSaid (Some said) greeting.items ∥₁ → Reads (taken receiver) (came receiver) rest → messages ≡ m ∷ others → ∥ AreAmong (map view messages) (came receiver) ∥₁ →
+    stream ≡ (greeting, receiver) ∷ [] → ∥ IsGreetedBy (Some said) greeting.items ∥₁ → Reads (taken receiver) (came receiver) rest → messages ≡ m ∷ others → ∥ AreAmong (map view messages) (came receiver) ∥₁ →
     ∥ HasComeFrom said.node stream (view m) ∥₁
 come_from said greeting receiver stream messages others m rest only is reads first are = ∥∥₁_map₂ is are so
   where
-    so : IsSaid (Some said) greeting.items → AreAmong (map view messages) (came receiver) → HasComeFrom said.node stream (view m)
+    so : IsGreetedBy (Some said) greeting.items → AreAmong (map view messages) (came receiver) → HasComeFrom said.node stream (view m)
     so said_is all_are = record {
       greeting = greeting;
       receiver = receiver;
@@ -173,9 +183,9 @@ come_from said greeting receiver stream messages others m rest only is reads fir
 
 -- ---- what a receiver makes of a piece
 
-pub taken_on : (messages : Vec code.Message Global) (all all' piece : List ℕ) (receiver receiver' : ReceiverState) → all' ≡ all ++ piece → IsReceived receiver piece (map view messages.items) receiver' → taken receiver' ≡ taken receiver ++ piece →
+pub taken_on : (messages : Vec code.Message Global) (all all' piece : List ℕ) (receiver receiver' : ReceiverState) → 0 < length piece → all' ≡ all ++ piece → IsReceived receiver piece (map view messages.items) receiver' → taken receiver' ≡ taken receiver ++ piece →
     AreTakenOn messages all receiver all' receiver'
-taken_on messages all all' piece receiver receiver' more received takes = record { more = piece; all_is = more; takes = takes; among = ∣ seen receiver receiver' received ∣₁ }
+taken_on messages all all' piece receiver receiver' some more received takes = record { more = piece; all_is = more; some = some; takes = takes; received = received; among = ∣ seen receiver receiver' received ∣₁ }
   where
     seen : (r r' : ReceiverState) → IsReceived r piece (map view messages.items) r' → AreAmong (map view messages.items) (came r')
     seen (mail.Open before rest) (mail.Open after rest') is = λ x there. in_along x (before ++ map view messages.items) after (sym is.0) (in_right x before (map view messages.items) there)
@@ -194,6 +204,47 @@ closed_on all all' piece fault (mail.Closed before earlier) receiver' more close
   left = λ front is. more ∙ ap (λ (l : List ℕ). l ++ piece) is ∙ append_assoc front (spelled before) piece ∙ ap (λ (r : ReceiverState). front ++ (taken r ++ piece)) (sym closed.1);
   same = ap came closed.1;
 }
+
+-- with bytes that aren't messages
+pub broken_on : (all all' piece : List ℕ) (fault : DecodeFault) (receiver receiver' : ReceiverState) → all' ≡ all ++ piece → IsClosed receiver piece fault receiver' → fault ≢ Memory → takes_more receiver ≡ true → IsBrokenOn all receiver all'
+broken_on all all' piece fault (mail.Open before rest) receiver' more closed lasts takes = record { more = piece; came = more; fault = fault; breaks = closed.1 lasts }
+broken_on all all' piece fault (mail.Closed before earlier) receiver' more closed lasts takes = cc
+
+pub lost_by : (fault : ReceptionFault) (all all' : List ℕ) (receiver : ReceiverState) → IsLoss fault → IsLostBy fault all receiver all'
+lost_by faults.Closed all all' receiver end = tt
+lost_by faults.Failed all all' receiver end = tt
+lost_by faults.Memory all all' receiver end = tt
+lost_by (faults.BadGreeting fault) all all' receiver end = absurd end
+lost_by faults.BadMessage all all' receiver end = absurd end
+
+-- a receiver is open after messages came
+pub still_open : (piece : List ℕ) (messages : List (Message Definition)) (receiver receiver' : ReceiverState) → IsReceived receiver piece messages receiver' → takes_more receiver' ≡ true
+still_open piece messages (mail.Open before rest) (mail.Open after rest') is = refl
+still_open piece messages (mail.Open before rest) (mail.Closed after fault) is = absurd is
+still_open piece messages (mail.Closed before fault) receiver' is = absurd is
+
+pub opened : (receiver : ReceiverState) → receiver ≡ mail.Open [] [] → takes_more receiver ≡ true
+opened receiver fresh = ap takes_more fresh
+
+-- ---- why nothing more comes
+
+module _ {C : Type 0} {connections : Connection C} where
+  -- the connection ended
+  pub stopped_by : (fault : ReceptionFault) (before after : FromPeer C connections) → IsLoss fault → after.is_whole ≡ false → IsStoppedBy fault before after
+  stopped_by faults.Closed before after end whole = whole
+  stopped_by faults.Failed before after end whole = whole
+  stopped_by faults.Memory before after end whole = whole
+  stopped_by (faults.BadGreeting fault) before after end whole = absurd end
+  stopped_by faults.BadMessage before after end whole = absurd end
+
+  -- or what came aren't messages
+  pub stopped_on : (fault : ReceptionFault) (before after : FromPeer C connections) → IsLostBy fault (connections.came before.connection) before.receiver (connections.came after.connection) →
+      takes_more before.receiver ≡ true → after.is_whole ≡ false → IsStoppedBy fault before after
+  stopped_on faults.Closed before after lost takes whole = whole
+  stopped_on faults.Failed before after lost takes whole = whole
+  stopped_on faults.Memory before after lost takes whole = whole
+  stopped_on (faults.BadGreeting fault) before after lost takes whole = absurd lost
+  stopped_on faults.BadMessage before after lost takes whole = (lost takes, whole)
 
 pub lost_nothing : (all all' : List ℕ) (receiver receiver' : ReceiverState) → all' ≡ all ++ [] → receiver' ≡ receiver → AreLostOn all receiver all' receiver'
 lost_nothing all all' receiver receiver' none same = record {

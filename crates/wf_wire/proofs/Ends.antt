@@ -3,10 +3,9 @@ use Rattle.std.proofs.Common.{◌≡◌, ◌∙◌, ℕ, List, ◌++◌, drop, l
 use Rattle.std.proofs.Math.Seq.{drop-append_seam}
 use Rattle.std.specs.declared.alloc.Global.{Global}
 use Rattle.wf_def.specs.Definition.{Definition}
-use Rattle.wf_mail.specs.Mail.{IsBeginning, IsCarried, spelled}
+use Rattle.wf_mail.specs.Mail.{IsBeginning, spelled}
 use Rattle.wf_mail.specs.Receiver.{ReceiverState, came, taken}
 use Rattle.wf_mail.specs.Theorem.{OnlySentCome}
-use Rattle.wf_model.specs.Chosen.{IsIn}
 use Rattle.wf_model.specs.Message.{Message}
 use Rattle.wf_peer.specs.Greeting.{GreetingsAreAsLong, greeting_bytes}
 use Rattle.wf_wire.specs.FromPeer.{HasComeFrom, bytes_by_then}

@@ -1,7 +1,7 @@
 -- Messages are offered to an outbox.
-use Rattle.std.proofs.Common.{◌≡◌, ◌⊎◌, ℕ, ◌+◌, ◌<◌, Bool, true, false, List, [], ◌∷◌, ◌++◌, length, take, map, get_or, Option, Some, None, Result, Ok, Err, IsErrOf, OnOk, OnErr, refl, sym, ap, subst, ◌∙◌, inl, inr}
-use Rattle.std.specs.Prelude.{is_ok, is_some}
-use Rattle.std.proofs.lemmas.List.{map-append, take_more}
+use Rattle.std.proofs.Common.{◌≡◌, ◌⊎◌, ℕ, ◌+◌, ◌<◌, ◌≤◌, Bool, true, false, List, [], ◌∷◌, ◌++◌, length, take, map, get_or, Option, Some, None, Result, Ok, Err, IsErrOf, OnOk, OnErr, refl, sym, ap, subst, ◌∙◌, inl, inr, arith, length-append}
+use Rattle.std.specs.Prelude.{if◌then◌else◌, is_ok, is_some}
+use Rattle.std.proofs.lemmas.List.{length-map, length-take, map-append, take_more}
 use Rattle.wf_codec.specs.Encoding.{spelling}
 use Rattle.wf_def.specs.Definition.{Definition}
 use Rattle.wf_mail.specs.Outbox.{OutboxState, IsPut, IsUnchanged}
@@ -9,7 +9,7 @@ use Rattle.wf_mail.specs.declared.dropped.Dropped.{Dropped}
 use Rattle.wf_mail.specs.declared.dropped.Dropped.TheVariants.{NoRoom, Memory}
 use Rattle.wf_model.specs.Chosen.{IsIn}
 use Rattle.wf_model.specs.Message.{Message}
-use Rattle.wf_wire.specs.Offer.{AreOffered, IsPutOr}
+use Rattle.wf_wire.specs.Offer.{AreOffered, AreTallied, IsPutOr}
 use Rattle.wf_wire.specs.ToPeer.{IsGreetedFirst, put_into, written_of}
 
 -- ---- members of lists
@@ -53,6 +53,55 @@ unfolding AreOffered
 offered_more m [] queued before middle after none one = (queued, after, subst (λ (o : Option OutboxState). IsPutOr queued m o after) none one, refl)
 offered_more m (first ∷ messages) queued before middle after (kept, next, is, rest) one = (kept, next, is, offered_more m messages queued next middle after rest one)
 
+-- ---- how many
+
+-- none yet
+pub tallied_none : (before : Option OutboxState) → AreTallied 0 0 [] before before
+tallied_none None = record { more = refl; all = refl }
+tallied_none (Some before) = record { more = omega arith; all = refl }
+
+one_more : {A : Type 0} (xs : List A) (x : A) → length (xs ++ x ∷ []) ≡ length xs + 1
+one_more xs x = omega (arith, length-append xs (x ∷ []))
+
+-- at most one
+pub one_if : (b : Bool) → (if b then 1 else 0) ≤ 1
+one_if true = omega arith
+one_if false = omega arith
+
+-- one message more was put in, if there is an outbox
+pub tallied_put : (m : Message Definition) (messages : List (Message Definition)) (before middle after : Option OutboxState) (put dropped more put' : ℕ) → is_some middle ≡ is_some before → IsPutOr true m middle after →
+    AreTallied put dropped messages before middle → more ≡ (if is_some middle then 1 else 0) → put' ≡ put + more → AreTallied put' dropped (messages ++ m ∷ []) before after
+tallied_put m messages None None after put dropped more put' there is so one e = record {
+  more = ap (λ (o : Option OutboxState). length (put_into o)) is ∙ omega (arith, so.more, one, e);
+  all = omega (arith, so.all, one, e);
+}
+tallied_put m messages None (Some middle) after put dropped more put' there is so one e = cc
+tallied_put m messages (Some before) None after put dropped more put' there is so one e = cc
+tallied_put m messages (Some before) (Some middle) None put dropped more put' there is so one e = absurd is
+tallied_put m messages (Some before) (Some middle) (Some after) put dropped more put' there is so one e = record {
+  more = omega (arith, so.more, one, e, ap length is.put, one_more middle.put m);
+  all = omega (arith, so.all, one, e, one_more messages m);
+}
+
+-- one message more was dropped
+pub tallied_dropped : (m : Message Definition) (messages : List (Message Definition)) (before middle after : Option OutboxState) (put dropped dropped' : ℕ) → is_some middle ≡ is_some before → IsPutOr false m middle after →
+    AreTallied put dropped messages before middle → dropped' ≡ dropped + 1 → AreTallied put dropped' (messages ++ m ∷ []) before after
+tallied_dropped m messages before None after put dropped dropped' there is so e = absurd is
+tallied_dropped m messages before (Some middle) None put dropped dropped' there is so e = absurd is
+tallied_dropped m messages None (Some middle) (Some after) put dropped dropped' there is so e = cc
+tallied_dropped m messages (Some before) (Some middle) (Some after) put dropped dropped' there is so e = record {
+  more = omega (arith, so.more, ap length is.same.put);
+  all = omega (arith, so.all, e, one_more messages m);
+}
+
+-- no more than were offered
+tallied_within : (messages : List (Message Definition)) (before after : Option OutboxState) (put dropped : ℕ) → AreTallied put dropped messages before after → put + dropped ≤ length messages
+tallied_within messages None after put dropped so = omega (arith, so.all)
+tallied_within messages (Some before) after put dropped so = omega (arith, so.all)
+
+pub tallied_up_to : {A : Type 0} (f : A → Message Definition) (xs : List A) (i : ℕ) (before after : Option OutboxState) (put dropped : ℕ) → AreTallied put dropped (map f (take i xs)) before after → put + dropped ≤ i
+tallied_up_to f xs i before after put dropped so = omega (arith, tallied_within (map f (take i xs)) before after put dropped so, length-map (take i xs) f, length-take i xs)
+
 -- ---- what it leaves
 
 put_by : (queued : Bool) (m : Message Definition) (before after : Option OutboxState) → IsPutOr queued m before after → (x : Message Definition) → IsIn x (put_into after) → IsIn x (put_into before) ⊎ (x ≡ m)
@@ -95,7 +144,7 @@ some_by false m None after is = absurd is
 some_by false m (Some before) None is = absurd is
 some_by false m (Some before) (Some after) is = refl
 
-some_still : (messages : List (Message Definition)) (before after : Option OutboxState) → AreOffered messages before after → is_some after ≡ is_some before
+pub some_still : (messages : List (Message Definition)) (before after : Option OutboxState) → AreOffered messages before after → is_some after ≡ is_some before
 unfolding AreOffered
 some_still [] before after same = ap is_some same
 some_still (m ∷ messages) before after (queued, middle, is, rest) = some_still messages middle after rest ∙ some_by queued m before middle is

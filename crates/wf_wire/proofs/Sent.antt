@@ -1,12 +1,13 @@
 -- What was sent on a connection to a peer.
-use Rattle.std.proofs.Common.{◌≡◌, ◌∙◌, ℕ, ◌<◌, ◌≤◌, List, [], ◌∷◌, ◌++◌, length, take, drop, map, refl, sym, ap, subst, append_assoc, append-nil, arith, length-append, Option, Some, None, true, false, inl, inr}
+use Rattle.std.specs.Prelude.{Bool, IsTrue, ◌↔◌}
+use Rattle.std.proofs.Common.{◌≡◌, ◌∙◌, ℕ, ◌<◌, ◌≤◌, List, [], ◌∷◌, ◌++◌, length, take, drop, map, refl, sym, ap, subst, append_assoc, append-nil, arith, length-append, Option, Some, None, inl, inr}
 use Rattle.std.proofs.lemmas.List.{drop-drop, take-append-drop, take-append-le}
 use Rattle.std.proofs.Math.Logic.{∥∥₁_map, ∥∥₁_map₂}
 use Rattle.wf_client.specs.ResponseBuffer.{IsAdvanced as IsTakenUp, Outgoing, rest_of}
 use Rattle.wf_codec.specs.Message.{view}
 use Rattle.wf_codec.specs.declared.message.Message as code
 use Rattle.wf_def.specs.Definition.{Definition}
-use Rattle.wf_mail.specs.Mail.{AreMessages, IsBeginning, spelled}
+use Rattle.wf_mail.specs.Mail.{AreMessages, spelled}
 use Rattle.wf_mail.specs.Outbox.{IsAdvanced, OutboxState}
 use Rattle.wf_model.specs.Chosen.{IsIn}
 use Rattle.wf_model.specs.Message.{Message}
@@ -14,7 +15,7 @@ use Rattle.wf_peer.specs.Greeting.{IsGreeting, greeting_bytes}
 use Rattle.wf_peer.specs.declared.greeting.Greeting.{Greeting}
 use Rattle.wf_wire.specs.Offer.{AreOffered}
 use Rattle.wf_wire.specs.Post.{AreAmong, logged}
-use Rattle.wf_wire.specs.ToPeer.{AreReturned, IsGreetedFirst, IsGreetingOf, IsSentAs, WasReturned, put_into, written_of}
+use Rattle.wf_wire.specs.ToPeer.{AreReturned, IsGreetedFirst, IsGreetingOf, IsNewOutbox, IsSentAs, WasReturned, most_outbox_bytes, put_into, written_of}
 use Rattle.wf_wire.specs.declared.post.Post.{Post}
 use Rattle.wf_wire.proofs.Offers.{all_put, in_left, in_map, none_written, in_right}
 
@@ -34,6 +35,13 @@ sent_next sent sent' all count greeting greeting' advanced more is =
     ap (λ (s : List ℕ). s ++ rest_of greeting') more ∙ ap (λ (s : List ℕ). (sent ++ take count rest) ++ s) left ∙ append_assoc sent (take count rest) (drop count rest)
     ∙ ap (λ (s : List ℕ). sent ++ s) (take-append-drop count rest) ∙ is
 
+-- and these with what is left are what was left before
+pub greeting_left : (count : ℕ) (greeting greeting' : Outgoing) → IsTakenUp count greeting greeting' → take count (rest_of greeting) ++ rest_of greeting' ≡ rest_of greeting
+greeting_left count greeting greeting' advanced =
+    let rest : List ℕ = rest_of greeting in
+    let left : rest_of greeting' ≡ drop count (drop greeting.done greeting.bytes) = ap rest_of advanced ∙ sym (drop-drop count greeting.done greeting.bytes) in
+    ap (λ (s : List ℕ). take count rest ++ s) left ∙ take-append-drop count rest
+
 pub same_bytes : (count : ℕ) (greeting greeting' : Outgoing) → IsTakenUp count greeting greeting' → greeting'.bytes ≡ greeting.bytes
 same_bytes count greeting greeting' advanced = ap (λ (o : Outgoing). o.bytes) advanced
 
@@ -50,6 +58,14 @@ nothing_left greeting none = empty (rest_of greeting) none
     empty : (rest : List ℕ) → length rest ≡ 0 → rest ≡ []
     empty [] e = refl
     empty (byte ∷ rest) e = absurd (omega (arith, e))
+
+-- all of it was sent where none of it is left
+pub all_greeted : (b : Bool) (greeting : Outgoing) → IsTrue b ↔ (length (rest_of greeting) ≡ 0) → IsTrue b ↔ (rest_of greeting ≡ [])
+all_greeted b greeting is = (λ yes. nothing_left greeting (is.0 yes), λ none. is.1 (ap length none))
+
+-- none of it was taken yet
+pub all_left : (greeting : Outgoing) (bytes : List ℕ) → greeting.bytes ≡ bytes → greeting.done ≡ 0 → rest_of greeting ≡ bytes
+all_left greeting bytes are fresh = ap (λ (n : ℕ). drop n greeting.bytes) fresh ∙ are
 
 -- none of it is left where an outbox is there
 pub first_next : (count : ℕ) (outbox : Option OutboxState) (greeting greeting' : Outgoing) → IsTakenUp count greeting greeting' → count ≤ length (rest_of greeting) → 0 < count →
@@ -75,6 +91,20 @@ pub written_next : (chunk rest : List ℕ) (count : ℕ) (front sent sent' : Lis
 written_next chunk rest count front sent sent' before after is within advanced more was =
     more ∙ ap (λ (s : List ℕ). s ++ take count chunk) was ∙ append_assoc front before.written (take count chunk)
     ∙ ap (λ (s : List ℕ). front ++ (before.written ++ s)) (sym (take-append-le count chunk rest within) ∙ ap (take count) is) ∙ ap (λ (s : List ℕ). front ++ s) (sym advanced.written)
+
+-- they are the first of those that wait, and the others are left
+pub chunk_front : (chunk rest waiting : List ℕ) (count : ℕ) → chunk ++ rest ≡ waiting → count ≤ length chunk → take count chunk ≡ take count waiting
+chunk_front chunk rest waiting count is within = sym (take-append-le count chunk rest within) ∙ ap (take count) is
+
+pub sent_chunk : (chunk rest waiting : List ℕ) (count : ℕ) (sent sent' : List ℕ) → chunk ++ rest ≡ waiting → count ≤ length chunk → sent' ≡ sent ++ take count chunk → sent' ≡ sent ++ take count waiting
+sent_chunk chunk rest waiting count sent sent' is within more = more ∙ ap (λ (l : List ℕ). sent ++ l) (chunk_front chunk rest waiting count is within)
+
+pub waiting_left : (count : ℕ) (before after : OutboxState) → IsAdvanced count before after → take count before.waiting ++ after.waiting ≡ before.waiting
+waiting_left count before after advanced = ap (λ (l : List ℕ). take count before.waiting ++ l) advanced.waiting ∙ take-append-drop count before.waiting
+
+-- a new outbox
+pub new_outbox : (outbox : OutboxState) → outbox.put ≡ [] → outbox.written ≡ [] → outbox.waiting ≡ [] → outbox.limit ≡ most_outbox_bytes → IsNewOutbox outbox
+new_outbox outbox put written waiting limit = record { put = put; written = written; waiting = waiting; limit = limit }
 
 pub written_none : (front sent sent' written : List ℕ) → sent' ≡ sent ++ [] → sent ≡ front ++ written → sent' ≡ front ++ written
 written_none front sent sent' written none was = none ∙ append-nil sent ∙ was

@@ -1,7 +1,8 @@
 -- What came on a connection from a peer.
-use Rattle.std.specs.Prelude.{◌≡◌, ℕ, Bool, true, List, [], ◌∷◌, ◌++◌, Option, Some, None, Vec}
+use Rattle.std.specs.Prelude.{◌≡◌, ℕ, Bool, true, false, List, [], ◌∷◌, ◌++◌, Option, Some, None, Vec}
 use Rattle.std.specs.declared.alloc.Global.{Global}
 use Rattle.wf_def.specs.Definition.{Definition}
+use Rattle.wf_mail.specs.Receiver as receivers
 use Rattle.wf_mail.specs.Receiver.{ReceiverState, came, taken}
 use Rattle.wf_mail.specs.Stream.{Reads}
 use Rattle.wf_model.specs.Chosen.{IsIn}
@@ -17,9 +18,20 @@ pub record IsTakenIn (all greeting : List ℕ) (receiver : ReceiverState) (whole
   pub none : whole ≡ true → rest ≡ []
 
 -- once these bytes are a greeting's, they are the whole of it
-abbrev pub IsSaid : Option Greeting → List ℕ → Type 0
-IsSaid None greeting = Unit {0}
-IsSaid (Some said) greeting = IsGreeting said × (greeting ≡ greeting_bytes said)
+abbrev pub IsGreetedBy : Option Greeting → List ℕ → Type 0
+IsGreetedBy None greeting = Unit {0}
+IsGreetedBy (Some said) greeting = IsGreeting said × (greeting ≡ greeting_bytes said)
+
+-- whether the receiver has had no error
+abbrev pub takes_more : ReceiverState → Bool
+takes_more (receivers.Open messages rest) = true
+takes_more (receivers.Closed messages fault) = false
+
+-- the peer, once it has greeted and is let in
+abbrev pub peer_of : Option Greeting → Bool → Option ℕ
+peer_of None is_let_in = None
+peer_of (Some said) false = None
+peer_of (Some said) true = Some said.node
 
 -- The message came on a connection, of which a log has the greeting, which is that peer's, and the
 -- receiver: it is one of the whole messages that the bytes after the greeting begin with.

@@ -1,9 +1,10 @@
 -- Messages are offered to an outbox.
-use Rattle.std.specs.Prelude.{◌≡◌, ◌⊎◌, ◌+◌, ◌<◌, Bool, true, false, List, [], ◌∷◌, length, Option, Some, None}
+use Rattle.std.specs.Prelude.{◌≡◌, ◌⊎◌, ℕ, ◌+◌, ◌<◌, Bool, true, false, List, [], ◌∷◌, length, if◌then◌else◌, is_some, Option, Some, None}
 use Rattle.wf_codec.specs.Encoding.{spelling}
 use Rattle.wf_def.specs.Definition.{Definition}
 use Rattle.wf_mail.specs.Outbox.{OutboxState, IsPut, IsUnchanged}
 use Rattle.wf_model.specs.Message.{Message}
+use Rattle.wf_wire.specs.ToPeer.{put_into}
 
 -- The message was dropped: there was no room for its encoding, or it needed an allocation, which
 -- failed. Nothing else changed.
@@ -25,3 +26,8 @@ unfoldable pub AreOffered : List (Message Definition) → Option OutboxState →
 AreOffered [] before after = after ≡ before
 AreOffered (m ∷ messages) before after =
     (queued : Bool) × (middle : Option OutboxState) × IsPutOr queued m before middle × AreOffered messages middle after
+
+-- So many of these were put in, and so many dropped: all of them, or none where there is no outbox.
+pub record AreTallied (put dropped : ℕ) (messages : List (Message Definition)) (before after : Option OutboxState) : Type 0 where
+  pub more : length (put_into after) ≡ length (put_into before) + put
+  pub all : put + dropped ≡ (if is_some before then length messages else 0)

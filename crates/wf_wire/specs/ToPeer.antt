@@ -1,9 +1,10 @@
 -- What is sent on a connection to a peer.
-use Rattle.std.specs.Prelude.{◌≡◌, ℕ, List, [], ◌++◌, map, Option, Some, None, is_some, true}
+use Rattle.std.specs.Prelude.{◌≡◌, ℕ, ◌*◌, Bool, List, [], ◌++◌, map, Option, Some, None, is_some, true, false}
 use Rattle.wf_codec.specs.Message.{view}
 use Rattle.wf_def.specs.Definition.{Definition}
 use Rattle.wf_mail.specs.Mail.{AreMessages, IsBeginning, spelled}
 use Rattle.wf_mail.specs.Outbox.{OutboxState}
+use Rattle.wf_mail.specs.Stream.{most_message_bytes}
 use Rattle.wf_model.specs.Chosen.{IsIn}
 use Rattle.wf_model.specs.Message.{Message}
 use Rattle.wf_peer.specs.Greeting.{IsGreeting, greeting_bytes}
@@ -19,6 +20,11 @@ put_into (Some outbox) = outbox.put
 abbrev pub written_of : Option OutboxState → List ℕ
 written_of None = []
 written_of (Some outbox) = outbox.written
+
+-- the bytes of messages that wait in it
+abbrev pub waiting_for : Option OutboxState → List ℕ
+waiting_for None = []
+waiting_for (Some outbox) = outbox.waiting
 
 -- an outbox comes once all of the greeting was sent
 abbrev pub IsGreetedFirst : Option OutboxState → List ℕ → Type 0
@@ -47,3 +53,21 @@ pub record IsSentAs (sent : List ℕ) (put : List (Message Definition)) : Type 0
   pub is_greeting : IsGreeting own
   pub messages : AreMessages put
   pub begins : IsBeginning sent (greeting_bytes own ++ spelled put)
+
+-- the most bytes that wait for a peer
+abbrev pub most_outbox_bytes : ℕ
+most_outbox_bytes = 8 * most_message_bytes
+
+-- Nothing was put into this outbox yet.
+pub record IsNewOutbox (outbox : OutboxState) : Type 0 where
+  pub put : outbox.put ≡ []
+  pub written : outbox.written ≡ []
+  pub waiting : outbox.waiting ≡ []
+  pub limit : outbox.limit ≡ most_outbox_bytes
+
+-- By whether there is an outbox now: the one that was there, or a new one.
+abbrev pub IsOpenedAs : Bool → Option OutboxState → Option OutboxState → Type 0
+IsOpenedAs false before after = (before ≡ None) × (after ≡ None)
+IsOpenedAs true before None = ⊥
+IsOpenedAs true None (Some after) = IsNewOutbox after
+IsOpenedAs true (Some before) (Some after) = after ≡ before

@@ -1,8 +1,8 @@
 //! A connection from a peer, on which messages come.
-ghost use Rattle.std.specs.Prelude.{◌≡◌, [], None, map};
+ghost use Rattle.std.specs.Prelude.{◌≡◌, [], None, map, true};
 ghost use Rattle.wf_codec.specs.Message.{view};
 ghost use Rattle.wf_mail.specs.Receiver.{came, taken};
-ghost use Rattle.wf_wire.specs.FromPeer.{IsSaid, IsTakenIn};
+ghost use Rattle.wf_wire.specs.FromPeer.{IsGreetedBy, IsTakenIn, takes_more};
 ghost use Rattle.wf_wire.specs.Post.{AreAmong};
 
 use std::collections::VecDeque;
@@ -26,7 +26,8 @@ pub struct FromPeer<C: Connection> {
     // whether all that came was taken in
     pub(crate) is_whole: bool,
     ghost taken_in: { ∥ IsTakenIn (C.Connection.came connection) greeting.items receiver is_whole ∥₁ },
-    ghost is_said: { ∥ IsSaid said greeting.items ∥₁ },
+    ghost is_said: { ∥ IsGreetedBy said greeting.items ∥₁ },
     ghost unread: { said ≡ None → taken receiver ≡ [] },
+    ghost unbroken: { is_whole ≡ true → takes_more receiver ≡ true },
     ghost waiting: { ∥ AreAmong (map view messages.items) (came receiver) ∥₁ },
 }

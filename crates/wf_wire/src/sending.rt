@@ -1,9 +1,12 @@
 //! What is sent on a connection to a peer.
-ghost use Rattle.std.specs.Prelude.{◌≡◌, ◌++◌, [], ℕ, List, IfSome, IsTrue, length, map};
+ghost use Rattle.std.specs.Prelude.{◌≡◌, ◌≢◌, ◌↔◌, ◌++◌, ◌∷◌, [], ℕ, List, IfSome, IsTrue, None, is_some, length, map, true};
 ghost use Rattle.wf_client.specs.ResponseBuffer.{rest_of};
 ghost use Rattle.wf_codec.specs.Message.{view};
-ghost use Rattle.wf_wire.specs.Offer.{AreOffered, IsPutOr};
-ghost use Rattle.wf_wire.specs.ToPeer.{AreReturned, IsGreetingOf, IsSentAs, put_into};
+ghost use Rattle.wf_peer.specs.Greeting.{greeting_bytes};
+ghost use Rattle.wf_sockets.specs.Moved.{IsWithin, moved};
+ghost use Rattle.wf_wire.specs.Offer.{AreOffered, AreTallied, IsPutOr};
+ghost use Rattle.wf_wire.specs.Sending.{HasStillToSend};
+ghost use Rattle.wf_wire.specs.ToPeer.{AreReturned, IsGreetingOf, IsOpenedAs, IsSentAs, put_into, waiting_for};
 
 use crate::post::Post;
 use crate::to_peer::ToPeer;
@@ -30,9 +33,14 @@ pub struct PostCount {
 impl<C: Connection + Drop> ToPeer<C> {
     /// A connection on which nothing was sent, and the greeting that is sent first. None: an
     /// allocation failed, or no peer would take that greeting.
-    #[tactic(auto, using(crate::proofs::Sent::sent_nothing, crate::proofs::Sent::returned_nothing))]
+    #[tactic(auto, using(crate::proofs::Sent::sent_nothing, crate::proofs::Sent::returned_nothing, crate::proofs::Sent::all_left))]
     pub fn new(alloc: Global, connection: C, greeting: &Greeting) -> Option<Self>
         requires { C.sent connection ≡ [] }
+        ensures greeting { IfSome result (λ to. to.greeting.bytes ≡ greeting_bytes greeting.now) }
+        ensures rest { IfSome result (λ to.
+            rest_of to.greeting ≡ greeting_bytes greeting.now) }
+        ensures connection { IfSome result (λ to. to.connection ≡ connection) }
+        ensures closed { IfSome result (λ to. to.outbox ≡ None) }
     {
         match outgoing_of(alloc, greeting) {
             Some(greeting) => Some(ToPeer {
@@ -49,37 +57,62 @@ impl<C: Connection + Drop> ToPeer<C> {
     }
 
     /// Whether all of the greeting was sent.
-    pub fn is_greeted(&self) -> bool {
+    #[tactic(auto, using(crate::proofs::Sent::all_greeted))]
+    pub fn is_greeted(&self) -> bool
+        ensures { IsTrue result ↔ (rest_of self.now.greeting ≡ []) }
+    {
         self.greeting.is_taken()
     }
 
     /// Whether messages are sent on it.
-    pub fn is_open(&self) -> bool {
+    pub fn is_open(&self) -> bool
+        ensures { result ≡ is_some self.now.outbox }
+    {
         self.outbox.is_some()
     }
 
     /// From now on messages are sent on it, if all of the greeting was. Returns whether they are.
-    #[tactic(auto, using(crate::proofs::Sent::sent_opened, crate::proofs::Sent::returned_nothing, crate::proofs::Sent::nothing_left))]
-    pub fn open(&mut self, alloc: Global) -> bool {
-        if self.outbox.is_none() && self.greeting.is_taken() {
-            self.posts = Past::new();
-            self.outbox = Some(Outbox::new(alloc, OUTBOX_BYTES));
+    #[tactic(auto, using(crate::proofs::Sent::sent_opened, crate::proofs::Sent::returned_nothing, crate::proofs::Sent::nothing_left, crate::proofs::Sent::new_outbox, crate::proofs::Sent::all_greeted))]
+    pub fn open(&mut self, alloc: Global) -> bool
+        ensures open { IsTrue result ↔ (rest_of self.old.greeting ≡ []) }
+        ensures outbox { IsOpenedAs result self.old.outbox self.new.outbox }
+        ensures now { result ≡ is_some self.new.outbox }
+        ensures posts { is_some self.old.outbox ≡ true →
+            self.new.posts.items ≡ self.old.posts.items }
+        ensures greeting { self.new.greeting ≡ self.old.greeting }
+        ensures connection { self.new.connection ≡ self.old.connection }
+    {
+        if self.outbox.is_some() {
+            return true;
         }
-        self.outbox.is_some()
+        if !self.greeting.is_taken() {
+            return false;
+        }
+        self.posts = Past::new();
+        self.outbox = Some(Outbox::new(alloc, OUTBOX_BYTES));
+        true
     }
 
     /// Puts messages into the outbox, each whole, or drops them, if there is no room or an
     /// allocation fails. Where it isn't open nothing happens.
     #[tactic(auto, using(crate::proofs::Sent::sent_offered, crate::proofs::Sent::returned_more, crate::proofs::Offers::first_still))]
     pub fn post(&mut self, post: &Post) -> PostCount
-        ensures { AreOffered (map view post.now.messages.items) self.old.outbox self.new.outbox }
+        ensures offered { AreOffered (map view post.now.messages.items)
+            self.old.outbox self.new.outbox }
+        ensures tallied { AreTallied result.put result.dropped (map view post.now.messages.items)
+            self.old.outbox self.new.outbox }
+        ensures posts { self.new.posts.items ≡ self.old.posts.items ++ (post.now, 0) ∷ [] }
+        ensures greeting { self.new.greeting ≡ self.old.greeting }
+        ensures connection { self.new.connection ≡ self.old.connection }
     {
         self.posts = self.posts.and(post, &0);
         offer_all(&mut self.outbox, post.messages())
     }
 
     /// How many bytes of messages wait.
-    pub fn remaining(&self) -> usize {
+    pub fn remaining(&self) -> usize
+        ensures { result ≡ length (waiting_for self.now.outbox) }
+    {
         match &self.outbox {
             Some(outbox) => outbox.remaining(),
             None => 0,
@@ -87,8 +120,19 @@ impl<C: Connection + Drop> ToPeer<C> {
     }
 
     /// Writes the rest of the greeting once.
-    #[tactic(auto, using(crate::proofs::Sent::sent_next, crate::proofs::Sent::sent_none, crate::proofs::Sent::same_bytes, crate::proofs::Sent::first_next))]
-    pub fn greet(&mut self) -> Moved {
+    #[tactic(auto, using(crate::proofs::Sent::sent_next, crate::proofs::Sent::sent_none, crate::proofs::Sent::same_bytes, crate::proofs::Sent::first_next, crate::proofs::Sent::greeting_left))]
+    pub fn greet(&mut self) -> Moved
+        ensures sent { C.sent self.new.connection ≡
+            C.sent self.old.connection ++ moved result (rest_of self.old.greeting) }
+        ensures rest { moved result (rest_of self.old.greeting) ++ rest_of self.new.greeting ≡
+            rest_of self.old.greeting }
+        ensures within { IsWithin (length (rest_of self.old.greeting)) result }
+        ensures open { result ≢ Moved.Closed }
+        ensures greeting { self.new.greeting.bytes ≡ self.old.greeting.bytes }
+        ensures outbox { self.new.outbox ≡ self.old.outbox }
+        ensures posts { self.new.posts.items ≡ self.old.posts.items }
+        ensures came { C.came self.new.connection ≡ C.came self.old.connection }
+    {
         match self.connection.write(self.greeting.rest()) {
             Moved::Bytes(count) => {
                 self.greeting.advance(count);
@@ -99,7 +143,19 @@ impl<C: Connection + Drop> ToPeer<C> {
     }
 
     /// Writes what waits once.
-    pub fn send(&mut self) -> Moved {
+    pub fn send(&mut self) -> Moved
+        ensures sent { C.sent self.new.connection ≡
+            C.sent self.old.connection ++ moved result (waiting_for self.old.outbox) }
+        ensures rest { moved result (waiting_for self.old.outbox) ++ waiting_for self.new.outbox ≡
+            waiting_for self.old.outbox }
+        ensures within { IsWithin (length (waiting_for self.old.outbox)) result }
+        ensures open { result ≢ Moved.Closed }
+        ensures put { put_into self.new.outbox ≡ put_into self.old.outbox }
+        ensures outbox { is_some self.new.outbox ≡ is_some self.old.outbox }
+        ensures greeting { self.new.greeting ≡ self.old.greeting }
+        ensures posts { self.new.posts.items ≡ self.old.posts.items }
+        ensures came { C.came self.new.connection ≡ C.came self.old.connection }
+    {
         match &mut self.outbox {
             Some(outbox) => send_from(&mut self.connection, outbox),
             None => Moved::Blocked,
@@ -107,12 +163,22 @@ impl<C: Connection + Drop> ToPeer<C> {
     }
 
     /// Reads once, to the front of a buffer: what the peer replies.
-    pub fn read(&mut self, buf: &mut [u8]) -> Moved {
+    pub fn read(&mut self, buf: &mut [u8]) -> Moved
+        ensures came { C.came self.new.connection ≡
+            C.came self.old.connection ++ moved result buf.new }
+        ensures within { IsWithin (length buf.old) result }
+        ensures sent { C.sent self.new.connection ≡ C.sent self.old.connection }
+        ensures kept { HasStillToSend self.old self.new }
+    {
         self.connection.read(buf)
     }
 
     /// Watches the connection under a token. Returns whether it is watched.
-    pub fn watch<N: Network<Connection = C>>(&mut self, network: &N, token: usize) -> bool {
+    pub fn watch<N: Network<Connection = C>>(&mut self, network: &N, token: usize) -> bool
+        ensures came { C.came self.new.connection ≡ C.came self.old.connection }
+        ensures sent { C.sent self.new.connection ≡ C.sent self.old.connection }
+        ensures kept { HasStillToSend self.old self.new }
+    {
         network.watch(&mut self.connection, token)
     }
 
@@ -134,6 +200,7 @@ impl<C: Connection + Drop> ToPeer<C> {
 /// The bytes of a greeting, to be sent. None: an allocation failed, or no peer would take it.
 fn outgoing_of(alloc: Global, greeting: &Greeting) -> Option<Outgoing>
     ensures greeting { IfSome result (λ outgoing. IsGreetingOf outgoing.bytes) }
+    ensures bytes { IfSome result (λ outgoing. outgoing.bytes ≡ greeting_bytes greeting.now) }
     ensures whole { IfSome result (λ outgoing. outgoing.done ≡ 0) }
 {
     let mut bytes = Vec::new(alloc);
@@ -163,7 +230,9 @@ fn is_greeting(bytes: &[u8]) -> bool
 
 /// Offers messages to an outbox, one after the other.
 fn offer_all(outbox: &mut Option<Outbox>, messages: &[Message]) -> PostCount
-    ensures { AreOffered (map view messages.now) outbox.old outbox.new }
+    ensures offered { AreOffered (map view messages.now) outbox.old outbox.new }
+    ensures tallied { AreTallied result.put result.dropped (map view messages.now)
+        outbox.old outbox.new }
 {
     let mut count = PostCount { put: 0, dropped: 0 };
     for message in messages {
@@ -189,10 +258,17 @@ fn offer(outbox: &mut Option<Outbox>, message: &Message) -> bool
 }
 
 /// Writes once of what waits in an outbox.
+#[tactic(auto, using(crate::proofs::Sent::sent_chunk, crate::proofs::Sent::chunk_front, crate::proofs::Sent::waiting_left))]
 fn send_from<C: Connection>(connection: &mut C, outbox: &mut Outbox) -> Moved
     ensures put { outbox.new.put ≡ outbox.old.put }
     ensures sent { (front : List ℕ) → C.sent connection.old ≡ front ++ outbox.old.written
         → C.sent connection.new ≡ front ++ outbox.new.written }
+    ensures bytes { C.sent connection.new ≡
+        C.sent connection.old ++ moved result outbox.old.waiting }
+    ensures rest { moved result outbox.old.waiting ++ outbox.new.waiting ≡ outbox.old.waiting }
+    ensures within { IsWithin (length outbox.old.waiting) result }
+    ensures open { result ≢ Moved.Closed }
+    ensures came { C.came connection.new ≡ C.came connection.old }
 {
     match connection.write(outbox.chunk()) {
         Moved::Bytes(count) => {

@@ -3,6 +3,10 @@
 use Rattle.std.specs.String.{string_bytes}
 use Rattle.wf_commands.specs.Folder.{AreTakenUpTo}
 use Rattle.wf_commands.proofs.folder.push_tapes.Given as goal
+use Rattle.wf_store.specs.Call.{OnlyReads}
 
 abbrev pub invariant-loop-number : goal.invariant-loop-number
-invariant-loop-number g l = AreTakenUpTo (g.V.Tapes.content l.fn.tapes) l.fn.path l.fn.survey.tapes l.number l.fn.owner l.check (string_bytes l.text)
+invariant-loop-number g l = record {
+  have : AreTakenUpTo l.fn.survey.tapes l.number l.fn.owner l.check (g.S.Store.calls l.fn.store) (g.S.Store.calls l.store) (string_bytes l.text);
+  reads : OnlyReads (g.S.Store.calls l.fn.store) (g.S.Store.calls l.store);
+}

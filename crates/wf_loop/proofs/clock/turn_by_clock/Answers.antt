@@ -1,4 +1,4 @@
-use Rattle.wf_loop.proofs.Continuation.{then_on}
+use Rattle.wf_voter.proofs.Continuation.{then_on}
 use Rattle.wf_loop.proofs.clock.turn_by_clock.Goals as goal
 
 pub returns-clause-on : goal.returns-clause-on

@@ -3,7 +3,7 @@ use Rattle.std.proofs.Common.{◌≡◌, ◌⊎◌, ℕ, subst, sym}
 use Rattle.std.proofs.lemmas.Option.{IfSome_then}
 use Rattle.wf_loop.proofs.greeting.greeting.Goals as goal
 use Rattle.wf_loop.specs.Hub.{IsGreetedWith}
-use Rattle.wf_loop.specs.Reach.{IsHighestVoted}
+use Rattle.wf_voter.specs.Reach.{IsHighestVoted}
 use Rattle.wf_node.specs.Node.{Node, stored_of}
 use Rattle.wf_peer.specs.declared.progress.Progress.{Progress}
 use Rattle.wf_rejoin.specs.Replacements.{known_count}

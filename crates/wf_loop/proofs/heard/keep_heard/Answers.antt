@@ -1,7 +1,7 @@
 -- What was heard is in the file, and the voter knows it; or it may be there.
 use Rattle.std.proofs.Common.{◌∙◌, List, ap, refl, subst, sym}
 use Rattle.std.specs.Prelude.{Option}
-use Rattle.wf_loop.proofs.Continuation.{wrote, wrote_or_not}
+use Rattle.wf_voter.proofs.Continuation.{wrote, wrote_or_not}
 use Rattle.wf_loop.proofs.heard.keep_heard.Goals as goal
 use Rattle.wf_peer.specs.PeerProgressText.{peer_progress_text}
 use Rattle.wf_peer.specs.Told.{HearAll}

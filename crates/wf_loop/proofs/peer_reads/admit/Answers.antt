@@ -1,4 +1,4 @@
-use Rattle.wf_loop.proofs.Continuation.{twice_in}
+use Rattle.wf_voter.proofs.Continuation.{twice_in}
 use Rattle.wf_loop.proofs.peer_reads.admit.Goals as goal
 
 pub returns : goal.returns

@@ -1,4 +1,4 @@
-use Rattle.wf_loop.specs.Continuation.{ContinuesIn}
+use Rattle.wf_voter.specs.Continuation.{ContinuesIn}
 use Rattle.wf_loop.proofs.peer_reads.read_pieces.Given as goal
 
 abbrev pub invariant-loop : goal.invariant-loop

@@ -1,5 +1,5 @@
 use Rattle.std.proofs.Common.{◌≡◌}
-use Rattle.wf_loop.specs.Continuation.{ContinuesIn}
+use Rattle.wf_voter.specs.Continuation.{ContinuesIn}
 use Rattle.wf_loop.proofs.turn.act_on_those.Given as goal
 
 abbrev pub invariant-loop-token : goal.invariant-loop-token

@@ -1,4 +1,4 @@
-use Rattle.wf_loop.specs.Continuation.{Continues}
+use Rattle.wf_voter.specs.Continuation.{Continues}
 use Rattle.wf_loop.proofs.turn.handle_all_own.Given as goal
 
 abbrev pub invariant-loop : goal.invariant-loop

@@ -1,7 +1,7 @@
 use Rattle.std.proofs.Common.{◌∙◌, ap}
-use Rattle.wf_loop.proofs.Continuation.{then_on}
+use Rattle.wf_voter.proofs.Continuation.{then_on}
 use Rattle.wf_loop.proofs.turn.serve_all.Goals as goal
-use Rattle.wf_mesh.specs.declared.membership.Membership.{Membership}
+use Rattle.wf_membership.specs.declared.membership.Membership.{Membership}
 
 pub returns-clause-on : goal.returns-clause-on
 returns-clause-on g c = then_on g.T.Tape _ _ _ _ _ (then_on g.T.Tape _ _ _ _ _ c.act_on_all.ensures.on c.handle_all_own.ensures) c.serve_clients.ensures.on

@@ -1,5 +1,5 @@
 use Rattle.std.proofs.Common.{◌≡◌, true}
-use Rattle.wf_loop.specs.Continuation.{Continues}
+use Rattle.wf_voter.specs.Continuation.{Continues}
 use Rattle.wf_loop.proofs.turn.serve_clients.Given as goal
 
 abbrev pub invariant-loop : goal.invariant-loop

@@ -1,5 +1,4 @@
-use Rattle.std.proofs.Common.{◌≡◌, [], ◌∙◌, ◌≤◌, length, rules, sym, append-nil}
-use Rattle.std.proofs.lemmas.Bool.Decides.{nat_tests}
+use Rattle.std.proofs.Common.{◌≡◌, [], ◌∙◌, ◌≤◌, length, rules, append-nil}
 use Rattle.wf_wire.proofs.Sent.{whole_greeting}
 use Rattle.wf_wire.proofs.sending.is_greeting.Goals as goal
 

@@ -1,5 +1,5 @@
 use Rattle.std.proofs.Common.{◌∙◌}
-use Rattle.wf_loop.proofs.Continuation.{twice_in}
+use Rattle.wf_voter.proofs.Continuation.{twice_in}
 use Rattle.wf_loop.proofs.hub.Hub.act.Goals as goal
 
 pub returns-clause-on : goal.returns-clause-on

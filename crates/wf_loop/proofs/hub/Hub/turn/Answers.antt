@@ -1,9 +1,9 @@
 use Rattle.std.proofs.Common.{ap, ◌∙◌}
-use Rattle.wf_loop.proofs.Continuation.{keeps_going, turned, turned_asked, turned_heard, turned_learning, turned_learnt, turned_membership, turned_suspended, turned_unanswered}
+use Rattle.wf_voter.proofs.Continuation.{keeps_going, turned, turned_asked, turned_heard, turned_learning, turned_learnt, turned_membership, turned_suspended, turned_unanswered}
 use Rattle.wf_loop.proofs.hub.Hub.turn.Goals as goal
-use Rattle.wf_loop.specs.declared.clients.Clients.{Clients}
-use Rattle.wf_loop.specs.declared.hub.Voter.{Voter}
-use Rattle.wf_mesh.specs.declared.membership.Membership.{Membership}
+use Rattle.wf_voter.specs.declared.clients.Clients.{Clients}
+use Rattle.wf_voter.specs.declared.voter.Voter.{Voter}
+use Rattle.wf_membership.specs.declared.membership.Membership.{Membership}
 
 pub returns-clause-on : goal.returns-clause-on
 returns-clause-on g c = turned g.T.Tape _ _ c.args.self.now.voter _ _ _ c.judge.ensures.process c.act_unless-self.ensures.on c.keep.ensures.voter
@@ -31,7 +31,7 @@ returns-clause-membership g c = turned_membership g.T.Tape _ _ c.args.self.now.v
 pub returns-clause-joins : goal.returns-clause-joins
 returns-clause-joins g c = λ is. record {
   joins = ap (λ (m : Membership). m.joins) (returns-clause-membership g c) ∙ is;
-  given = turned_learnt g.T.Tape _ _ c.args.self.now.voter _ _ _ c.judge.ensures.process c.judge.ensures.membership c.act_unless-self.ensures.on c.keep.ensures.voter is;
+  learnt = turned_learnt g.T.Tape _ _ c.args.self.now.voter _ _ _ c.judge.ensures.process c.judge.ensures.membership c.act_unless-self.ensures.on c.keep.ensures.voter is;
   answered =
       turned_learning g.T.Tape c.args.self.now.voter.membership _ _ _ _ _ c.judge.ensures.befores c.judge.ensures.membership c.act_unless-self.ensures.joins
       (ap (λ (served : Clients _ _ _ _ g.T.Tape _). served.before.items) c.keep.ensures.clients) is;

@@ -1,4 +1,4 @@
-use Rattle.std.proofs.Common.{◌≡◌, ◌∙◌, ◌≤◌, ◌-◌, length, refl, sym, rules, arith}
+use Rattle.std.proofs.Common.{◌∙◌, refl, sym, rules}
 use Rattle.wf_wire.proofs.Arrival.{greeting_came, now_said, said_now}
 use Rattle.wf_wire.proofs.from_peer.FromPeer.receive_greeting.Goals as goal
 
@@ -13,5 +13,6 @@ invariant_of-self-in-Ok-decode g c =
       taken_in = greeting_came _ _ _ _ _ _ _ _ _ c.requires.whole (self.unread c.requires.unsaid) read self.taken_in;
       is_said = said_now c.in-Ok-decode.said _ _ refl c.in-Ok-decode.ensures.greeting whole;
       unread = λ s. self.unread c.requires.unsaid;
+      unbroken = self.unbroken;
       waiting = self.waiting;
     }

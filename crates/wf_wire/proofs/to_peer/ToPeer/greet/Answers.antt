@@ -1,6 +1,5 @@
-use Rattle.std.proofs.Common.{◌≡◌, ◌∙◌, ◌<◌, ◌≤◌, ◌++◌, List, ℕ, ap, length, rules, subst, sym, take}
-use Rattle.wf_client.specs.ResponseBuffer.{rest_of}
-use Rattle.wf_sockets.specs.Moved.{IsWithin, moved}
+use Rattle.std.proofs.Common.{◌∙◌, ◌≤◌, ◌++◌, List, ℕ, ap, length, subst, sym, take}
+use Rattle.wf_sockets.specs.Moved.{IsWithin}
 use Rattle.wf_sockets.specs.declared.moved.Moved.{Moved}
 use Rattle.wf_wire.specs.ToPeer.{IsGreetingOf, written_of}
 use Rattle.wf_wire.proofs.Sent.{first_next, same_bytes, sent_next}

@@ -9,7 +9,7 @@ use Rattle.wf_wire.proofs.to_peer.ToPeer.post.Goals as goal
 pub invariant_of-self : goal.invariant_of-self
 invariant_of-self g c =
     let self = c.args.self.now in
-    let offered = subst (λ (l : List code.Message). AreOffered (map view l) self.outbox c.offer_all.new.outbox) c.messages.ensures c.offer_all.ensures in
+    let offered = subst (λ (l : List code.Message). AreOffered (map view l) self.outbox c.offer_all.new.outbox) c.messages.ensures c.offer_all.ensures.offered in
     record {
       greets = self.greets;
       sent = sent_offered (g.C.Connection.sent self.connection) self.greeting _ self.outbox c.offer_all.new.outbox offered self.sent;

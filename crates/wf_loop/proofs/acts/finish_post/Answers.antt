@@ -1,6 +1,0 @@
-use Rattle.std.proofs.Common.{refl}
-use Rattle.wf_loop.proofs.Continuation.{post_finished}
-use Rattle.wf_loop.proofs.acts.finish_post.Goals as goal
-
-pub returns : goal.returns
-returns g c = post_finished g.T.Tape _ _ _ refl refl refl refl c.finish_post.ensures

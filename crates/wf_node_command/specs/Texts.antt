@@ -1,0 +1,29 @@
+-- What a file of a folder has, by the folder's calls.
+use Rattle.std.specs.Prelude.{ℕ, Bool, true, false, List, [], ◌∷◌, Option, None, if◌then◌else◌}
+use Rattle.wf_store.specs.Call.{Call}
+use Rattle.wf_store.specs.declared.deed.Deed.{Deed}
+use Rattle.wf_store.specs.declared.deed.Deed.TheVariants as deeds
+use Rattle.wf_store.specs.declared.file_name.FileName.{FileName}
+use Rattle.wf_store.specs.declared.file_name.FileName.TheVariants as names
+
+abbrev pub is_farm : FileName → Bool
+is_farm names.Farm = true
+is_farm file = false
+
+abbrev pub is_replaced : FileName → Bool
+is_replaced names.Replaced = true
+is_replaced file = false
+
+abbrev pub is_joins : FileName → Bool
+is_joins names.Joins = true
+is_joins file = false
+
+-- what was read of such a file last, or what it got by a call that succeeded
+abbrev pub text_by : (FileName → Bool) → Deed → (bytes earlier : Option (List ℕ)) → Option (List ℕ)
+text_by is (deeds.Reads file) bytes earlier = if is file then bytes else earlier
+text_by is (deeds.Replaces file) bytes earlier = if is file then bytes else earlier
+text_by is deed bytes earlier = earlier
+
+abbrev pub text_in : (FileName → Bool) → List Call → Option (List ℕ)
+text_in is [] = None
+text_in is (call ∷ earlier) = text_by is call.deed call.bytes (text_in is earlier)

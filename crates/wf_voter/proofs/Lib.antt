@@ -1,0 +1,4 @@
+mod Answered
+pub mod Continuation
+mod Learnt
+mod Reached

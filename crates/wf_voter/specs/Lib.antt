@@ -1,0 +1,5 @@
+pub mod Answer
+pub mod Continuation
+pub mod Folder
+pub mod Lived
+pub mod Reach

@@ -1,0 +1,145 @@
+//! A node whose tape has failed opens it again, as the node that it was.
+ghost use Rattle.std.specs.Prelude.{◌≡◌, ◌+◌, IfOk, OnErr, OnOk};
+ghost use Rattle.wf_voter.specs.Folder.{IsHeardPut, Stand, counted};
+
+use std::fmt;
+use std::io::ErrorKind;
+use thiserror::Error;
+use wf_actor::{Process, ReopenFault};
+use wf_digest::Digests;
+use wf_folder::{Reach, Suspension};
+use wf_membership::FolderError;
+use wf_rejoin::JoinStep;
+use wf_store::FileName;
+use wf_tape::Tape;
+use wf_visitors::{Level, LogEntry};
+
+/// Why the tape of a halted node isn't opened again.
+#[derive(Clone, Copy, Debug, Error)]
+pub enum NotReopened {
+    /// The folder, or a file of it, can't be read.
+    #[error("{0}")]
+    Folder(FolderError),
+    /// The file `farm` isn't the one that this process wrote last.
+    #[error("it isn't the one that this process wrote")]
+    OtherFarm,
+    /// There is no tape.
+    #[error("tape missing")]
+    NoTape,
+    /// A node doesn't open on the tape, or it isn't this one.
+    #[error("{0}")]
+    Tape(ReopenFault),
+    /// The start can't be counted in the file `farm`.
+    #[error("the start can't be counted: {0}")]
+    Uncounted(ErrorKind),
+    /// The file `farm` counts no further start.
+    #[error("no further start can be counted")]
+    NoFurtherStart,
+    /// An allocation failed.
+    #[error("out of memory")]
+    Memory,
+}
+
+impl NotReopened {
+    /// The file that is the cause, where the node's tape is this one. None: it is the folder
+    /// itself.
+    fn file(&self, tape: FileName) -> Option<FileName> {
+        match self {
+            NotReopened::Folder(error) => error.file(),
+            NotReopened::OtherFarm | NotReopened::Uncounted(_) | NotReopened::NoFurtherStart => {
+                Some(FileName::Farm)
+            }
+            NotReopened::NoTape | NotReopened::Tape(_) | NotReopened::Memory => Some(tape),
+        }
+    }
+}
+
+/// The folder of a node, which its process has locked.
+pub trait NodeFolder<T> {
+    /// How many starts the file `farm` counts, as this process wrote it last, the calls of the
+    /// folder before the node ran, and what the file `heard` has.
+    ghost stands: { Self → Stand };
+
+    /// Opens the node's tape, if the folder at its path is the one that is locked, and its file
+    /// `farm` the one that this process wrote last. No file is made: a tape that is absent is an
+    /// error.
+    fn open(&mut self) -> Result<T, NotReopened>
+        ensures { stands self.new ≡ stands self.old };
+
+    /// Counts one start more in the file `farm`, synced. Ok is their number. After an error the
+    /// file may count it or not; the next call counts the same start.
+    fn count_start(&mut self) -> Result<u32, NotReopened>
+        ensures number { IfOk result (λ number. number ≡ (stands self.old).starts + 1) }
+        ensures counted { OnOk result (stands self.new ≡ counted (stands self.old)) }
+        ensures same { OnErr result (stands self.new ≡ stands self.old) };
+
+    /// Raises in the file `farm` how far the node is known to have been, with the digest of its
+    /// history up to its last published sequence, if that is more than the file has: synced, with
+    /// the folder.
+    fn keep(&mut self, reach: &Reach, digest: [u8; 32]) -> Result<(), FolderError>
+        ensures { stands self.new ≡ stands self.old };
+
+    /// Writes into the file `farm` that a peer has suspended the node: synced, with the folder.
+    fn suspend(&mut self, suspension: Suspension) -> Result<(), FolderError>
+        ensures { stands self.new ≡ stands self.old };
+
+    /// Puts a text in the place of the file `heard`, what was heard of the peers: synced, with the
+    /// folder, if the folder at its path is the one that is locked. After an error the text from
+    /// before or this one is there.
+    fn keep_heard(&mut self, text: Vec<u8>) -> Result<(), FolderError>
+        ensures { IsHeardPut result text.items (stands self.old) (stands self.new) };
+
+    /// Puts a text in the place of the file `replaced`, what is known of replacements: synced, with
+    /// the folder, if the folder at its path is the one that is locked. After an error the text
+    /// from before or this one is there.
+    fn keep_replaced(&mut self, text: Vec<u8>) -> Result<(), FolderError>
+        ensures { stands self.new ≡ stands self.old };
+
+    /// Puts in the place of the file `joins` what it says once the folder, which joins, was told
+    /// this: synced, with the folder, if the folder at its path is the one that is locked. After an
+    /// error the text from before or this one is there. What doesn't count after what the file says
+    /// was written before, or never counts: the file stays as it is.
+    fn keep_joining(&mut self, step: &JoinStep) -> Result<(), FolderError>
+        ensures { stands self.new ≡ stands self.old };
+
+    /// Puts an empty text in the place of the file `joins`, synced, with the folder: the folder has
+    /// joined, and votes from its next start on. An error is also that it may not, by what its
+    /// files `joins` and `farm` say, or that the folder at its path isn't the one that is locked.
+    /// After an error the text from before or none is there.
+    fn finish_joining(&mut self) -> Result<(), FolderError>
+        ensures { stands self.new ≡ stands self.old };
+}
+
+/// A process that goes on for one whose tape has failed, with the digests of no history yet, and
+/// the number of its start.
+#[derive(Drop)]
+pub struct NextRun<T: Tape> {
+    pub process: Process<T>,
+    pub digests: Digests,
+    pub starts: u32,
+}
+
+/// The tape of a halted node wasn't opened again: the path of its folder, the name of its tape, and
+/// why.
+#[derive(Clone, Copy)]
+pub struct TapeNotReopened<'a> {
+    pub folder: &'a str,
+    pub tape: FileName,
+    pub why: NotReopened,
+}
+
+impl<'a> LogEntry for TapeNotReopened<'a> {
+    fn level(&self) -> Level {
+        Level::Error
+    }
+}
+
+impl<'a> fmt::Display for TapeNotReopened<'a> {
+    fn fmt<W: fmt::Write>(&self, f: &mut fmt::Formatter<W>) -> fmt::Result {
+        let TapeNotReopened { folder, tape, why } = self;
+        match why.file(*tape) {
+            None => write!(f, "tape-not-reopened file={folder} why=\"{why}\""),
+            Some(file) => write!(f, "tape-not-reopened file={folder}/{file} why=\"{why}\""),
+        }
+    }
+}
