@@ -5,7 +5,7 @@
     python3 tools/columns.py --check     whether there are more than the numbers below
 
 Looked at are `//`, `///` and `//!` in sources, `--` in definitions and proofs, and lines that begin with
-`requires` or `ensures`. Blocks of code and tables within comments count: not all of them can be wrapped.
+`requires` or `ensures`. Blocks of code and tables within comments count.
 """
 
 import collections
@@ -17,8 +17,8 @@ from farmkit.repository import TOP
 
 WIDE = 100
 KINDS = {"comments": re.compile(r"\s*(?://|--)"), "clauses": re.compile(r"\s*(?:requires|ensures)\b")}
-# what is left: tables within comments, and clauses that nobody has broken yet
-MOST = {"comments": 60, "clauses": 272}
+# what is left: clauses that nobody has broken yet
+MOST = {"comments": 0, "clauses": 4}
 
 
 def main() -> int:

@@ -141,7 +141,8 @@ impl Acceptor {
     /// can fail only for a Promise.
     pub fn on_prepare(&mut self, slot: Slot, ballot: Ballot) -> Result<AcceptorAnswer, AllocError>
         requires { self.old.part.published < slot }
-        ensures transition { IfOk result (AnswersAlways self.old.part (prepare_transition self.old.part slot ballot)) }
+        ensures transition { IfOk result
+            (AnswersAlways self.old.part (prepare_transition self.old.part slot ballot)) }
         ensures part { self.new.part ≡ self.old.part }
         ensures room { IfOk result (λ answer. IfSome answer.entry (HasRoomFor self.new)) }
         ensures none_set_aside { OnOk result (self.new.prepared ≡ None) }
@@ -283,7 +284,8 @@ impl Acceptor {
         published: Option<Slot>,
         but: Option<Slot>,
     ) -> bool
-        ensures { IsTrue result → Agrees promise (unwrap_or published 0) but other.now.part self.now.part }
+        ensures { IsTrue result →
+            Agrees promise (unwrap_or published 0) but other.now.part self.now.part }
     {
         self.id == other.id
             && self.promise == promise

@@ -32,7 +32,8 @@ fn has_all(votes: &OpenVotes, others: &OpenVotes, but: &Option<Slot>) -> bool
 
 /// Whether the vote at the slot is this one, unless it is the slot that doesn't count.
 fn is_among(votes: &OpenVotes, slot: Slot, vote: &(Ballot, Canon), but: &Option<Slot>) -> bool
-    ensures { IsTrue result → (but.now ≡ Some slot → ⊥) → map.get votes.now.by_slot slot ≡ Some vote.now }
+    ensures { IsTrue result → (but.now ≡ Some slot → ⊥) →
+        map.get votes.now.by_slot slot ≡ Some vote.now }
 {
     if *but == Some(slot) {
         return true;

@@ -3,7 +3,7 @@ use Rattle.std.proofs.Common.{◌≡◌, ℕ, ◌≤◌, Bool, true, false, List
 use Rattle.std.proofs.Math.Logic.{∥∥₁_map₂}
 use Rattle.std.specs.declared.alloc.Global.{Global}
 use Rattle.wf_codec.specs.declared.message.Message as code
-use Rattle.wf_mail.specs.Mail.{IsBeginning}
+use Rattle.wf_mail.specs.Mail.{IsFirstPart}
 use Rattle.wf_model.specs.Chosen.{IsIn}
 use Rattle.wf_wire.specs.Post.{AreAmong, logged}
 use Rattle.wf_wire.specs.declared.post.Post.{Post}

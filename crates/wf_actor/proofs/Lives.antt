@@ -17,7 +17,7 @@ use Rattle.wf_node.specs.OpenedNode.{IsRead}
 use Rattle.wf_node.specs.Step.{IsTransition, IsSameNode, transition_of}
 use Rattle.wf_node.specs.declared.fault.NodeFault.{NodeFault}
 use Rattle.wf_tape.specs.declared.tape.Tape.{Ghosts as Tape}
-use Rattle.wf_actor.specs.Life.{all_from, delivered, AreOwnAmong, AreOwnReceived, IsLife, IsOpenedFrom}
+use Rattle.wf_actor.specs.Life.{all_from, delivered, AreOwnAmong, AreOwnReceived, IsLife, IsOpenedFromLog}
 use Rattle.wf_wire.specs.Post.{logged}
 use Rattle.wf_actor.specs.declared.actor.Origin.{Origin}
 use Rattle.wf_actor.specs.declared.actor.Origin.TheVariants.{Own}
@@ -61,7 +61,7 @@ module _ {T : Type 0} (tapes : Tape T) where
 
   -- what opening promises, of a tape that was logged before it
   pub opened_from : (tape : T) (i n : ℕ) (node : Node T) (start read_from : List (T × ℕ)) → start ≡ [] → read_from ≡ start ++ (tape, 0) ∷ [] → node.id ≡ i → node.n ≡ n → node.halted ≡ false →
-      volatile_of node ≡ at_start → IsRead tapes.durable (tapes.content tape) (stored_of node) → IsOpenedFrom tapes read_from node
+      volatile_of node ≡ at_start → IsRead tapes.durable (tapes.content tape) (stored_of node) → IsOpenedFromLog tapes read_from node
   opened_from tape i n node start read_from none logs own among runs idle found = record {
     tape = tape;
     only = logs ∙ ap (λ (l : List (T × ℕ)). l ++ (tape, 0) ∷ []) none;
@@ -72,7 +72,7 @@ module _ {T : Type 0} (tapes : Tape T) where
     };
   }
 
-  pub life_begins : (node : Node T) (read_from : List (T × ℕ)) (began : List (Node T × ℕ)) (given : List (Message × Origin)) (emitted : List Message) → IsOpenedFrom tapes read_from node →
+  pub life_begins : (node : Node T) (read_from : List (T × ℕ)) (began : List (Node T × ℕ)) (given : List (Message × Origin)) (emitted : List Message) → IsOpenedFromLog tapes read_from node →
       began ≡ (node, 0) ∷ [] → given ≡ [] → emitted ≡ [] → IsLife tapes read_from began given emitted node
   unfolding last_of outputs delivered AreOwnReceived
   life_begins node read_from began given emitted opened first no_given no_reported = record {
@@ -89,11 +89,11 @@ module _ {T : Type 0} (tapes : Tape T) where
     received = tt;
   }
 
-  pub life_opens : (node here : Node T) (read_from : List (T × ℕ)) (start began : List (Node T × ℕ)) (given : List (Message × Origin)) (log : List (Vec Message Global × ℕ)) → IsOpenedFrom tapes read_from node → here ≡ node →
+  pub life_opens : (node here : Node T) (read_from : List (T × ℕ)) (start began : List (Node T × ℕ)) (given : List (Message × Origin)) (log : List (Vec Message Global × ℕ)) → IsOpenedFromLog tapes read_from node → here ≡ node →
       start ≡ [] → began ≡ start ++ (node, 0) ∷ [] → given ≡ [] → log ≡ [] → IsLife tapes read_from began given (logged log) here
   life_opens node here read_from start began given log opened same none first no_given no_log =
       life_begins here read_from began given (logged log)
-      (subst (λ (x : Node T). IsOpenedFrom tapes read_from x) (sym same) opened)
+      (subst (λ (x : Node T). IsOpenedFromLog tapes read_from x) (sym same) opened)
       (first ∙ ap (λ (l : List (Node T × ℕ)). l ++ (node, 0) ∷ []) none ∙ ap (λ (x : Node T). (x, 0) ∷ []) (sym same)) no_given (logged_none log no_log)
 
   -- ---- it goes on

@@ -8,7 +8,7 @@ use Rattle.std.specs.declared.alloc.Global.{Global}
 use Rattle.wf_career.specs.Theorems.{OneHistory}
 use Rattle.wf_def.specs.Definition.{Definition}
 use Rattle.wf_edge.specs.Theorem.{AnswerAlike, EqualRequestsHaveEqualResponses, are_asked_alike, stand_alike}
-use Rattle.wf_mail.specs.Mail.{IsBeginning}
+use Rattle.wf_mail.specs.Mail.{IsFirstPart}
 use Rattle.wf_learner.specs.History.{map_at}
 use Rattle.wf_model.specs.DurableState.{definition_at}
 use Rattle.wf_tape.specs.declared.tape.Tape.{Ghosts as Tape}
@@ -59,7 +59,7 @@ at_front [] ys k less = absurd (omega (arith, less))
 at_front (x ∷ xs) ys zero less = refl
 at_front (x ∷ xs) ys (suc k) less = at_front xs ys k (omega (arith, less))
 
-module _ (history xs ys : List Definition) (first : IsBeginning xs history) (second : IsBeginning ys history) where
+module _ (history xs ys : List Definition) (first : IsFirstPart xs history) (second : IsFirstPart ys history) where
   same_list : length ys ≡ length xs → xs ≡ ys
   same_list long =
       sym (front xs first.0) ∙ ap (λ l. take (length xs) l) (first.1 ∙ sym second.1)

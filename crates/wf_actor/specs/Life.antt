@@ -1,7 +1,7 @@
 -- The life of a node in a process: its acts since it was opened, and where its inputs came from.
 use Rattle.std.specs.Prelude.{◌≡◌, ℕ, ⊤, List, [], ◌∷◌, ◌++◌, map}
 use Rattle.wf_codec.specs.declared.message.Message.{Message}
-use Rattle.wf_career.specs.Run.{Act, Run, AreDone, IsOpened, given_to, last, outputs}
+use Rattle.wf_career.specs.Run.{Act, Run, AreDone, IsOpenedFromTape, given_to, last, outputs}
 use Rattle.wf_model.specs.Chosen.{IsIn}
 use Rattle.wf_node.specs.Node.{Node}
 use Rattle.wf_tape.specs.declared.tape.Tape.{Ghosts as Tape}
@@ -34,10 +34,10 @@ AreOwnReceived emitted (act ∷ acts) (origin ∷ origins) = AreOwnAmong emitted
 module _ {T : Type 0} (tapes : Tape T) where
   -- The node was opened from the tape that the log has, and from no other: from what was read of
   -- it, which is its content if it is durable.
-  pub record IsOpenedFrom (read_from : List (T × ℕ)) (node : Node T) : Type 0 where
+  pub record IsOpenedFromLog (read_from : List (T × ℕ)) (node : Node T) : Type 0 where
     pub tape : T
     pub only : read_from ≡ (tape, 0) ∷ []
-    pub opened : IsOpened tapes node.n node.id tape node
+    pub opened : IsOpenedFromTape tapes node.n node.id tape node
 
   -- A node that was opened from the tape that `read_from` has, as the node that `began` has, is
   -- this one by now, by the acts of a run of `wf_career`. By them it was given exactly these
@@ -46,7 +46,7 @@ module _ {T : Type 0} (tapes : Tape T) where
   pub record IsLife (read_from : List (T × ℕ)) (began : List (Node T × ℕ)) (given : List (Message × Origin)) (emitted : List Message) (node : Node T) : Type 0 where
     pub run : Run T
     pub origins : List Origin
-    pub opened : IsOpenedFrom read_from run.first
+    pub opened : IsOpenedFromLog read_from run.first
     pub number : node.id ≡ run.first.id
     pub among : node.n ≡ run.first.n
     pub done : AreDone tapes run.first run.acts

@@ -3,7 +3,7 @@ use Rattle.std.specs.Prelude.{◌≡◌, ◌⊎◌, ℕ, ⊤, List, [], ◌∷�
 use Rattle.std.specs.declared.alloc.Global.{Global}
 use Rattle.wf_codec.specs.Message.{view}
 use Rattle.wf_codec.specs.declared.message.Message.{Message}
-use Rattle.wf_mail.specs.Mail.{IsBeginning}
+use Rattle.wf_mail.specs.Mail.{IsFirstPart}
 use Rattle.wf_mail.specs.Receiver.{ReceiverState}
 use Rattle.wf_model.specs.Chosen.{IsIn}
 use Rattle.wf_past.specs.declared.past.Past.{Past}
@@ -36,7 +36,7 @@ AreQueued (m ∷ messages) target emitted before after =
 
 -- each post was made when the node had returned the first of these
 unfoldable pub AreMadeOf : List Post → List Message → Type 0
-AreMadeOf posts emitted = (post : Post) → IsIn post posts → IsBeginning (logged post.returned.items) emitted
+AreMadeOf posts emitted = (post : Post) → IsIn post posts → IsFirstPart (logged post.returned.items) emitted
 
 -- What waits for the node itself, and what is in posts that wait, the node returned.
 pub record AreSent (waiting : List Message) (posts : List Post) (emitted : List Message) : Type 0 where

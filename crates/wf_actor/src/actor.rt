@@ -42,7 +42,7 @@ pub struct Actor<T: Tape> {
 
 impl<T: Tape> Actor<T> {
     ghost use Rattle.std.specs.Prelude.{◌++◌, ◌<◌, ◌≤◌, ◌≢◌, false, List, IfOk, IfErr};
-    ghost use Rattle.wf_actor.specs.Life.{all_from, AreOwnAmong, IsOpenedFrom};
+    ghost use Rattle.wf_actor.specs.Life.{all_from, AreOwnAmong, IsOpenedFromLog};
     ghost use Rattle.wf_actor.specs.Sent.{AreCome};
     ghost use Rattle.wf_actor.specs.Start.{IsOpened};
     ghost use Rattle.wf_def.specs.Definition.{Definition};
@@ -115,7 +115,7 @@ impl<T: Tape> Actor<T> {
 
     /// The life of a node that was just opened, from the tape that the log has.
     fn begin(node: Node<T>, read_from: Past<T, usize>, cache: Cache) -> Actor<T>
-        requires opened { IsOpenedFrom T.Tape read_from.items node }
+        requires opened { IsOpenedFromLog T.Tape read_from.items node }
         requires cache { (history : List Definition) → AllCached history cache }
         ensures node { result.node ≡ node }
         ensures read_from { result.read_from.items ≡ read_from.items }

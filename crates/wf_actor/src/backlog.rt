@@ -39,7 +39,8 @@ impl<M: Drop> Backlog<M> {
 
     /// Appends the message; one for which there is no room is dropped.
     pub(crate) fn push(&mut self, message: M)
-        ensures { self.new.messages.items ≡ take most_messages (self.old.messages.items ++ message ∷ []) }
+        ensures { self.new.messages.items ≡
+            take most_messages (self.old.messages.items ++ message ∷ []) }
     {
         if self.messages.len() < BACKLOG_MESSAGES {
             // There is room, so nothing fails.

@@ -84,8 +84,10 @@ impl<T: Tape> CachedNode<T> {
         ensures moves { MovesOnce T.Tape self.old result.messages self.new }
         ensures takes { TakesRequest
             (S.piece source.old) (S.left source.old) (S.left source.new) }
-        ensures reads { CountsReceiving result.outcome (S.failures source.old) (S.failures source.new) }
-        ensures writes { CountsCompleting result.outcome (K.failures sink.old) (K.failures sink.new) }
+        ensures reads { CountsReceiving result.outcome (S.failures source.old)
+            (S.failures source.new) }
+        ensures writes { CountsCompleting result.outcome (K.failures sink.old)
+            (K.failures sink.new) }
         ensures last { IsEnding T.Tape K.Sink (S.left source.old) sink.old sink.new
             self.old result.messages self.new result.outcome }
     {

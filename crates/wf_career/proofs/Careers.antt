@@ -13,7 +13,7 @@ use Rattle.wf_node.specs.Step.{transition_of, stored_next}
 use Rattle.wf_delivery.specs.Delivery.{IsNodeBy, ShowsNode, AnyPart}
 use Rattle.wf_tape.specs.declared.tape.Tape.{Ghosts as Tape}
 use Rattle.wf_career.specs.Run.{Input, Act, Run, last_of, last, End, Between, Within, Failed, FailedAt, HasLeft, AreDone, IsRun}
-use Rattle.wf_career.specs.Career.{Ended, IsEnded, AreRuns, values_after, values_of, Item, items_by, items_at, items_in}
+use Rattle.wf_career.specs.Career.{Ended, IsRunEnded, AreRuns, values_after, values_of, Item, items_by, items_at, items_in}
 use Rattle.wf_career.proofs.Lists.{Grow}
 use Rattle.wf_career.proofs.Lives.{running, down, shown_by, shown, shown_running, shown_halted, Reachable, reachable_nowhere, reachable_both, reachable_stopped, reachable_restarted, reachable_unchanged, reachable_cut, takes_grown, last_id, AreKept, kept_before, kept_after, failed_last, acts_reachable}
 
@@ -185,7 +185,7 @@ module _ {T : Type 0} (tapes : Tape T) (n i : ℕ) where
 
   -- one run before the others
   one_more : (bytes : List ℕ) (stored : DurableState Definition) (from : List Definition) (ended : Ended T) (later : List (Ended T)) (now : Option (Run T)) → StandOnlyFor stored bytes → IsGrown from stored.history →
-      (is : IsEnded tapes n i bytes ended) (so : Finishes n i stored ended.run ended.end ended.left) → Runs n i so.next (last ended.run).parts.history later now → Runs n i stored from (ended ∷ later) now
+      (is : IsRunEnded tapes n i bytes ended) (so : Finishes n i stored ended.run ended.end ended.left) → Runs n i so.next (last ended.run).parts.history later now → Runs n i stored from (ended ∷ later) now
   unfolding items_in values_of
   one_more bytes stored from ended later now known grown is so rest =
       let same : stored ≡ stored_of ended.run.first = sym (known (stored_of ended.run.first) is.run.opened.stored) in

@@ -18,11 +18,11 @@ use Rattle.wf_node.specs.Node.{Node}
 use Rattle.wf_delivery.specs.Delivery.{AnyPart, ShowsNode}
 use Rattle.wf_tape.specs.declared.tape.Tape.{Ghosts as Tape}
 use Rattle.wf_trace.specs.Deed.{new_node, Stops}
-use Rattle.wf_trace.specs.Trace.{Entry, of_process, IsLife, node_at, IsInputOf}
+use Rattle.wf_trace.specs.Trace.{Entry, of_process, IsLifeByEntries, node_at, IsInputOf}
 use Rattle.wf_trace.specs.Order as order
 use Rattle.wf_trace.specs.Order.{seen, AreOf, AreCausal, AreLives, AreOneTrace, LivesAreOneTrace}
 use Rattle.wf_trace.specs.Theorems as trace_theorems
-use Rattle.wf_trace.specs.Theorems.{IsReachable, TraceIsRun, published_at}
+use Rattle.wf_trace.specs.Theorems.{AreNodesReachable, TraceIsRun, published_at}
 use Rattle.wf_career.specs.Run.{Input, Run, last}
 use Rattle.wf_career.specs.Career.{Career, IsCareer, values, Item, items_of, IsOneOf, AreInTurn, IsFarm}
 use Rattle.wf_career.specs.Theorems.{IsHeld, ListsGrow, HasOneHistory, OneHistory, OneDefinition, outputs_in, IsOneRun, FarmIsOneRun}
@@ -138,7 +138,7 @@ module _ {T : Type 0} (one : AreReadOneWay) (none : IsReadAsNone) (tapes : Tape 
     own_by i (inl it) is_member = (reachable_at i it).own
     own_by i (inr beyond) is_member = absurd (none_beyond i is_member beyond)
 
-    life_by : (i : ℕ) (d : (i < n) ⊎ (n ≤ i)) → i < n → IsLife definition_eq n i new_node (entries_by i d) (node_by i d)
+    life_by : (i : ℕ) (d : (i < n) ⊎ (n ≤ i)) → i < n → IsLifeByEntries definition_eq n i new_node (entries_by i d) (node_by i d)
     unfolding entries_by node_by
     life_by i (inl it) is_member = (reachable_at i it).life
     life_by i (inr beyond) is_member = absurd (none_beyond i is_member beyond)
@@ -181,7 +181,7 @@ module _ {T : Type 0} (one : AreReadOneWay) (none : IsReadAsNone) (tapes : Tape 
       one_run : TraceIsRun Definition → IsOneRun n careers items
       one_run runs = record {
         nodes = nodes;
-        reached = subst (IsReachable definition_eq n nodes) (are_one.messages ∙ outputs_model items) (runs definition_eq n are_one.entries nodes are_one.trace);
+        reached = subst (AreNodesReachable definition_eq n nodes) (are_one.messages ∙ outputs_model items) (runs definition_eq n are_one.entries nodes are_one.trace);
         running = λ i run is_member now. runs_by i (cases_lt i n) is_member run now;
         stopped = λ i is_member now. stopped_by i (cases_lt i n) is_member now;
       }
@@ -195,7 +195,7 @@ module _ {T : Type 0} (one : AreReadOneWay) (none : IsReadAsNone) (tapes : Tape 
                 (so.each held.process held.is_member (length (of_process held.process are_one.entries)));
           }
         where
-          node_at_end : (i : ℕ) (before after : world.Node Definition) (entries : List (Entry Definition)) (life : IsLife definition_eq n i before entries after) →
+          node_at_end : (i : ℕ) (before after : world.Node Definition) (entries : List (Entry Definition)) (life : IsLifeByEntries definition_eq n i before entries after) →
               node_at definition_eq n i before entries after life (length entries) ≡ after
           node_at_end i before after [] life = sym life
           node_at_end i before after (entry ∷ entries) life = node_at_end i life.0 after entries life.2

@@ -23,7 +23,7 @@ use Rattle.wf_delivery.specs.NodeInput as giving
 use Rattle.wf_tape.specs.declared.tape.Tape.{Ghosts as Tape}
 use Rattle.wf_trace.specs.Deed.{Deed, Crashes, Stops, Restarts, IsDone}
 use Rattle.wf_trace.specs.Deed as deeds
-use Rattle.wf_trace.specs.Trace.{Entry, IsLife}
+use Rattle.wf_trace.specs.Trace.{Entry, IsLifeByEntries}
 use Rattle.wf_trace.specs.Order as order
 use Rattle.wf_trace.specs.Order.{seen_of, seen, AreOf}
 use Rattle.wf_career.specs.Run.{Input, Act, last_of, FailedAt, IsAct, AreDone}
@@ -66,7 +66,7 @@ model_item item = record { process = item.process; input = view item.takes; outp
 -- Some entries of process i of n lead from the one to the other, and are seen as these items.
 pub record Reachable (n i : ℕ) (before : world.Node Definition) (items : List Item) (after : world.Node Definition) : Type 0 where
   pub entries : List (Entry Definition)
-  pub life : IsLife definition_eq n i before entries after
+  pub life : IsLifeByEntries definition_eq n i before entries after
   pub own : AreOf i entries
   pub as_items : seen entries ≡ map model_item items
 
@@ -86,9 +86,9 @@ module _ (n i : ℕ) where
     as_items = append-nil (seen_of i outputs deed) ∙ seen_as;
   }
 
-  life_both : (x y z : world.Node Definition) (entries more : List (Entry Definition)) → IsLife definition_eq n i x entries y → IsLife definition_eq n i y more z →
-      IsLife definition_eq n i x (entries ++ more) z
-  life_both x y z [] more life later = subst (λ (u : world.Node Definition). IsLife definition_eq n i u more z) life later
+  life_both : (x y z : world.Node Definition) (entries more : List (Entry Definition)) → IsLifeByEntries definition_eq n i x entries y → IsLifeByEntries definition_eq n i y more z →
+      IsLifeByEntries definition_eq n i x (entries ++ more) z
+  life_both x y z [] more life later = subst (λ (u : world.Node Definition). IsLifeByEntries definition_eq n i u more z) life later
   life_both x y z (entry ∷ entries) more life later = (life.0, life.1, life_both life.0 y z entries more life.2 later)
 
   own_both : (entries more : List (Entry Definition)) → AreOf i entries → AreOf i more → AreOf i (entries ++ more)

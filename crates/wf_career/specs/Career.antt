@@ -22,7 +22,7 @@ pub record Career (T : Type 0) : Type 0 where
   pub now : Option (Run T)
 
 module _ {T : Type 0} (tapes : Tape T) (n i : ℕ) where
-  pub record IsEnded (bytes : List ℕ) (ended : Ended T) : Type 0 where
+  pub record IsRunEnded (bytes : List ℕ) (ended : Ended T) : Type 0 where
     pub run : IsRun tapes n i bytes ended.run
     pub left : HasLeft ended.run ended.end ended.left
 
@@ -30,7 +30,7 @@ module _ {T : Type 0} (tapes : Tape T) (n i : ℕ) where
   abbrev pub AreRuns : List ℕ → List (Ended T) → Option (Run T) → Type 0
   AreRuns bytes [] None = ⊤
   AreRuns bytes [] (Some run) = IsRun tapes n i bytes run
-  AreRuns bytes (ended ∷ later) now = IsEnded bytes ended × AreRuns ended.left later now
+  AreRuns bytes (ended ∷ later) now = IsRunEnded bytes ended × AreRuns ended.left later now
 
   -- The process is node i of n, on a tape that was empty at first.
   abbrev pub IsCareer : Career T → Type 0

@@ -88,7 +88,7 @@ HasLeft run (Failed input) bytes = FailedAt run.first run.acts input × StandFor
 module _ {T : Type 0} (tapes : Tape T) where
   -- The node was opened from this tape: from what was read of it, which is its content if it is
   -- durable.
-  pub record IsOpened (n i : ℕ) (tape : T) (node : Node T) : Type 0 where
+  pub record IsOpenedFromTape (n i : ℕ) (tape : T) (node : Node T) : Type 0 where
     pub bytes : List ℕ
     pub opened : IsOpenedFrom n i bytes node
     pub same : tapes.durable → bytes ≡ tapes.content tape

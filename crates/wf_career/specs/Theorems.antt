@@ -10,7 +10,7 @@ use Rattle.wf_model.specs.World as world
 use Rattle.wf_node.specs.Node.{Node}
 use Rattle.wf_delivery.specs.Delivery.{AnyPart, ShowsNode}
 use Rattle.wf_tape.specs.declared.tape.Tape.{Ghosts as Tape}
-use Rattle.wf_trace.specs.Theorems.{IsReachable}
+use Rattle.wf_trace.specs.Theorems.{AreNodesReachable}
 use Rattle.wf_wms.specs.Answer.{AnswerValue, AsksForMap, IsAnswerOf}
 use Rattle.wf_career.specs.Run.{Run, last}
 use Rattle.wf_career.specs.Career.{Career, IsCareer, values, Item, IsFarm}
@@ -74,7 +74,7 @@ outputs_in (item ∷ items) = item.outputs ++ outputs_in items
 -- stopped.
 pub record IsOneRun {T : Type 0} (n : ℕ) (careers : ℕ → Career T) (items : List Item) : Type 0 where
   pub nodes : ℕ → world.Node Definition
-  pub reached : IsReachable definition_eq n nodes (map message.view (outputs_in items))
+  pub reached : AreNodesReachable definition_eq n nodes (map message.view (outputs_in items))
   pub running : (i : ℕ) (run : Run T) → i < n → (careers i).now ≡ Some run → ShowsNode (AnyPart i) (last run) (nodes i)
   pub stopped : (i : ℕ) → i < n → (careers i).now ≡ None → (nodes i).volatile ≡ None
 

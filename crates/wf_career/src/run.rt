@@ -1,7 +1,7 @@
 //! One run of a process: its node opens, and takes steps.
 
 ghost use Rattle.std.specs.Prelude.{◌≡◌, ◌<◌, ◌≤◌, true, false, Err, IfOk};
-ghost use Rattle.wf_career.specs.Run.{IsAct, IsOpened};
+ghost use Rattle.wf_career.specs.Run.{IsAct, IsOpenedFromTape};
 ghost use Rattle.wf_delivery.specs.NodeInput.{Takes};
 ghost use Rattle.wf_delivery.specs.Reachability.{outputs_by};
 ghost use Rattle.wf_delivery.specs.Outcome.{is_lost};
@@ -21,7 +21,7 @@ use wf_tape::Tape;
 pub fn open<T: Tape>(alloc: Global, tape: T, id: NodeId, n: u8) -> Result<Node<T>, (T, OpenFault)>
     requires nodes { n ≤ 64 }
     requires member { id < n }
-    ensures { IfOk result (IsOpened T.Tape n id tape) }
+    ensures { IfOk result (IsOpenedFromTape T.Tape n id tape) }
 {
     Node::open(alloc, tape, id, n)
 }

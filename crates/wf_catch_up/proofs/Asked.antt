@@ -1,6 +1,6 @@
 -- Questions, and their answers to the asker alone, are events of the model that lead the nodes on.
 use Rattle.std.proofs.Common.{◌≡◌, ◌<◌, ◌≤◌, ◌+◌, ◌||◌, ℕ, zero, suc, Bool, true, false, List, [], ◌∷◌, ◌++◌, map, length, slice_get, slice_set, Some, refl, sym, ap, subst, ◌∙◌, inl, inr, arith, append_assoc, slice_index_or, take, drop, ◌-◌}
-use Rattle.wf_catch_up.proofs.Common.{lt-ltb, append-nil, take_all, none-some, last_sequence, Message, Definition, definition_eq, DurableState, next_sequence, published, most_reports, on_ask, on_catch_up, on_message, step_rejection, transition, only_sends, store, reports_from, World, steps, Node, volatile_of, IsTransition, transition_of, bytes_of, Asks, CatchUpIsReachable, HasReceived, HaveAsked, IsQuestion, IsTaken, LevelRests, Rests, StandLevel, AnyPart, IsOne, Refines, StandFor, StandInTurn, TakeOne, halted_twice, keeps_turn_twice, IsSturdy, Takes, AreReachableFrom, AreReachableSending, IsReachableWith, ReachSending, set_same, set_there, KeepsEntry, Running, set_twice}
+use Rattle.wf_catch_up.proofs.Common.{lt-ltb, append-nil, take_all, none-some, last_sequence, Message, Definition, definition_eq, DurableState, next_sequence, published, most_reports, on_ask, on_catch_up, on_message, step_rejection, transition, only_sends, store, reports_from, World, steps, Node, volatile_of, IsTransition, transition_of, bytes_of, Asks, CatchUpIsReachable, HasReceived, HaveAsked, IsOneQuestion, IsDeliveryTaken, LevelRests, Rests, StandLevel, AnyPart, IsOne, Refines, StandFor, StandInTurn, TakeOne, halted_twice, keeps_turn_twice, IsSturdy, Takes, AreReachableFrom, AreReachableSending, IsReachableWith, ReachSending, set_same, set_there, KeepsEntry, Running, set_twice}
 use Rattle.std.proofs.Math.Bool.{or_assoc}
 use Rattle.wf_codec.specs.Message as message
 use Rattle.wf_codec.specs.declared.message.Message.TheVariants as code
@@ -91,7 +91,7 @@ module _ {T : Type 0} (tapes : Tape T) (nodes : List (Node T)) (i : ℕ) (turns 
 
 -- ---- a question
 
-module _ {T : Type 0} (tapes : Tape T) (asked asker : ℕ) (nodes after : List (Node T)) (lost : Bool) (turns : StandInTurn nodes) (is : IsQuestion tapes asked asker nodes lost after) where
+module _ {T : Type 0} (tapes : Tape T) (asked asker : ℕ) (nodes after : List (Node T)) (lost : Bool) (turns : StandInTurn nodes) (is : IsOneQuestion tapes asked asker nodes lost after) where
   asking_reachable : AreReachableSending tapes nodes (is.question ∷ []) nodes
   asking_reachable = subst (AreReachableSending tapes nodes (is.question ∷ [])) (set_same nodes asker is.before is.asker_at) (takes_reachable tapes nodes asker is.before is.before table.CatchUp (is.question ∷ []) is.asker_at turns tt false is.asks)
 
@@ -189,16 +189,16 @@ module _ {T : Type 0} (tapes : Tape T) where
   received_none [] node few = (refl, refl)
   received_none (m ∷ rest) node few = absurd (omega (arith, few))
 
-  pub received_lost : (messages : List Message) (first : Message) (node after : Node T) → 1 ≤ length messages → first ≡ slice_index_or messages 0 first → IsTaken tapes true first node after → HasReceived tapes messages true node after
+  pub received_lost : (messages : List Message) (first : Message) (node after : Node T) → 1 ≤ length messages → first ≡ slice_index_or messages 0 first → IsDeliveryTaken tapes true first node after → HasReceived tapes messages true node after
   unfolding HasReceived
   received_lost [] first node after some is taken = absurd (omega (arith, some))
-  received_lost (m ∷ rest) first node after some is taken = inl (refl, subst (λ x. IsTaken tapes true x node after) is taken)
+  received_lost (m ∷ rest) first node after some is taken = inl (refl, subst (λ x. IsDeliveryTaken tapes true x node after) is taken)
 
-  pub received_more : (messages : List Message) (first : Message) (lost : Bool) (node middle after : Node T) → 1 ≤ length messages → first ≡ slice_index_or messages 0 first → IsTaken tapes false first node middle → HasReceived tapes (drop 1 messages) lost middle after →
+  pub received_more : (messages : List Message) (first : Message) (lost : Bool) (node middle after : Node T) → 1 ≤ length messages → first ≡ slice_index_or messages 0 first → IsDeliveryTaken tapes false first node middle → HasReceived tapes (drop 1 messages) lost middle after →
       HasReceived tapes messages lost node after
   unfolding HasReceived
   received_more [] first lost node middle after some is taken received = absurd (omega (arith, some))
-  received_more (m ∷ rest) first lost node middle after some is taken received = inr (middle, subst (λ x. IsTaken tapes false x node middle) is taken, received)
+  received_more (m ∷ rest) first lost node middle after some is taken received = inr (middle, subst (λ x. IsDeliveryTaken tapes false x node middle) is taken, received)
 
 pub range_rest : (messages : List Message) → take (length messages - 1) (drop 1 messages) ≡ drop 1 messages
 range_rest [] = refl

@@ -1,6 +1,6 @@
 -- What one question changes: its asker alone, which comes on.
 use Rattle.std.proofs.Common.{◌≡◌, ◌⊎◌, ◌<◌, ◌≤◌, ◌+◌, ◌||◌, ℕ, zero, suc, Bool, true, false, List, [], map, length, slice_get, slice_set, Some, refl, sym, ap, subst, ◌∙◌, inl, inr, arith}
-use Rattle.wf_catch_up.proofs.Common.{cases_eq, false≢true, same_Some, last_sequence, Message, most_reports, reports_from, Node, NodeHost, Running, BringsOn, EndsUp, FirstEndUp, HasReceived, HasMost, ReceivesAt, AreAnswersTo, IsBehind, IsLevelAt, IsQuestion, OneChanges, lacks, lacks_by, rank, rank_at, nodes_of, nodes_get, nodes_set, get_set_other, set_same, set_there}
+use Rattle.wf_catch_up.proofs.Common.{cases_eq, false≢true, same_Some, last_sequence, Message, most_reports, reports_from, Node, NodeHost, Running, BringsOn, EndsUp, FirstEndUp, HasReceived, HasMost, ReceivesAt, AreAnswersTo, IsBehind, IsLevelAt, IsOneQuestion, OneChanges, lacks, lacks_by, rank, rank_at, nodes_of, nodes_get, nodes_set, get_set_other, set_same, set_there}
 use Rattle.wf_codec.specs.Message as message
 use Rattle.wf_codec.specs.declared.message.Message.TheVariants as code
 use Rattle.wf_catch_up.proofs.Asked.{answers_ask, asks_next, loses_ask}
@@ -104,7 +104,7 @@ module _ {T : Type 0} (tapes : Tape T) (hosts : List (NodeHost T)) (asked asker 
     next_there = omega (arith, fewer, most, asked_rank)
 
     -- The answer is lost: nothing is changed.
-    unanswered : IsQuestion tapes asked asker nodes true nodes
+    unanswered : IsOneQuestion tapes asked asker nodes true nodes
     unfolding HasReceived
     unanswered = record {
       behind = behind;
@@ -126,7 +126,7 @@ module _ {T : Type 0} (tapes : Tape T) (hosts : List (NodeHost T)) (asked asker 
 
     module _ (answer : List Message) (lost : Bool) (after : Node T) (answer_is : map message.view answer ≡ reports_from other.parts.history (count_of before + 1) most_reports) (received : HasReceived tapes answer lost before after) where
       -- The asker hears an answer.
-      answered : IsQuestion tapes asked asker nodes lost (slice_set nodes asker after)
+      answered : IsOneQuestion tapes asked asker nodes lost (slice_set nodes asker after)
       answered = record {
         behind = behind;
         before = before;
@@ -175,7 +175,7 @@ module _ {T : Type 0} (tapes : Tape T) (hosts : List (NodeHost T)) (asked asker 
 
   -- what the three clauses of a question say
   pub record IsAsked (lost : Bool) (nodes_after : List (Node T)) : Type 0 where
-    pub question : IsQuestion tapes asked asker nodes lost nodes_after
+    pub question : IsOneQuestion tapes asked asker nodes lost nodes_after
     pub one : OneChanges asked asker nodes nodes_after
     pub on : BringsOn asked asker nodes lost nodes_after
 

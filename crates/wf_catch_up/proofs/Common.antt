@@ -17,7 +17,7 @@ unfoldable pub use Rattle.wf_model.specs.World.{steps}
 pub use Rattle.wf_node.specs.Node.{Node, stored_of, volatile_of}
 pub use Rattle.wf_node.specs.Step.{IsTransition, transition_of}
 pub use Rattle.wf_node.specs.TapeWrites.{bytes_of}
-pub use Rattle.wf_catch_up.specs.CatchUp.{Asks, BringsOn, CatchUpIsReachable, EndsUp, FirstEndUp, HaveAsked, HaveCaughtUp, ReceivesAt, AreAnswersTo, IsBehind, IsLevelAt, IsQuestion, IsTaken, LevelRests, OneChanges, Rests, lacks, lacks_by, rank, rank_at, rank_by}
+pub use Rattle.wf_catch_up.specs.CatchUp.{Asks, BringsOn, CatchUpIsReachable, EndsUp, FirstEndUp, HaveAsked, HaveCaughtUp, ReceivesAt, AreAnswersTo, IsBehind, IsLevelAt, IsOneQuestion, IsDeliveryTaken, LevelRests, OneChanges, Rests, lacks, lacks_by, rank, rank_at, rank_by}
 unfoldable pub use Rattle.wf_catch_up.specs.CatchUp.{HasReceived, HasMost, StandLevel}
 pub use Rattle.wf_delivery.specs.Delivery.{AnyPart, IsOne, Refines, StandFor, StandInTurn}
 unfoldable pub use Rattle.wf_delivery.specs.Delivery.{TakeOne}

@@ -1,6 +1,6 @@
 -- How far nodes have come, and how far an answer brings one.
 use Rattle.std.proofs.Common.{◌≡◌, ◌⊎◌, ◌<◌, ◌≤◌, ◌+◌, ℕ, zero, suc, Bool, true, false, List, [], ◌∷◌, ◌++◌, map, length, slice_get, Option, Some, None, refl, sym, ap, subst, ◌∙◌, inl, inr, arith, eq-eqb, length-append}
-use Rattle.wf_catch_up.proofs.Common.{both_ways, cases_lt, false≢true, none-some, slice_get_within, slice_get_past, slice_get_cases, Message, Definition, definition_eq, DurableState, definition_at, next_sequence, published, with_record, on_chosen, on_message, step_rejection, transition, store, reports_from, reports_of, VolatileState, Node, stored_of, volatile_of, IsTransition, transition_of, NodeHost, Running, Stopped, HasReceived, HasMost, IsBehind, IsLevelAt, IsTaken, StandLevel, rank, rank_at, rank_by, Takes, node_in, nodes_of, nodes_back, nodes_get}
+use Rattle.wf_catch_up.proofs.Common.{both_ways, cases_lt, false≢true, none-some, slice_get_within, slice_get_past, slice_get_cases, Message, Definition, definition_eq, DurableState, definition_at, next_sequence, published, with_record, on_chosen, on_message, step_rejection, transition, store, reports_from, reports_of, VolatileState, Node, stored_of, volatile_of, IsTransition, transition_of, NodeHost, Running, Stopped, HasReceived, HasMost, IsBehind, IsLevelAt, IsDeliveryTaken, StandLevel, rank, rank_at, rank_by, Takes, node_in, nodes_of, nodes_back, nodes_get}
 use Rattle.wf_codec.specs.Message as message
 use Rattle.wf_model.specs.Message as model
 use Rattle.wf_model.specs.Table as table
@@ -130,7 +130,7 @@ module _ {T : Type 0} (tapes : Tape T) where
   chosen_taken node after outputs s d runs next (giving.Fails running goes halts same keeps part each quiet) = inl halts
 
   -- A halted node takes nothing, and nothing is lost.
-  taken_halted : (m : Message) (node after : Node T) → node.halted ≡ true → IsTaken tapes true m node after → ⊥
+  taken_halted : (m : Message) (node after : Node T) → node.halted ≡ true → IsDeliveryTaken tapes true m node after → ⊥
   taken_halted m node after halted taken = both_ways node.halted taken.takes.runs halted
 
   pub received_halted : (messages : List Message) (lost : Bool) (node after : Node T) → node.halted ≡ true → HasReceived tapes messages lost node after → (lost ≡ false) × (after.halted ≡ true)
@@ -142,7 +142,7 @@ module _ {T : Type 0} (tapes : Tape T) where
       received_halted rest lost middle after (ap (λ (x : Node T). x.halted) same ∙ halted) received
 
   -- A message that is lost leaves the node as it was, but for its tape.
-  taken_lost : (m : Message) (node after : Node T) → IsTaken tapes true m node after → (after.halted ≡ false) × (count_of after ≡ count_of node)
+  taken_lost : (m : Message) (node after : Node T) → IsDeliveryTaken tapes true m node after → (after.halted ≡ false) × (count_of after ≡ count_of node)
   taken_lost m node after taken = (taken.takes.still, ap (λ (x : Node T). length x.parts.history) taken.takes.same)
 
 -- ---- the messages of an answer
@@ -211,7 +211,7 @@ module _ {T : Type 0} (tapes : Tape T) (history : List Definition) where
         part = λ is. absurd (false≢true (sym kept ∙ is));
       })
 
-  received_loss : (count : ℕ) (lost : Bool) (m : Message) (node after : Node T) → count_of node < length history → lost ≡ true → IsTaken tapes true m node after → Outcome count lost node after
+  received_loss : (count : ℕ) (lost : Bool) (m : Message) (node after : Node T) → count_of node < length history → lost ≡ true → IsDeliveryTaken tapes true m node after → Outcome count lost node after
   received_loss count lost m node after less is taken =
       let left = taken_lost tapes m node after taken in
       inr (record {

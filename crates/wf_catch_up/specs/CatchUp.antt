@@ -46,7 +46,7 @@ StandLevel {T} nodes = (i j : ℕ) (node other : Node T) → slice_get nodes i �
 module _ {T : Type 0} (tapes : Tape T) where
   -- A node took a message that was delivered to it, or an allocation failed and it was lost. What
   -- the node sends is delivered to none.
-  pub record IsTaken (loses : Bool) (m : Message) (before after : Node T) : Type 0 where
+  pub record IsDeliveryTaken (loses : Bool) (m : Message) (before after : Node T) : Type 0 where
     pub outputs : List Message
     pub takes : Takes tapes loses (table.Deliver (message.view m)) before after outputs
     pub cause : loses ≡ true → MayBeLost m before
@@ -55,13 +55,13 @@ module _ {T : Type 0} (tapes : Tape T) where
   -- left.
   unfoldable pub HasReceived : List Message → Bool → Node T → Node T → Type 0
   HasReceived [] lost before after = (lost ≡ false) × (after ≡ before)
-  HasReceived (m ∷ rest) lost before after = ((lost ≡ true) × IsTaken true m before after) ⊎ ((middle : Node T) × IsTaken false m before middle × HasReceived rest lost middle after)
+  HasReceived (m ∷ rest) lost before after = ((lost ≡ true) × IsDeliveryTaken true m before after) ⊎ ((middle : Node T) × IsDeliveryTaken false m before middle × HasReceived rest lost middle after)
 
   -- One question: a node that is behind asks for the definition after its last one; its message is
   -- delivered to the node that it asks, and to no other; and what that one sends is delivered to
   -- the asker alone. The delivery of the question or of one message of the answer may be lost, and
   -- then no more are made.
-  pub record IsQuestion (asked asker : ℕ) (nodes : List (Node T)) (lost : Bool) (nodes_after : List (Node T)) : Type 0 where
+  pub record IsOneQuestion (asked asker : ℕ) (nodes : List (Node T)) (lost : Bool) (nodes_after : List (Node T)) : Type 0 where
     pub behind : IsBehind nodes asked asker
     -- the asker before it asks, and after it heard the answer; and the one that is asked, which is
     -- unchanged
@@ -83,7 +83,7 @@ module _ {T : Type 0} (tapes : Tape T) where
   -- Any number of questions to one node, one after the other; and whether a delivery was lost.
   pub data HaveAsked (asked : ℕ) (nodes : List (Node T)) : Bool → List (Node T) → Type 0 where
     Rests : HaveAsked asked nodes false nodes
-    Asks : (asker : ℕ) (lost loses : Bool) (middle after : List (Node T)) → HaveAsked asked nodes lost middle → IsQuestion asked asker middle loses after → HaveAsked asked nodes (lost || loses) after
+    Asks : (asker : ℕ) (lost loses : Bool) (middle after : List (Node T)) → HaveAsked asked nodes lost middle → IsOneQuestion asked asker middle loses after → HaveAsked asked nodes (lost || loses) after
 
   -- All questions were to one node, than which none had come further.
   pub record HaveCaughtUp (nodes : List (Node T)) (lost : Bool) (nodes_after : List (Node T)) : Type 0 where

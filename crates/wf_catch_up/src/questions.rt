@@ -4,7 +4,7 @@ ghost use Rattle.std.specs.Prelude.{◌≡◌, ◌⊎◌, ◌<◌, ◌≤◌, �
 ghost use Rattle.wf_ballot.specs.Sequence.{last_sequence};
 ghost use Rattle.wf_codec.specs.Message.{view};
 ghost use Rattle.wf_model.specs.Table.{most_reports, reports_from};
-ghost use Rattle.wf_catch_up.specs.CatchUp.{AreCaughtUp, BringsOn, CatchUpIsReachable, EndsUp, FirstEndUp, HasReceived, HasMost, HaveAsked, HaveCaughtUp, ReceivesAt, AreAnswersTo, IsBehind, IsQuestion, IsTaken, LevelRests, OneChanges, StandLevel, rank, rank_at};
+ghost use Rattle.wf_catch_up.specs.CatchUp.{AreCaughtUp, BringsOn, CatchUpIsReachable, EndsUp, FirstEndUp, HasReceived, HasMost, HaveAsked, HaveCaughtUp, ReceivesAt, AreAnswersTo, IsBehind, IsOneQuestion, IsDeliveryTaken, LevelRests, OneChanges, StandLevel, rank, rank_at};
 ghost use Rattle.wf_delivery.specs.NodeInput.{IsSturdy};
 ghost use Rattle.wf_delivery.specs.Reachability.{AreReachableFrom};
 ghost use Rattle.wf_farm.specs.Nodes.{KeepEntries, KeepHosts, RunsAt, node_in, nodes_in, nodes_of};
@@ -205,7 +205,7 @@ fn rank_of<T: Tape>(node: &Node<T>) -> usize
 /// delivery was lost.
 fn ask<T: Tape>(alloc: Global, hosts: &mut [NodeHost<T>], asked: usize, asker: usize) -> bool
     requires behind { IsBehind (nodes_of hosts.old) asked asker }
-    ensures question { IsQuestion T.Tape asked asker (nodes_of hosts.old) result
+    ensures question { IsOneQuestion T.Tape asked asker (nodes_of hosts.old) result
         (nodes_of hosts.new) }
     ensures one { OneChanges asked asker (nodes_of hosts.old) (nodes_of hosts.new) }
     ensures on { BringsOn asked asker (nodes_of hosts.old) result (nodes_of hosts.new) }
@@ -302,7 +302,7 @@ fn consume<T: Tape>(alloc: Global, node: &mut Node<T>, messages: &[Message]) -> 
 /// Delivers a message to a node; returns whether the delivery was lost. What the node sends is
 /// dropped.
 fn deliver<T: Tape>(alloc: Global, node: &mut Node<T>, message: &Message) -> bool
-    ensures taken { IsTaken T.Tape result message.now node.old node.new }
+    ensures taken { IsDeliveryTaken T.Tape result message.now node.old node.new }
     ensures sturdy { IsSturdy T.Tape node.old node.new }
 {
     let Outputs { messages, lost } = hand(alloc, node, message);

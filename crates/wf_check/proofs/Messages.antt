@@ -6,7 +6,7 @@ use Rattle.std.proofs.lemmas.List.{append-nil, map-append, take_more}
 use Rattle.std.proofs.lemmas.List.Concat.{flat_map-append}
 use Rattle.wf_block.specs.Blocks.{block_name}
 use Rattle.wf_block.specs.declared.place.Block.{Block}
-use Rattle.wf_check.specs.Message.{IsAllowedBetween, IsAllowedHere, IsAllowedIn, IsListed, IsSaid, IsSaidHere, Says, enumerated, said}
+use Rattle.wf_check.specs.Message.{IsAllowedBetween, IsAllowedHere, IsAllowedIn, IsKeywordList, IsSaid, IsSaidHere, Says, enumerated, said}
 use Rattle.wf_check.specs.declared.finding.Finding.{Finding}
 use Rattle.wf_mapfile.specs.Keywords.{AreKeywordsOf}
 use Rattle.wf_mapfile.specs.declared.keywords.Takes.{Takes}
@@ -49,6 +49,6 @@ next_keyword f all i other before after within is next =
 
 -- all keywords of a block, and its END
 pub listing : (block : Block) (keywords : List (List ℕ × Takes)) (text names end : List ℕ) → AreKeywordsOf block keywords → names ≡ enumerated keywords
-    → end ≡ block_name block → text ≡ names ++ codes "or the END of " ++ end → IsListed block text
+    → end ≡ block_name block → text ≡ names ++ codes "or the END of " ++ end → IsKeywordList block text
 listing block keywords text names end are is ends whole =
     (keywords, are, whole ∙ ap (λ n. n ++ codes "or the END of " ++ end) is ∙ ap (λ e. enumerated keywords ++ codes "or the END of " ++ e) ends)

@@ -5,12 +5,12 @@ use Rattle.serde_json.specs.Data.{Data, depth}
 use Rattle.serde_json.specs.Read.{max_depth, read}
 use Rattle.wf_check.specs.Finding.{IsReport, fault_text, reported}
 use Rattle.wf_check.specs.Json.{IsJsonReport, IsLineOfJson, as_data}
-use Rattle.wf_check.specs.Message.{IsMessage}
+use Rattle.wf_check.specs.Message.{IsFindingMessage}
 use Rattle.wf_check.specs.NumberedLine.{characters}
 use Rattle.wf_check.specs.declared.finding.Finding.{Finding}
 
 pub is_report : (finding : Finding) (text fault picture message : List ℕ) (number column : ℕ) → number ≡ finding.line.number → column ≡ characters finding.line.before.now + 1
-    → fault ≡ fault_text finding.fault → IsMessage finding message → text ≡ reported number column fault picture message → IsReport finding text
+    → fault ≡ fault_text finding.fault → IsFindingMessage finding message → text ≡ reported number column fault picture message → IsReport finding text
 is_report finding text fault picture message number column is_number is_column is_fault says is = (
   picture,
   message,
@@ -32,5 +32,5 @@ written finding message json text value is reads line =
     let within : depth value ≤ max_depth = subst (λ v. depth v ≤ max_depth) (sym is) (omega (arith, one)) in
     (json, line, reads within ∙ ap Some is)
 
-pub json_reported : (finding : Finding) (message text : List ℕ) → IsMessage finding message → IsLineOfJson (as_data finding message) text → IsJsonReport finding text
+pub json_reported : (finding : Finding) (message text : List ℕ) → IsFindingMessage finding message → IsLineOfJson (as_data finding message) text → IsJsonReport finding text
 json_reported finding message text says line = (message, says, line)

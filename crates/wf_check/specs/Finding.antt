@@ -11,7 +11,7 @@ use Rattle.wf_mapfile.specs.Meaning.{Means, longest_mapfile}
 use Rattle.wf_mapfile.specs.Rejection.{HasError}
 use Rattle.wf_spelling.specs.Canon.{canon, most_canon_bytes}
 use Rattle.wf_token.specs.Token.{without_mark}
-use Rattle.wf_check.specs.Message.{IsMessage}
+use Rattle.wf_check.specs.Message.{IsFindingMessage}
 use Rattle.wf_check.specs.NumberedLine.{characters, first_line, is_feed, last_line, line_number}
 use Rattle.wf_check.specs.declared.fault.CheckFault.{CheckFault}
 use Rattle.wf_check.specs.declared.fault.CheckFault.TheVariants.{Map, TooBig}
@@ -135,7 +135,7 @@ reported number column fault picture message =
 -- The text is a report of the finding: its line and its column, from 1 in characters, its error, a
 -- picture of the line and the message.
 abbrev pub IsReport : Finding → List ℕ → Type 0
-IsReport finding text = (picture message : List ℕ) × IsMessage finding message
+IsReport finding text = (picture message : List ℕ) × IsFindingMessage finding message
     × (text ≡ reported finding.line.number (characters finding.line.before.now + 1) (fault_text finding.fault) picture message)
 
 -- The text is a report, in a format, of a finding of the bytes with this error.

@@ -3,7 +3,7 @@ use Rattle.std.specs.Prelude.{◌≡◌, ℕ, ◌+◌, ◌++◌, List, Some, cod
 use Rattle.serde_json.specs.Data.{Data, number, unsigned, string, object, member, no_members}
 use Rattle.serde_json.specs.Read.{read}
 use Rattle.wf_block.specs.Faults as faults
-use Rattle.wf_check.specs.Message.{IsMessage}
+use Rattle.wf_check.specs.Message.{IsFindingMessage}
 use Rattle.wf_check.specs.NumberedLine.{characters}
 use Rattle.wf_check.specs.declared.fault.CheckFault.{CheckFault}
 use Rattle.wf_check.specs.declared.fault.CheckFault.TheVariants.{Map, TooBig}
@@ -28,4 +28,4 @@ IsLineOfJson value text = (json : List ℕ) × (text ≡ json ++ codes "\n") × 
 
 -- The text is the finding as JSON, with its message.
 abbrev pub IsJsonReport : Finding → List ℕ → Type 0
-IsJsonReport finding text = (message : List ℕ) × IsMessage finding message × IsLineOfJson (as_data finding message) text
+IsJsonReport finding text = (message : List ℕ) × IsFindingMessage finding message × IsLineOfJson (as_data finding message) text

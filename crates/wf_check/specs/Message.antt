@@ -24,20 +24,20 @@ abbrev pub enumerated : List (List ℕ × Takes) → List ℕ
 enumerated keywords = flat_map (λ keyword. keyword.0 ++ codes ", ") keywords
 
 -- The text lists the keywords of a block, and its END.
-abbrev pub IsListed : Block → List ℕ → Type 0
-IsListed block text = (keywords : List (List ℕ × Takes)) × AreKeywordsOf block keywords × (text ≡ enumerated keywords ++ codes "or the END of " ++ block_name block)
+abbrev pub IsKeywordList : Block → List ℕ → Type 0
+IsKeywordList block text = (keywords : List (List ℕ × Takes)) × AreKeywordsOf block keywords × (text ≡ enumerated keywords ++ codes "or the END of " ++ block_name block)
 
 -- what is allowed in a block between its keywords
 abbrev pub IsAllowedIn : Block → List ℕ → Type 0
-IsAllowedIn blocks.Map text = IsListed blocks.Map text
+IsAllowedIn blocks.Map text = IsKeywordList blocks.Map text
 IsAllowedIn blocks.Projection text = ⊤
-IsAllowedIn blocks.Web text = IsListed blocks.Web text
+IsAllowedIn blocks.Web text = IsKeywordList blocks.Web text
 IsAllowedIn blocks.Metadata text = text ≡ codes "pairs of texts, key and value, or END"
-IsAllowedIn blocks.Layer text = IsListed blocks.Layer text
-IsAllowedIn blocks.Class text = IsListed blocks.Class text
-IsAllowedIn blocks.Style text = IsListed blocks.Style text
-IsAllowedIn blocks.Label text = IsListed blocks.Label text
-IsAllowedIn blocks.Feature text = IsListed blocks.Feature text
+IsAllowedIn blocks.Layer text = IsKeywordList blocks.Layer text
+IsAllowedIn blocks.Class text = IsKeywordList blocks.Class text
+IsAllowedIn blocks.Style text = IsKeywordList blocks.Style text
+IsAllowedIn blocks.Label text = IsKeywordList blocks.Label text
+IsAllowedIn blocks.Feature text = IsKeywordList blocks.Feature text
 IsAllowedIn blocks.Points text = text ≡ codes "pairs of numbers, x and y, or END"
 
 -- what is allowed in place of a token: MAP before all blocks, and in a block what may stand between
@@ -94,9 +94,9 @@ abbrev pub IsExcessMessage : List ℕ → List ℕ → Type 0
 IsExcessMessage file text = (d : Definition) → Means file d → (layers : List ℕ) × (text ≡ excess_said (counted (length (canon d))) layers)
 
 -- The text is the message about an error.
-abbrev pub IsMessageOf : CheckFault → Finding → List ℕ → Type 0
-IsMessageOf (Map fault) finding text = IsReaderMessage finding fault text
-IsMessageOf TooBig finding text = IsExcessMessage finding.file.now text
+abbrev pub IsFaultMessage : CheckFault → Finding → List ℕ → Type 0
+IsFaultMessage (Map fault) finding text = IsReaderMessage finding fault text
+IsFaultMessage TooBig finding text = IsExcessMessage finding.file.now text
 
-abbrev pub IsMessage : Finding → List ℕ → Type 0
-IsMessage finding text = IsMessageOf finding.fault finding text
+abbrev pub IsFindingMessage : Finding → List ℕ → Type 0
+IsFindingMessage finding text = IsFaultMessage finding.fault finding text

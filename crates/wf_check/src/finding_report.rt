@@ -2,7 +2,7 @@
 ghost use Rattle.std.specs.Prelude.{◌≡◌, IfOk, Some};
 ghost use Rattle.std.specs.String.{string_bytes};
 ghost use Rattle.wf_check.specs.Finding.{IsReport, at, fault_text, reported};
-ghost use Rattle.wf_check.specs.Message.{IsMessage};
+ghost use Rattle.wf_check.specs.Message.{IsFindingMessage};
 
 use crate::fault::CheckFault;
 use crate::finding::Finding;
@@ -26,7 +26,7 @@ pub fn report(alloc: Global, finding: &Finding<'_>) -> Result<String, AllocError
 
 /// The report of a finding with this message.
 fn report_with(alloc: Global, finding: &Finding<'_>, message: &str) -> Result<String, AllocError>
-    requires { IsMessage finding.now message.now }
+    requires { IsFindingMessage finding.now message.now }
     ensures { IfOk result (λ text. IsReport finding.now (string_bytes text)) }
 {
     let number = finding.line.number;

@@ -1,7 +1,7 @@
 //! The message about an error: what was found there, and what is allowed there.
 ghost use Rattle.std.specs.Prelude.{◌≡◌, ◌++◌, IfOk, OnOk, None, Some, codes, map};
 ghost use Rattle.std.specs.String.{string_bytes};
-ghost use Rattle.wf_check.specs.Message.{IsAllowedHere, IsAllowedIn, IsListed, IsMessage, IsReaderMessage, IsSaid, IsSaidHere, Says, allowed_end, enumerated};
+ghost use Rattle.wf_check.specs.Message.{IsAllowedHere, IsAllowedIn, IsKeywordList, IsFindingMessage, IsReaderMessage, IsSaid, IsSaidHere, Says, allowed_end, enumerated};
 
 use crate::bad_token::BadToken;
 use crate::excess::explain_excess;
@@ -23,7 +23,7 @@ pub const MOST_COUNTED_BYTES: usize = 16_777_216;
 
 /// What was found at an error and what is allowed there.
 pub(crate) fn message(alloc: Global, finding: &Finding<'_>) -> Result<String, AllocError>
-    ensures { IfOk result (λ text. IsMessage finding.now (string_bytes text)) }
+    ensures { IfOk result (λ text. IsFindingMessage finding.now (string_bytes text)) }
 {
     match finding.fault {
         CheckFault::Map(fault) => message_of(alloc, finding, fault),
@@ -219,7 +219,8 @@ impl<'a> Reading<'a> {
     /// The keyword, or what stands for one, whose argument the error is in, with what it takes.
     fn argument(&self) -> Option<Keyword>
         ensures none { self.now.finding.place.keyword ≡ None → result ≡ None }
-        ensures own { self.now.finding.place.keyword ≡ Some self.now.finding.offset → result ≡ None }
+        ensures own { self.now.finding.place.keyword ≡ Some self.now.finding.offset →
+            result ≡ None }
     {
         let begin = self.finding.place.keyword?;
         if begin == self.finding.offset {
@@ -372,7 +373,7 @@ fn said(alloc: Global, found: &str, allowed: &str) -> Result<String, AllocError>
 
 /// The keywords of a block, and its END.
 fn listed(alloc: Global, block: Block) -> Result<String, AllocError>
-    ensures { IfOk result (λ text. IsListed block (string_bytes text)) }
+    ensures { IfOk result (λ text. IsKeywordList block (string_bytes text)) }
 {
     let names = names_of(alloc, keywords_of(block))?;
     let text = with_end(alloc, names.as_str(), block.name());

@@ -19,8 +19,8 @@ limit_of Taking = 10000
 limit_of Lingering = 1000
 
 -- the time of its phase is over
-abbrev pub IsOver : ℕ → Client → Type 0
-IsOver now client = limit_of client.phase ≤ now - client.since
+abbrev pub IsClientOver : ℕ → Client → Type 0
+IsClientOver now client = limit_of client.phase ≤ now - client.since
 
 -- the request isn't whole
 abbrev pub is_asking : ClientPhase → Bool

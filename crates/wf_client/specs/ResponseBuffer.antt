@@ -13,8 +13,8 @@ abbrev pub rest_of : Outgoing → List ℕ
 rest_of o = drop o.done o.bytes
 
 -- the next bytes were taken
-abbrev pub IsAdvanced : ℕ → Outgoing → Outgoing → Type 0
-IsAdvanced count old new = new ≡ record old { done = old.done + count }
+abbrev pub IsTakenUp : ℕ → Outgoing → Outgoing → Type 0
+IsTakenUp count old new = new ≡ record old { done = old.done + count }
 
 -- a write failed: nothing was written
 pub record FailsOnce (before after : Outgoing) : Type 0 where

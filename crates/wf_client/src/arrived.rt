@@ -61,12 +61,15 @@ impl<'b> Source for Arrived<'b> {
 
     fn read(&mut self, buf: &mut [u8]) -> io::Result<usize>
         ensures bound { ReadsAtMost result buf.new }
-        ensures bytes { ReadConsumes (Some (rest_of self.old)) (Some (rest_of self.new)) result buf.new }
+        ensures bytes { ReadConsumes (Some (rest_of self.old))
+            (Some (rest_of self.new)) result buf.new }
         ensures most { GivesUpTo None None result }
         ensures cause { Counts result (failures_of self.old) (failures_of self.new) }
         // It fails exactly at the end of what has come, as long as more may come.
-        ensures waits { MayComeMore (rest_of self.old) (is_closed_of self.old) buf.old → IsErr result }
-        ensures gives { IsErr result → MayComeMore (rest_of self.old) (is_closed_of self.old) buf.old }
+        ensures waits { MayComeMore (rest_of self.old) (is_closed_of self.old) buf.old →
+            IsErr result }
+        ensures gives { IsErr result →
+            MayComeMore (rest_of self.old) (is_closed_of self.old) buf.old }
     {
         if self.rest.is_empty() && !self.is_closed && !buf.is_empty() {
             self.failures = self.failures.saturating_add(1);

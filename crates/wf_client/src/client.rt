@@ -1,6 +1,6 @@
 //! A client, and its phase.
 ghost use Rattle.std.specs.Prelude.{◌≡◌, ◌↔◌, [], false, IsTrue};
-ghost use Rattle.wf_client.specs.Client.{PhaseBegins, IsOver, is_asking, limit_of, weight_of};
+ghost use Rattle.wf_client.specs.Client.{PhaseBegins, IsClientOver, is_asking, limit_of, weight_of};
 
 use crate::limits::{ANSWER_MILLIS, LINGER_MILLIS, REQUEST_MILLIS};
 use crate::partial_request::Incoming;
@@ -83,7 +83,7 @@ impl Client {
 
     /// Whether the time of its phase is over: all of it counts from the beginning of the phase.
     pub fn is_over(&self, now: u64) -> bool
-        ensures { IsTrue result ↔ IsOver now self.now }
+        ensures { IsTrue result ↔ IsClientOver now self.now }
     {
         limit_of(self.phase) <= now.saturating_sub(self.since)
     }

@@ -1,6 +1,6 @@
 //! An answer, and how much of it was taken.
 ghost use Rattle.std.specs.Prelude.{◌≡◌, ◌≤◌, ◌<◌, ◌+◌, ◌-◌, ◌↔◌, [], length, IsTrue};
-ghost use Rattle.wf_client.specs.ResponseBuffer.{FailsOnce, rest_of, IsAdvanced};
+ghost use Rattle.wf_client.specs.ResponseBuffer.{FailsOnce, rest_of, IsTakenUp};
 
 use std::alloc::Global;
 use std::io;
@@ -63,7 +63,7 @@ impl Outgoing {
     /// The client has taken the next bytes.
     pub fn advance(&mut self, count: usize)
         requires { count ≤ length (rest_of self.old) }
-        ensures { IsAdvanced count self.old self.new }
+        ensures { IsTakenUp count self.old self.new }
     {
         self.done += count;
     }

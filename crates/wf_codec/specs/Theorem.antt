@@ -56,7 +56,7 @@ IsLastingFault fault = Unit {0}
 -- Part of a message, without an error in its version, its kind and its length as far as they are
 -- there; the length is checked once its four bytes are there.
 abbrev pub IsUnfinished : List ℕ → Type 0
-IsUnfinished bytes = frames.IsUnfinished format bytes
+IsUnfinished bytes = frames.IsUnfinishedFrame format bytes
 
 -- the message and its length are returned; for a message with a definition, allocation failure may
 -- be returned instead

@@ -63,7 +63,8 @@ impl Message {
     pub(crate) fn put_fields<'a>(&'a self, fields: &mut FieldBytes) -> (u8, End<'a>, usize)
         requires { fields.old.items ≡ [] }
         ensures kind { result.0 ≡ (row (view self.now)).byte }
-        ensures body { row_bytes (texts (view self.now)) ≡ fields.new.items ++ written_end result.1 }
+        ensures body { row_bytes (texts (view self.now)) ≡
+            fields.new.items ++ written_end result.1 }
         ensures length { result.2 ≡ length (written_end result.1) }
         ensures most { array_vec_len fields.new + result.2 ≤ most_body_bytes }
         ensures is_message { IsMessage (view self.now) }

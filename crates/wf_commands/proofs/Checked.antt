@@ -12,7 +12,7 @@ use Rattle.wf_mapfile.specs.Meaning.{meaning}
 use Rattle.wf_stream.specs.KnownTheorems.{keeps_same}
 use Rattle.wf_commands.proofs.Examined.{cut_meaning}
 use Rattle.wf_commands.specs.FailureCount.{CountsReads, CountsWrites}
-use Rattle.wf_commands.specs.Run.{HasReport, HasReportIn, IsCheckOf, IsChecked, IsFindingWritten, IsInputFault, IsReportIn, IsWriting, checked, fault_of, most_checked_bytes}
+use Rattle.wf_commands.specs.Run.{HasReport, HasReportIn, IsCheckOf, IsChecked, IsFindingWritten, IsInputFault, IsReportIn, IsOutputWriting, checked, fault_of, most_checked_bytes}
 use Rattle.wf_commands.specs.declared.fault.RunFault.{RunFault}
 use Rattle.wf_commands.specs.declared.fault.RunFault.TheVariants as faults
 
@@ -27,7 +27,7 @@ written_whole format finding text bytes old new fault same is report appends =
     inl (text, report, inl (ap failed is, subst (λ b. Appends old new b) same appends))
 
 part_by : (format : Format) (finding : Finding) (text : List ℕ) (old new : Option (List ℕ)) (fault : RunFault) → IsReportIn format finding text
-    → IsWriting text (λ _. ⊥) old new (failed fault) → IsFindingWritten format finding old new (failed fault)
+    → IsOutputWriting text (λ _. ⊥) old new (failed fault) → IsFindingWritten format finding old new (failed fault)
 part_by format finding text old new faults.Write report part = inl (text, report, inr (refl, part))
 part_by format finding text old new (faults.Map fault) report none = inr (fault, refl, none.0, none.1)
 part_by format finding text old new (faults.Canon fault) report none = absurd none.0
@@ -38,9 +38,9 @@ part_by format finding text old new faults.Serve report none = absurd none
 part_by format finding text old new faults.Wire report none = absurd none
 
 pub written_in_part : (format : Format) (finding : Finding) (text bytes : List ℕ) (old new : Option (List ℕ)) (fault : RunFault) → bytes ≡ text → IsReportIn format finding text
-    → IsWriting bytes (λ _. ⊥) old new (failed fault) → IsFindingWritten format finding old new (failed fault)
+    → IsOutputWriting bytes (λ _. ⊥) old new (failed fault) → IsFindingWritten format finding old new (failed fault)
 written_in_part format finding text bytes old new fault same report part =
-    part_by format finding text old new fault report (subst (λ b. IsWriting b (λ _. ⊥) old new (failed fault)) same part)
+    part_by format finding text old new fault report (subst (λ b. IsOutputWriting b (λ _. ⊥) old new (failed fault)) same part)
 
 pub unwritten : (format : Format) (finding : Finding) (old : Option (List ℕ)) → IsFindingWritten format finding old old (failed (faults.Map maps.Memory))
 unwritten format finding old = inr (maps.Memory, refl, refl, keeps_same old)

@@ -20,9 +20,9 @@ use Rattle.wf_commands.specs.FailureCount.{CountsReads, CountsWrites}
 use Rattle.wf_commands.specs.ProgramEnd.{left_to_report, rejection_status, reported, run_status, unreadable_status}
 use Rattle.wf_commands.specs.Contents.{Contents}
 use Rattle.wf_commands.specs.Folder.{HasFolderListing, IsTapeDone}
-use Rattle.wf_commands.specs.Program.{IsFarmProcess, IsProcess, IsDone, IsRun, IsRunOf, Serves}
+use Rattle.wf_commands.specs.Program.{IsFarmProcess, IsProcess, IsLineDone, IsRunOfWords, IsRunOf, Serves}
 use Rattle.wf_commands.specs.Run.{HasListing, HasMap, IsTapeWriting, IsWhyListless, IsWhyMapless, most_read}
-use Rattle.wf_commands.specs.ServeRun.{IsLineServed, IsMachineServing, IsServing, run_outcome}
+use Rattle.wf_commands.specs.ServeRun.{IsLineServed, IsMachineServing, IsServeRun, run_outcome}
 use Rattle.wf_commands.specs.declared.program.Ending.{Ending}
 use Rattle.wf_commands.specs.declared.fault.RunFault.{RunFault}
 use Rattle.wf_commands.specs.declared.fault.RunFault.TheVariants as faults
@@ -67,14 +67,14 @@ listing_reads_nothing contents path None old new result count done = elim done [
 ]
 
 module _ (serves : Serves) (contents : Contents) (input left old new : Option (List ℕ)) (reads reads_after writes writes_after : ℕ) (ending : Ending) where
-  pub run_ended : (line : Line) (result : Result (Unit {0}) RunFault) → IsDone serves contents line input old new result → TakesUpTo (most_read line) input left →
+  pub run_ended : (line : Line) (result : Result (Unit {0}) RunFault) → IsLineDone serves contents line input old new result → TakesUpTo (most_read line) input left →
       CountsReads result reads reads_after → CountsWrites result writes writes_after → ending.reported ≡ left_to_report line (reported result) → ending.status ≡ run_status result →
       IsRunOf serves contents line input left old new reads reads_after writes writes_after ending
   run_ended line result done most read written reported_as status = record { result = result; done = done; most = most; read = read; written = written; reported_as = reported_as; status = status }
 
 -- serving nodes, no read of standard input fails
 serving_reads_nothing : (serves : Option (List ℕ) → Option (List ℕ) → Result (Unit {0}) ServeFault → Type 0) (old new : Option (List ℕ)) (result : Result (Unit {0}) RunFault) (count : ℕ) →
-    IsServing serves old new result → CountsReads result count count
+    IsServeRun serves old new result → CountsReads result count count
 serving_reads_nothing serves old new (Ok done) count is = refl
 serving_reads_nothing serves old new (Err faults.Write) count is = refl
 serving_reads_nothing serves old new (Err faults.Serve) count is = refl
@@ -87,7 +87,7 @@ serving_reads_nothing serves old new (Err faults.Wire) count is = absurd is
 
 -- what was served, by the server's result
 outcome_served : (serves : Option (List ℕ) → Option (List ℕ) → Result (Unit {0}) ServeFault → Type 0) (old new : Option (List ℕ)) (outcome : Result (Unit {0}) ServeFault) →
-    serves old new outcome → IsServing serves old new (run_outcome outcome)
+    serves old new outcome → IsServeRun serves old new (run_outcome outcome)
 outcome_served serves old new (Ok done) is = is
 outcome_served serves old new (Err serve.Start) is = is
 outcome_served serves old new (Err serve.Write) is = is
@@ -96,7 +96,7 @@ pub line_served : (serves : Serves) (line : Line) (service : Service) (old new :
     line ≡ lines.Serve service → result ≡ run_outcome outcome → serves service old new outcome → IsLineServed serves line old new result
 line_served serves line service old new outcome result is same served =
     subst (λ (l : Line). IsLineServed serves l old new result) (sym is)
-    (subst (λ (r : Result (Unit {0}) RunFault). IsServing (serves service) old new r) (sym same) (outcome_served (serves service) old new outcome served))
+    (subst (λ (r : Result (Unit {0}) RunFault). IsServeRun (serves service) old new r) (sym same) (outcome_served (serves service) old new outcome served))
 
 counts_outcome : (outcome : Result (Unit {0}) ServeFault) (writes writes_after : ℕ) → serving.CountsWrites outcome writes writes_after → CountsWrites (run_outcome outcome) writes writes_after
 counts_outcome (Ok done) writes writes_after counts = counts
@@ -157,7 +157,7 @@ module _ {T : Type 0} (tapes : Tape T) (status : ℕ) where
       inl (record { words = words; own = own; command = command; asked = asked; result = result; calls = calls; done = begun; is = is })
 
   pub replica_run : (words : List Text) → names_process_command words ≡ true → (line : ReplicaLine) → AsksProcess (subcommand_of process_program words) (processes.Replica line) →
-      (result : Result (Unit {0}) ReplicaFault) → replicas.IsDone tapes line result → (none calls : List Call) → none ≡ [] → IsLineRun line none calls result →
+      (result : Result (Unit {0}) ReplicaFault) → replicas.IsReplicaDone tapes line result → (none calls : List Call) → none ≡ [] → IsLineRun line none calls result →
       status ≡ replicas.replica_status result → IsFarmProcess tapes status
   replica_run words own line asked result done none calls empty folder is =
       let begun : IsLineRun line [] calls result = subst (λ (old : List Call). IsLineRun line old calls result) empty folder in
@@ -169,7 +169,7 @@ module _ {T : Type 0} (tapes : Tape T) (status : ℕ) where
 
 module _ {T : Type 0} (serves : Serves) (contents : Contents) (tapes : Tape T) (status : ℕ) where
   pub process_run : (words : List Text) (input left old new : Option (List ℕ)) (reads reads_after writes writes_after : ℕ) (ending : Ending) →
-      IsRun serves contents words input left old new reads reads_after writes writes_after ending → names_process_command words ≡ false → status ≡ ending.status →
+      IsRunOfWords serves contents words input left old new reads reads_after writes writes_after ending → names_process_command words ≡ false → status ≡ ending.status →
       IsProcess serves contents tapes status
   process_run words input left old new reads reads_after writes writes_after ending run other is = inl (record {
     words = words;

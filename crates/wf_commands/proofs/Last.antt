@@ -5,7 +5,7 @@ use Rattle.wf_play.specs.Fault as played
 use Rattle.wf_play.specs.declared.fault.PlayFault.{PlayFault}
 use Rattle.wf_play.specs.declared.fault.PlayFault.TheVariants as play
 use Rattle.wf_serve.specs.StartFault as counted
-use Rattle.wf_serve.specs.PortLine.{IsEnded}
+use Rattle.wf_serve.specs.PortLine.{IsPortLineEnded}
 use Rattle.wf_serve.specs.declared.fault.ServeFault.{ServeFault}
 use Rattle.wf_serve.specs.declared.fault.ServeFault.TheVariants as serve
 use Rattle.wf_stream.specs.Effects.{EndsByFailing}
@@ -33,7 +33,7 @@ module _ {K : Type 0} (sinks : Sink K) (old new : K) where
   play_fails_last (Err play.Wire) counts ends = none_failed counts
 
   -- of the line with a port
-  pub line_fails_last : (port : ℕ) (result : Result (Unit {0}) ServeFault) → counted.CountsWrites result (sinks.failures old) (sinks.failures new) → IsEnded sinks port old new result
+  pub line_fails_last : (port : ℕ) (result : Result (Unit {0}) ServeFault) → counted.CountsWrites result (sinks.failures old) (sinks.failures new) → IsPortLineEnded sinks port old new result
       → FailsLast sinks old new
   line_fails_last port (Ok done) counts ends = none_failed counts
   line_fails_last port (Err serve.Write) counts ends = one_failed _ ends.2.1

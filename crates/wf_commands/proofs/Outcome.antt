@@ -5,7 +5,7 @@ use Rattle.wf_def.specs.Definition.{Definition}
 use Rattle.wf_def.specs.Limits.{IsWithinLimits}
 use Rattle.wf_mapfile.specs.Meaning.{Means}
 use Rattle.wf_spelling.specs.declared.fault.CanonFault.{CanonFault}
-use Rattle.wf_commands.specs.Run.{IsReadingFault, IsWriting, IsWritingOf, IsOutcome, OfInput}
+use Rattle.wf_commands.specs.Run.{IsReadingFault, IsOutputWriting, IsWritingOf, IsDefinitionOutcome, OfInput}
 use Rattle.wf_commands.specs.FailureCount.{CountsReads, CountsWrites}
 use Rattle.wf_commands.specs.declared.fault.RunFault.{RunFault}
 use Rattle.wf_commands.specs.declared.fault.RunFault.TheVariants as faults
@@ -13,7 +13,7 @@ use Rattle.wf_stream.specs.KnownTheorems.{keeps_same}
 
 module _ (HasOutput : Definition → List ℕ → Type 0) (rejects : CanonFault → Definition → Type 0) (input old new : Option (List ℕ)) where
   pub written_outcome : (result : Result (Unit {0}) RunFault) (d : Definition) (bytes : List ℕ) → OfInput (λ text. Means text d) input → IsWithinLimits d
-      → HasOutput d bytes → IsWriting bytes (λ fault. rejects fault d) old new result → IsOutcome HasOutput rejects input old new result
+      → HasOutput d bytes → IsOutputWriting bytes (λ fault. rejects fault d) old new result → IsDefinitionOutcome HasOutput rejects input old new result
   written_outcome (Ok done) d bytes means within has writes = (d, means, within, (bytes, has, writes))
   written_outcome (Err faults.Write) d bytes means within has writes = (d, means, within, (bytes, has, writes))
   written_outcome (Err (faults.Canon fault)) d bytes means within has writes = ((d, means, within, writes.0), writes.1)
@@ -25,7 +25,7 @@ module _ (HasOutput : Definition → List ℕ → Type 0) (rejects : CanonFault 
   written_outcome (Err faults.Serve) d bytes means within has writes = absurd writes
   written_outcome (Err faults.Wire) d bytes means within has writes = absurd writes
 
-  pub fault_outcome : (fault : RunFault) → IsReadingFault input fault → IsOutcome HasOutput rejects input old old (Err fault)
+  pub fault_outcome : (fault : RunFault) → IsReadingFault input fault → IsDefinitionOutcome HasOutput rejects input old old (Err fault)
   fault_outcome (faults.Map fault) why = (why, keeps_same old)
   fault_outcome (faults.Canon fault) why = absurd why
   fault_outcome (faults.Script fault) why = absurd why
@@ -37,7 +37,7 @@ module _ (HasOutput : Definition → List ℕ → Type 0) (rejects : CanonFault 
 
 -- the same for one of several outputs
 pub one_written_outcome : (HasOutput : Definition → List ℕ → Type 0) (input old new : Option (List ℕ)) (result : Result (Unit {0}) RunFault) (d : Definition)
-    → OfInput (λ text. Means text d) input → IsWithinLimits d → IsWritingOf (HasOutput d) old new result → IsOutcome HasOutput (λ _ _. ⊥) input old new result
+    → OfInput (λ text. Means text d) input → IsWithinLimits d → IsWritingOf (HasOutput d) old new result → IsDefinitionOutcome HasOutput (λ _ _. ⊥) input old new result
 one_written_outcome HasOutput input old new (Ok done) d means within writes = (d, means, within, writes)
 one_written_outcome HasOutput input old new (Err faults.Write) d means within writes = (d, means, within, writes)
 one_written_outcome HasOutput input old new (Err (faults.Canon fault)) d means within writes = absurd writes
@@ -51,7 +51,7 @@ one_written_outcome HasOutput input old new (Err faults.Wire) d means within wri
 
 -- what is written of an output is written of one of them
 pub one_written : (IsOutput : List ℕ → Type 0) (bytes : List ℕ) (old new : Option (List ℕ)) (result : Result (Unit {0}) RunFault) → IsOutput bytes
-    → IsWriting bytes (λ _. ⊥) old new result → IsWritingOf IsOutput old new result
+    → IsOutputWriting bytes (λ _. ⊥) old new result → IsWritingOf IsOutput old new result
 one_written IsOutput bytes old new (Ok done) is writes = (bytes, is, writes)
 one_written IsOutput bytes old new (Err faults.Write) is writes = (bytes, is, writes)
 one_written IsOutput bytes old new (Err (faults.Canon fault)) is writes = absurd writes.0
@@ -64,7 +64,7 @@ one_written IsOutput bytes old new (Err faults.Wire) is writes = absurd writes
 
 -- after the input was read no read fails
 pub no_more_reads : (bytes : List ℕ) (rejects : CanonFault → Type 0) (old new : Option (List ℕ)) (result : Result (Unit {0}) RunFault)
-    (before after : ℕ) → IsWriting bytes rejects old new result → after ≡ before → CountsReads result before after
+    (before after : ℕ) → IsOutputWriting bytes rejects old new result → after ≡ before → CountsReads result before after
 no_more_reads bytes rejects old new (Ok done) before after writes same = same
 no_more_reads bytes rejects old new (Err faults.Write) before after writes same = same
 no_more_reads bytes rejects old new (Err (faults.Canon fault)) before after writes same = same

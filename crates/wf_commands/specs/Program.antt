@@ -14,7 +14,7 @@ use Rattle.wf_commands.specs.ProgramEnd.{left_to_report, rejection_status, repor
 use Rattle.wf_commands.specs.Contents.{Contents}
 use Rattle.wf_commands.specs.Folder.{IsTapeDone}
 use Rattle.wf_commands.specs.Run.{IsOutcomeOf, most_read}
-use Rattle.wf_commands.specs.ServeRun.{IsServing}
+use Rattle.wf_commands.specs.ServeRun.{IsServeRun}
 use Rattle.wf_commands.specs.declared.program.Ending.{Ending}
 use Rattle.wf_commands.specs.declared.fault.RunFault.{RunFault}
 use Rattle.wf_line.specs.declared.command_line.Line.{Line}
@@ -38,22 +38,22 @@ Serves = Service → Option (List ℕ) → Option (List ℕ) → Result (Unit {0
 -- The command of the line was run, with this result: a command about standard input reads and
 -- writes as such, `tape` writes about the tapes at the line's path, and `serve` serves the line's
 -- service.
-abbrev pub IsDone : Serves → Contents → Line → Option (List ℕ) → Option (List ℕ) → Option (List ℕ) → Result (Unit {0}) RunFault → Type 0
-IsDone serves contents (lines.Caps seq query) input old new result = IsOutcomeOf (lines.Caps seq query) input old new result
-IsDone serves contents (lines.Draw query) input old new result = IsOutcomeOf (lines.Draw query) input old new result
-IsDone serves contents lines.Canon input old new result = IsOutcomeOf lines.Canon input old new result
-IsDone serves contents (lines.Check format) input old new result = IsOutcomeOf (lines.Check format) input old new result
-IsDone serves contents lines.Run input old new result = IsOutcomeOf lines.Run input old new result
-IsDone serves contents lines.Wire input old new result = IsOutcomeOf lines.Wire input old new result
-IsDone serves contents (lines.Tape file map) input old new result = IsTapeDone contents file.now map old new result
-IsDone serves contents (lines.Serve service) input old new result = IsServing (serves service) old new result
+abbrev pub IsLineDone : Serves → Contents → Line → Option (List ℕ) → Option (List ℕ) → Option (List ℕ) → Result (Unit {0}) RunFault → Type 0
+IsLineDone serves contents (lines.Caps seq query) input old new result = IsOutcomeOf (lines.Caps seq query) input old new result
+IsLineDone serves contents (lines.Draw query) input old new result = IsOutcomeOf (lines.Draw query) input old new result
+IsLineDone serves contents lines.Canon input old new result = IsOutcomeOf lines.Canon input old new result
+IsLineDone serves contents (lines.Check format) input old new result = IsOutcomeOf (lines.Check format) input old new result
+IsLineDone serves contents lines.Run input old new result = IsOutcomeOf lines.Run input old new result
+IsLineDone serves contents lines.Wire input old new result = IsOutcomeOf lines.Wire input old new result
+IsLineDone serves contents (lines.Tape file map) input old new result = IsTapeDone contents file.now map old new result
+IsLineDone serves contents (lines.Serve service) input old new result = IsServeRun (serves service) old new result
 
 -- The run of a line: by the input before and after, the output before and after, the counts of
 -- failed reads before and after, and those of failed writes.
 pub record IsRunOf (serves : Serves) (contents : Contents) (line : Line) (input left old new : Option (List ℕ)) (reads reads_after writes writes_after : ℕ) (ending : Ending) : Type 0 where
   -- the result of its command
   pub result : Result (Unit {0}) RunFault
-  pub done : IsDone serves contents line input old new result
+  pub done : IsLineDone serves contents line input old new result
   pub most : TakesUpTo (most_read line) input left
   pub read : CountsReads result reads reads_after
   pub written : CountsWrites result writes writes_after
@@ -62,8 +62,8 @@ pub record IsRunOf (serves : Serves) (contents : Contents) (line : Line) (input 
   pub status : ending.status ≡ run_status result
 
 -- The run of a command line's words: that of the line that they ask for.
-abbrev pub IsRun : Serves → Contents → List Text → (input left old new : Option (List ℕ)) → (reads reads_after writes writes_after : ℕ) → Ending → Type 0
-IsRun serves contents words input left old new reads reads_after writes writes_after ending =
+abbrev pub IsRunOfWords : Serves → Contents → List Text → (input left old new : Option (List ℕ)) → (reads reads_after writes writes_after : ℕ) → Ending → Type 0
+IsRunOfWords serves contents words input left old new reads reads_after writes writes_after ending =
     (line : Line) × Asks (subcommand_of program words) line × IsRunOf serves contents line input left old new reads reads_after writes writes_after ending
 
 -- ---- the process
@@ -83,7 +83,7 @@ pub record HasRun (serves : Serves) (contents : Contents) (status : ℕ) : Type 
   pub writes : ℕ
   pub writes_after : ℕ
   pub ending : Ending
-  pub run : IsRun serves contents words input left old new reads reads_after writes writes_after ending
+  pub run : IsRunOfWords serves contents words input left old new reads reads_after writes writes_after ending
   pub is : status ≡ ending.status
 
 -- Its words ask for no line, and it ended with the status of their rejection, by whether its text
@@ -122,7 +122,7 @@ pub record HasRunReplica {T : Type 0} (tapes : Tape T) (status : ℕ) : Type 0 w
   pub line : ReplicaLine
   pub asked : AsksProcess (subcommand_of process_program words) (processes.Replica line)
   pub result : Result (Unit {0}) ReplicaFault
-  pub done : replicas.IsDone tapes line result
+  pub done : replicas.IsReplicaDone tapes line result
   pub calls : List Call
   pub folder : IsLineRun line [] calls result
   pub is : status ≡ replicas.replica_status result

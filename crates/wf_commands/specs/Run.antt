@@ -109,16 +109,16 @@ AppendsPart old new bytes = (count : ℕ) × Appends old new (take count bytes)
 
 -- What is written of an output: all of it; a prefix if the writer failed; nothing if the output
 -- can't be made.
-abbrev pub IsWriting : List ℕ → (CanonFault → Type 0) → Option (List ℕ) → Option (List ℕ) → Result (Unit {0}) RunFault → Type 0
-IsWriting bytes rejects old new (Ok done) = Appends old new bytes
-IsWriting bytes rejects old new (Err faults.Write) = AppendsPart old new bytes
-IsWriting bytes rejects old new (Err (faults.Canon fault)) = rejects fault × Keeps old new
-IsWriting bytes rejects old new (Err (faults.Map fault)) = (is_memory fault ≡ true) × Keeps old new
-IsWriting bytes rejects old new (Err faults.Read) = ⊥
-IsWriting bytes rejects old new (Err (faults.Script fault)) = ⊥
-IsWriting bytes rejects old new (Err (faults.Tape fault)) = ⊥
-IsWriting bytes rejects old new (Err faults.Serve) = ⊥
-IsWriting bytes rejects old new (Err faults.Wire) = ⊥
+abbrev pub IsOutputWriting : List ℕ → (CanonFault → Type 0) → Option (List ℕ) → Option (List ℕ) → Result (Unit {0}) RunFault → Type 0
+IsOutputWriting bytes rejects old new (Ok done) = Appends old new bytes
+IsOutputWriting bytes rejects old new (Err faults.Write) = AppendsPart old new bytes
+IsOutputWriting bytes rejects old new (Err (faults.Canon fault)) = rejects fault × Keeps old new
+IsOutputWriting bytes rejects old new (Err (faults.Map fault)) = (is_memory fault ≡ true) × Keeps old new
+IsOutputWriting bytes rejects old new (Err faults.Read) = ⊥
+IsOutputWriting bytes rejects old new (Err (faults.Script fault)) = ⊥
+IsOutputWriting bytes rejects old new (Err (faults.Tape fault)) = ⊥
+IsOutputWriting bytes rejects old new (Err faults.Serve) = ⊥
+IsOutputWriting bytes rejects old new (Err faults.Wire) = ⊥
 
 -- What is written of one of these outputs: all of it; a prefix if the writer failed; nothing if an
 -- allocation failed before.
@@ -135,17 +135,17 @@ IsWritingOf IsOutput old new (Err faults.Wire) = ⊥
 
 -- What a run writes about the definition that the input means: a whole output of the definition, or
 -- a prefix of one if the writer failed. With any other error nothing is written.
-abbrev pub IsOutcome : (Definition → List ℕ → Type 0) → (CanonFault → Definition → Type 0) → Option (List ℕ) → Option (List ℕ) → Option (List ℕ)
+abbrev pub IsDefinitionOutcome : (Definition → List ℕ → Type 0) → (CanonFault → Definition → Type 0) → Option (List ℕ) → Option (List ℕ) → Option (List ℕ)
     → Result (Unit {0}) RunFault → Type 0
-IsOutcome HasOutput rejects input old new (Ok done) = MeansOne (λ d. (bytes : List ℕ) × HasOutput d bytes × Appends old new bytes) input
-IsOutcome HasOutput rejects input old new (Err faults.Write) = MeansOne (λ d. (bytes : List ℕ) × HasOutput d bytes × AppendsPart old new bytes) input
-IsOutcome HasOutput rejects input old new (Err (faults.Canon fault)) = MeansOne (rejects fault) input × Keeps old new
-IsOutcome HasOutput rejects input old new (Err (faults.Map fault)) = (is_memory fault ≡ false → OfInput MeansNothing input) × Keeps old new
-IsOutcome HasOutput rejects input old new (Err faults.Read) = Keeps old new
-IsOutcome HasOutput rejects input old new (Err (faults.Script fault)) = ⊥
-IsOutcome HasOutput rejects input old new (Err (faults.Tape fault)) = ⊥
-IsOutcome HasOutput rejects input old new (Err faults.Serve) = ⊥
-IsOutcome HasOutput rejects input old new (Err faults.Wire) = ⊥
+IsDefinitionOutcome HasOutput rejects input old new (Ok done) = MeansOne (λ d. (bytes : List ℕ) × HasOutput d bytes × Appends old new bytes) input
+IsDefinitionOutcome HasOutput rejects input old new (Err faults.Write) = MeansOne (λ d. (bytes : List ℕ) × HasOutput d bytes × AppendsPart old new bytes) input
+IsDefinitionOutcome HasOutput rejects input old new (Err (faults.Canon fault)) = MeansOne (rejects fault) input × Keeps old new
+IsDefinitionOutcome HasOutput rejects input old new (Err (faults.Map fault)) = (is_memory fault ≡ false → OfInput MeansNothing input) × Keeps old new
+IsDefinitionOutcome HasOutput rejects input old new (Err faults.Read) = Keeps old new
+IsDefinitionOutcome HasOutput rejects input old new (Err (faults.Script fault)) = ⊥
+IsDefinitionOutcome HasOutput rejects input old new (Err (faults.Tape fault)) = ⊥
+IsDefinitionOutcome HasOutput rejects input old new (Err faults.Serve) = ⊥
+IsDefinitionOutcome HasOutput rejects input old new (Err faults.Wire) = ⊥
 
 -- ---- the outputs about a definition
 
@@ -283,9 +283,9 @@ IsMapWritten content sequence old new result = IsTapeWriting (HasMap content seq
 
 -- the outcome of a command over a reader and a writer; never of `tape` and `serve`
 abbrev pub IsOutcomeOf : Line → Option (List ℕ) → Option (List ℕ) → Option (List ℕ) → Result (Unit {0}) RunFault → Type 0
-IsOutcomeOf (lines.Caps seq query) input old new result = IsOutcome (IsDescription seq query.now) (λ _ _. ⊥) input old new result
-IsOutcomeOf (lines.Draw query) input old new result = IsOutcome (IsPreview query.now) (λ _ _. ⊥) input old new result
-IsOutcomeOf lines.Canon input old new result = IsOutcome IsCanonical IsCauseOf input old new result
+IsOutcomeOf (lines.Caps seq query) input old new result = IsDefinitionOutcome (IsDescription seq query.now) (λ _ _. ⊥) input old new result
+IsOutcomeOf (lines.Draw query) input old new result = IsDefinitionOutcome (IsPreview query.now) (λ _ _. ⊥) input old new result
+IsOutcomeOf lines.Canon input old new result = IsDefinitionOutcome IsCanonical IsCauseOf input old new result
 IsOutcomeOf (lines.Check format) input old new result = IsChecked format input old new result
 IsOutcomeOf lines.Run input old new result = IsPlayed ⊥ input old new result
 IsOutcomeOf lines.Wire input old new result = IsPlayed (Unit {0}) input old new result

@@ -19,17 +19,17 @@ run_outcome (Err serving.Write) = Err faults.Write
 
 -- The nodes were served, by the program's result. `serves` is what that means for the bytes written
 -- before and after, and the server's result.
-abbrev pub IsServing : (Option (List ℕ) → Option (List ℕ) → Result (Unit {0}) ServeFault → Type 0) → Option (List ℕ) → Option (List ℕ)
+abbrev pub IsServeRun : (Option (List ℕ) → Option (List ℕ) → Result (Unit {0}) ServeFault → Type 0) → Option (List ℕ) → Option (List ℕ)
     → Result (Unit {0}) RunFault → Type 0
-IsServing serves old new (Ok done) = serves old new (Ok done)
-IsServing serves old new (Err faults.Write) = serves old new (Err serving.Write)
-IsServing serves old new (Err faults.Serve) = serves old new (Err serving.Start)
-IsServing serves old new (Err (faults.Map fault)) = ⊥
-IsServing serves old new (Err (faults.Canon fault)) = ⊥
-IsServing serves old new (Err (faults.Script fault)) = ⊥
-IsServing serves old new (Err (faults.Tape fault)) = ⊥
-IsServing serves old new (Err faults.Read) = ⊥
-IsServing serves old new (Err faults.Wire) = ⊥
+IsServeRun serves old new (Ok done) = serves old new (Ok done)
+IsServeRun serves old new (Err faults.Write) = serves old new (Err serving.Write)
+IsServeRun serves old new (Err faults.Serve) = serves old new (Err serving.Start)
+IsServeRun serves old new (Err (faults.Map fault)) = ⊥
+IsServeRun serves old new (Err (faults.Canon fault)) = ⊥
+IsServeRun serves old new (Err (faults.Script fault)) = ⊥
+IsServeRun serves old new (Err (faults.Tape fault)) = ⊥
+IsServeRun serves old new (Err faults.Read) = ⊥
+IsServeRun serves old new (Err faults.Wire) = ⊥
 
 -- the line is `serve`
 abbrev pub IsOfService : Line → Type 0
@@ -46,7 +46,7 @@ IsOfService lines.Wire = ⊥
 -- a service.
 abbrev pub IsLineServed : (Service → Option (List ℕ) → Option (List ℕ) → Result (Unit {0}) ServeFault → Type 0) → Line → Option (List ℕ) → Option (List ℕ)
     → Result (Unit {0}) RunFault → Type 0
-IsLineServed serves (lines.Serve service) old new result = IsServing (serves service) old new result
+IsLineServed serves (lines.Serve service) old new result = IsServeRun (serves service) old new result
 IsLineServed serves (lines.Caps seq query) old new result = ⊥
 IsLineServed serves (lines.Draw query) old new result = ⊥
 IsLineServed serves lines.Canon old new result = ⊥

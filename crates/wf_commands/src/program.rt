@@ -8,7 +8,7 @@ ghost use Rattle.wf_line.specs.Line.{IsInRange};
 ghost use Rattle.wf_commands.specs.FailureCount.{CountsWrites, FailsLast};
 ghost use Rattle.wf_commands.specs.Contents.{nothing_known};
 ghost use Rattle.wf_commands.specs.ProgramEnd.{is_found, is_written, left_to_report, run_status, reported, rejection_status, unreadable_status};
-ghost use Rattle.wf_commands.specs.Program.{IsFarmProcess, IsProcess, IsRun};
+ghost use Rattle.wf_commands.specs.Program.{IsFarmProcess, IsProcess, IsRunOfWords};
 ghost use Rattle.wf_line.specs.ProcessCommandLine.{names_process_command};
 ghost use Rattle.wf_node_command.specs.Done.{command_status};
 ghost use Rattle.wf_replica_command.specs.Done.{replica_status};
@@ -171,7 +171,7 @@ pub fn run_words<'a, S: AsStr, I: Source, K: Sink, V: NodeServer + Tapes<'a>, C:
     server: &V,
     carrier: &mut C,
 ) -> Result<Ending, Error>
-    ensures run { IfOk result (IsRun (V.serves server.now) (V.content server.now)
+    ensures run { IfOk result (IsRunOfWords (V.serves server.now) (V.content server.now)
         (map S.text words.entry.now)
         (I.left source.old) (I.left source.new) (K.written sink.old) (K.written sink.new)
         (I.failures source.old) (I.failures source.new)

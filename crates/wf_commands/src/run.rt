@@ -9,7 +9,7 @@ ghost use Rattle.wf_ballot.specs.Sequence.{last_sequence};
 ghost use Rattle.wf_line.specs.Line.{IsInRange, IsOfInput};
 ghost use Rattle.wf_stream.specs.Effects.{TakesUpTo};
 ghost use Rattle.wf_script.specs.Lines.{most_script_bytes};
-ghost use Rattle.wf_commands.specs.Run.{most_checked_bytes, most_input_bytes, most_read, IsInputFault, IsMapFault, IsReadingFault, IsWriting, IsWritingOf, IsOutcome, IsOutcomeOf, IsCanonical, IsDescription, IsPreview, IsPlayed, OfInput};
+ghost use Rattle.wf_commands.specs.Run.{most_checked_bytes, most_input_bytes, most_read, IsInputFault, IsMapFault, IsReadingFault, IsOutputWriting, IsWritingOf, IsDefinitionOutcome, IsOutcomeOf, IsCanonical, IsDescription, IsPreview, IsPlayed, OfInput};
 ghost use Rattle.wf_commands.specs.FailureCount.{CountsReads, CountsWrites, FailsLast};
 
 use crate::fault::RunFault;
@@ -91,7 +91,7 @@ fn map<S: Source>(alloc: Global, source: &mut S) -> Result<MapDef, RunFault>
 
 #[tactic(auto, using(crate::proofs::Last::none_failed, crate::proofs::Last::one_failed))]
 pub(crate) fn write<K: Sink>(sink: &mut K, bytes: &[u8]) -> Result<(), RunFault>
-    ensures written { IsWriting bytes.now (λ _. ⊥) (K.written sink.old) (K.written sink.new)
+    ensures written { IsOutputWriting bytes.now (λ _. ⊥) (K.written sink.old) (K.written sink.new)
         result }
     ensures writes { CountsWrites result (K.failures sink.old) (K.failures sink.new) }
     ensures last { FailsLast K.Sink sink.old sink.new }
@@ -112,7 +112,7 @@ fn write_answer<K: Sink>(
     query: &[u8],
 ) -> Result<(), RunFault>
     requires { seq ≤ last_sequence }
-    ensures written { IsWriting (description seq map.now query.now).bytes (λ _. ⊥)
+    ensures written { IsOutputWriting (description seq map.now query.now).bytes (λ _. ⊥)
         (K.written sink.old) (K.written sink.new) result }
     ensures writes { CountsWrites result (K.failures sink.old) (K.failures sink.new) }
     ensures last { FailsLast K.Sink sink.old sink.new }
@@ -145,7 +145,7 @@ fn write_preview<K: Sink>(
 // Writes the canonical text of a map.
 #[tactic(auto, using(crate::proofs::Last::none_failed))]
 fn write_canonical<K: Sink>(alloc: Global, map: &MapDef, sink: &mut K) -> Result<(), RunFault>
-    ensures written { IsWriting (canon map.now) (λ fault. IsCauseOf fault map.now)
+    ensures written { IsOutputWriting (canon map.now) (λ fault. IsCauseOf fault map.now)
         (K.written sink.old) (K.written sink.new) result }
     ensures writes { CountsWrites result (K.failures sink.old) (K.failures sink.new) }
     ensures last { FailsLast K.Sink sink.old sink.new }
@@ -171,7 +171,7 @@ pub fn run_caps<S: Source, K: Sink>(
     query: &[u8],
 ) -> Result<(), RunFault>
     requires { seq ≤ last_sequence }
-    ensures outcome { IsOutcome (IsDescription seq query.now) (λ _ _. ⊥)
+    ensures outcome { IsDefinitionOutcome (IsDescription seq query.now) (λ _ _. ⊥)
         (S.left source.old) (K.written sink.old) (K.written sink.new) result }
     ensures most { TakesUpTo most_input_bytes (S.left source.old) (S.left source.new) }
     ensures reads { CountsReads result (S.failures source.old) (S.failures source.new) }
@@ -197,7 +197,7 @@ pub fn run_draw<S: Source, K: Sink>(
     sink: &mut K,
     query: &[u8],
 ) -> Result<(), RunFault>
-    ensures outcome { IsOutcome (IsPreview query.now) (λ _ _. ⊥)
+    ensures outcome { IsDefinitionOutcome (IsPreview query.now) (λ _ _. ⊥)
         (S.left source.old) (K.written sink.old) (K.written sink.new) result }
     ensures most { TakesUpTo most_input_bytes (S.left source.old) (S.left source.new) }
     ensures reads { CountsReads result (S.failures source.old) (S.failures source.new) }
@@ -222,7 +222,7 @@ pub fn run_canon<S: Source, K: Sink>(
     source: &mut S,
     sink: &mut K,
 ) -> Result<(), RunFault>
-    ensures outcome { IsOutcome IsCanonical IsCauseOf
+    ensures outcome { IsDefinitionOutcome IsCanonical IsCauseOf
         (S.left source.old) (K.written sink.old) (K.written sink.new) result }
     ensures most { TakesUpTo most_input_bytes (S.left source.old) (S.left source.new) }
     ensures reads { CountsReads result (S.failures source.old) (S.failures source.new) }

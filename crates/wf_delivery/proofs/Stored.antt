@@ -5,7 +5,7 @@ use Rattle.wf_canon.proofs.MeaningTheorem.{one_definition}
 use Rattle.wf_journal.proofs.Lists.{one_reading, reads_only}
 use Rattle.wf_model.specs.World as world
 use Rattle.wf_tape.specs.MemoryTape as tape
-use Rattle.wf_tape.specs.Tape.{IsBeginning}
+use Rattle.wf_tape.specs.Tape.{IsPrefixOf}
 
 abbrev pub node_of : DurableState Definition → Option (VolatileState Definition) → world.Node Definition
 node_of stored volatile = record { stored = stored; volatile = volatile }
@@ -24,10 +24,10 @@ pub one_stand : (bytes : List ℕ) (stored others : DurableState Definition) →
 one_stand bytes stored others first second =
     same_Some stored others (sym first.folds ∙ ap fold (read_one_way bytes first.records second.records first.reads second.reads) ∙ second.folds)
 
-pub begins_itself : (bytes : List ℕ) → IsBeginning bytes bytes
+pub begins_itself : (bytes : List ℕ) → IsPrefixOf bytes bytes
 begins_itself bytes = ([], sym (append-nil bytes))
 
-pub begins_taken : (n : ℕ) (bytes : List ℕ) → IsBeginning (take n bytes) bytes
+pub begins_taken : (n : ℕ) (bytes : List ℕ) → IsPrefixOf (take n bytes) bytes
 begins_taken n bytes = (drop n bytes, sym (take-append-drop n bytes))
 
 -- the whole contents of a tape are an image of it

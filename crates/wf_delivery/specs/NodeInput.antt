@@ -40,7 +40,7 @@ MayBeLost m node = HasDefinition (message.view m) ⊎ TakesMemory node (table.De
 module _ {T : Type 0} (tapes : Tape T) where
   -- An allocation failed before the node had done anything, so the input is lost: the node, which
   -- isn't halted, is unchanged but for its tape, whose content is unchanged too, and sends nothing.
-  pub record IsLost (before after : Node T) (outputs : List Message) : Type 0 where
+  pub record IsInputLost (before after : Node T) (outputs : List Message) : Type 0 where
     pub runs : before.halted ≡ false
     pub still : after.halted ≡ false
     pub same : IsSameNode before after
@@ -64,7 +64,7 @@ module _ {T : Type 0} (tapes : Tape T) where
   -- What it does with an input, by whether that is lost.
   abbrev pub Takes : Bool → Input Definition → Node T → Node T → List Message → Type 0
   Takes false input before after outputs = Answers input before after outputs
-  Takes true input before after outputs = IsLost before after outputs
+  Takes true input before after outputs = IsInputLost before after outputs
 
   -- Where the tape won't fail, a node that isn't halted still isn't, and the tape still won't.
   abbrev pub IsSturdy : Node T → Node T → Type 0

@@ -32,7 +32,8 @@ ReachSending stands nodes outputs nodes_after = (w : World Definition) (sent : L
 unfoldable pub Reach : {T : Type 0} → (ℕ → DurableState Definition → Type 0) → List (Node T) → List (Node T) → Type 0
 Reach stands nodes nodes_after = (w : World Definition) (sent : List Message) → Refines stands nodes sent w → IsReachableFrom stands w nodes_after
 
--- ---- the same over any kind of tape, and over a durable one for whatever bytes a crash leaves of the tapes that failed
+-- ---- the same over any kind of tape, and over a durable one for whatever bytes a crash leaves of
+-- the tapes that failed
 
 module _ {T : Type 0} (tapes : Tape T) where
   -- Some events lead to what the nodes are afterwards, and send these messages. A node whose tape

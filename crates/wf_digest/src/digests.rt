@@ -47,7 +47,8 @@ impl Digests {
     /// Goes on to the last published sequence of a history, if these are the digests of a front of
     /// it. The only error is allocation failure, which changes nothing.
     pub fn extend(&mut self, history: &History) -> Result<(), AllocError>
-        ensures ok { OnOk result ((k : ℕ) → AreDigestsOf (take k history.now.definitions) self.old → AreDigestsOf history.now.definitions self.new) }
+        ensures ok { OnOk result ((k : ℕ) → AreDigestsOf (take k history.now.definitions) self.old →
+            AreDigestsOf history.now.definitions self.new) }
         ensures err { OnErr result (self.new ≡ self.old) }
     {
         let count = history.published().number() as usize + 1;
@@ -60,8 +61,10 @@ impl Digests {
     /// The digest at a sequence; None above the one to which they go.
     pub fn at(&self, seq: Seq) -> Option<[u8; 32]>
         ensures value { result ≡ slice_get self.now seq }
-        ensures of_history { (history : List Definition) → AreDigestsOf history self.now → seq ≤ length history → result ≡ Some (digest_at history seq) }
-        ensures above { (history : List Definition) → AreDigestsOf history self.now → length history < seq → result ≡ None }
+        ensures of_history { (history : List Definition) → AreDigestsOf history self.now →
+            seq ≤ length history → result ≡ Some (digest_at history seq) }
+        ensures above { (history : List Definition) → AreDigestsOf history self.now →
+            length history < seq → result ≡ None }
     {
         get(&self.digests, seq)
     }
@@ -76,7 +79,8 @@ fn extend_to(digests: &mut Vec<[u8; 32]>, history: &History, count: usize)
     requires all { count ≡ length history.now.definitions + 1 }
     requires room { vec_len digests.old + (count - vec_len digests.old) ≤ vec_capacity digests.old }
     ensures some { 1 ≤ vec_len digests.new }
-    ensures value { (k : ℕ) → AreDigestsOf (take k history.now.definitions) digests.old.items → AreDigestsOf history.now.definitions digests.new.items }
+    ensures value { (k : ℕ) → AreDigestsOf (take k history.now.definitions) digests.old.items →
+        AreDigestsOf history.now.definitions digests.new.items }
 {
     while digests.len() < count {
         append_next(digests, history);
@@ -91,7 +95,9 @@ fn append_next(digests: &mut Vec<[u8; 32]>, history: &History)
     requires room { vec_len digests.old < vec_capacity digests.old }
     ensures len { vec_len digests.new ≡ vec_len digests.old + 1 }
     ensures capacity { vec_capacity digests.old ≤ vec_capacity digests.new }
-    ensures value { AreDigestsOf (take (vec_len digests.old - 1) history.now.definitions) digests.old.items → AreDigestsOf (take (vec_len digests.old) history.now.definitions) digests.new.items }
+    ensures value { AreDigestsOf (take (vec_len digests.old - 1) history.now.definitions)
+        digests.old.items →
+        AreDigestsOf (take (vec_len digests.old) history.now.definitions) digests.new.items }
 {
     // A history is no longer than there are slots.
     let _ = history.published();
@@ -108,7 +114,9 @@ fn push_next(digests: &mut Vec<[u8; 32]>, canon: &Canon)
     requires room { vec_len digests.old < vec_capacity digests.old }
     ensures len { vec_len digests.new ≡ vec_len digests.old + 1 }
     ensures capacity { vec_capacity digests.old ≤ vec_capacity digests.new }
-    ensures items { (last : List ℕ) → slice_get digests.old.items (vec_len digests.old - 1) ≡ Some last → digests.new.items ≡ digests.old.items ++ next_digest last canon.now ∷ [] }
+    ensures items { (last : List ℕ) →
+        slice_get digests.old.items (vec_len digests.old - 1) ≡ Some last →
+        digests.new.items ≡ digests.old.items ++ next_digest last canon.now ∷ [] }
 {
     let next = next_digest(&digests[digests.len() - 1], canon);
     digests.push_reserved(next);

@@ -4,7 +4,7 @@ use Rattle.std.proofs.lemmas.List.{take-append-drop}
 use Rattle.wf_disk.specs.declared.fault.DiskFault.{DiskFault}
 use Rattle.wf_disk.specs.declared.fault.DiskFault.TheVariants.{Device, Memory}
 use Rattle.wf_disk.specs.declared.folder.Name.{Name}
-use Rattle.wf_disk.specs.Moments.{IsBeginning}
+use Rattle.wf_disk.specs.Moments.{IsPrefixOf}
 use Rattle.wf_disk.specs.Folder.{Folder}
 use Rattle.wf_disk.specs.Call.{Open, Append, Rename, IsLeft}
 use Rattle.wf_disk.specs.MemoryDisk.{fault_after}
@@ -28,11 +28,11 @@ pub rename_short : (old new : Folder) (fault after : Option DiskFault) → IsLef
 rename_short old new fault after left is = subst (λ (f : Option DiskFault). IsLeft Rename old f new) (sym is) (renamed old new fault left)
 
 -- a prefix of a prefix is one
-begins_too : (a b c : List ℕ) → IsBeginning a b → IsBeginning b c → IsBeginning a c
+begins_too : (a b c : List ℕ) → IsPrefixOf a b → IsPrefixOf b c → IsPrefixOf a c
 begins_too a b c first second = (first.0 ++ second.0, second.1 ∙ ap (λ (t : List ℕ). t ++ second.0) first.1 ∙ append_assoc a first.0 second.0)
 
 -- Of an append the first bytes were appended, or fewer.
-appended : (name : Name) (front bytes : List ℕ) (old new : Folder) (fault : Option DiskFault) → IsBeginning front bytes → IsLeft (Append name front) old fault new → IsLeft (Append name bytes) old (Some (fault_after fault)) new
+appended : (name : Name) (front bytes : List ℕ) (old new : Folder) (fault : Option DiskFault) → IsPrefixOf front bytes → IsLeft (Append name front) old fault new → IsLeft (Append name bytes) old (Some (fault_after fault)) new
 appended name front bytes old new None begins left = (front, begins, left.1)
 appended name front bytes old new (Some Device) begins left = (left.0, begins_too left.0 front bytes left.1 begins, left.2)
 appended name front bytes old new (Some Memory) begins left = left
@@ -40,5 +40,5 @@ appended name front bytes old new (Some Memory) begins left = left
 pub append_short : (name : Name) (kept : ℕ) (front bytes : List ℕ) (old new : Folder) (fault after : Option DiskFault) → front ≡ take kept bytes → IsLeft (Append name front) old fault new → after ≡ Some (fault_after fault) →
     IsLeft (Append name bytes) old after new
 append_short name kept front bytes old new fault after front_is left is =
-    let begins : IsBeginning front bytes = (drop kept bytes, sym (take-append-drop kept bytes) ∙ ap (λ (t : List ℕ). t ++ drop kept bytes) (sym front_is)) in
+    let begins : IsPrefixOf front bytes = (drop kept bytes, sym (take-append-drop kept bytes) ∙ ap (λ (t : List ℕ). t ++ drop kept bytes) (sym front_is)) in
     subst (λ (f : Option DiskFault). IsLeft (Append name bytes) old f new) (sym is) (appended name front bytes old new fault begins left)

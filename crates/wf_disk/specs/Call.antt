@@ -4,7 +4,7 @@ use Rattle.wf_disk.specs.declared.fault.DiskFault.{DiskFault}
 use Rattle.wf_disk.specs.declared.fault.DiskFault.TheVariants.{Device, Memory}
 use Rattle.wf_disk.specs.declared.folder.Name.{Name}
 use Rattle.wf_disk.specs.declared.folder.Name.TheVariants.{Own, Second}
-use Rattle.wf_disk.specs.Moments.{IsBeginning, HasRisen}
+use Rattle.wf_disk.specs.Moments.{IsPrefixOf, HasRisen}
 use Rattle.wf_disk.specs.Folder.{File, Folder, bytes_of, empty_file, whole}
 
 -- a call of a disk
@@ -83,7 +83,7 @@ HasItsFile call folder = Unit {0}
 -- file; to open or to rename has been done or not; to make may have changed the second file,
 -- whatever it is then.
 abbrev pub IsCut : Call → Folder → Folder → Type 0
-IsCut (Append name bytes) old new = (front : List ℕ) × IsBeginning front bytes × (new ≡ changed_at name (extended front) old)
+IsCut (Append name bytes) old new = (front : List ℕ) × IsPrefixOf front bytes × (new ≡ changed_at name (extended front) old)
 IsCut (Sync name) old new = new ≡ changed_at name doubted old
 IsCut Open old new = (new ≡ old) ⊎ (new ≡ done Open old)
 IsCut Rename old new = (new ≡ old) ⊎ (new ≡ done Rename old)
@@ -104,5 +104,5 @@ pub record IsCounted {A : Type 0} (before now : ℕ) (result : Result A DiskFaul
   pub none : (IsErrOf result Device → ⊥) → now ≡ before
 
 -- allocation didn't fail
-abbrev pub IsNotMemory : {A : Type 0} → Result A DiskFault → Type 0
-IsNotMemory result = IsErrOf result Memory → ⊥
+abbrev pub IsNotOutOfMemory : {A : Type 0} → Result A DiskFault → Type 0
+IsNotOutOfMemory result = IsErrOf result Memory → ⊥

@@ -1,7 +1,7 @@
 -- A folder with one file under its own name and one under a second name, and what a power cut may
 -- leave of it.
 use Rattle.std.specs.Prelude.{◌≡◌, ◌⊎◌, ℕ, Bool, false, List, [], ◌∷◌, ◌++◌, Option, Some, None}
-use Rattle.wf_disk.specs.Moments.{IsBeginning}
+use Rattle.wf_disk.specs.Moments.{IsPrefixOf}
 
 -- A file: the bytes that are synced, and those after them that aren't. It is doubtful from its
 -- first failed sync on: the system may have dropped what that sync didn't write, so a later one may
@@ -38,7 +38,7 @@ whole bytes = record { synced = bytes; rest = []; doubtful = false }
 -- A power cut leaves of a file the synced bytes and a prefix of the rest, and of no file no bytes.
 unfoldable pub IsLeftOf : Option File → List ℕ → Type 0
 IsLeftOf None image = image ≡ []
-IsLeftOf (Some file) image = (kept : List ℕ) × IsBeginning kept file.rest × (image ≡ file.synced ++ kept)
+IsLeftOf (Some file) image = (kept : List ℕ) × IsPrefixOf kept file.rest × (image ≡ file.synced ++ kept)
 
 -- it leaves this of one of these files
 unfoldable pub IsLeftOfOne : List (Option File) → List ℕ → Type 0
@@ -59,8 +59,8 @@ pub record IsCrashed (old new : Folder) : Type 0 where
 
 -- The end of a process: it is killed, and the folder stays as it is, unsynced bytes and names too;
 -- or the power is cut.
-abbrev pub IsEnded : Folder → Folder → Type 0
-IsEnded old new = (new ≡ old) ⊎ IsCrashed old new
+abbrev pub IsProcessEnded : Folder → Folder → Type 0
+IsProcessEnded old new = (new ≡ old) ⊎ IsCrashed old new
 
 -- the own file is there, and its bytes and its name are synced
 pub record IsSynced (folder : Folder) (bytes : List ℕ) : Type 0 where

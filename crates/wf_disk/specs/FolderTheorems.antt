@@ -2,17 +2,17 @@
 use Rattle.std.specs.Prelude.{◌≡◌, ◌⊎◌, ℕ, zero, suc, List, [], ◌∷◌, ◌++◌, length, take, drop, slice_index_or, Option, Some, None, option_map}
 use Rattle.std.proofs.Common.{refl, sym, ap, subst, ◌∙◌, inl, inr}
 use Rattle.std.proofs.lemmas.List.{append-nil, take-append-drop, take_at}
-use Rattle.wf_disk.specs.Moments.{IsBeginning}
-use Rattle.wf_disk.specs.Folder.{File, Folder, bytes_in, whole, IsLeftOf, IsLeftOfOne, MayLeave, IsCrashed, IsEnded, IsSynced}
+use Rattle.wf_disk.specs.Moments.{IsPrefixOf}
+use Rattle.wf_disk.specs.Folder.{File, Folder, bytes_in, whole, IsLeftOf, IsLeftOfOne, MayLeave, IsCrashed, IsProcessEnded, IsSynced}
 use Rattle.wf_disk.specs.MemoryDisk.{left_by, cut_to}
 
 -- However a process ends, under the own name is then what a power cut may leave.
 abbrev pub EndsInAnImage : Type 0
-EndsInAnImage = (old new : Folder) → IsEnded old new → MayLeave old (bytes_in new.own)
+EndsInAnImage = (old new : Folder) → IsProcessEnded old new → MayLeave old (bytes_in new.own)
 
 -- What is synced is there however the process ends, and nothing else is.
 abbrev pub SyncedBytesStay : Type 0
-SyncedBytesStay = (old new : Folder) (bytes : List ℕ) → IsSynced old bytes → IsEnded old new → bytes_in new.own ≡ bytes
+SyncedBytesStay = (old new : Folder) (bytes : List ℕ) → IsSynced old bytes → IsProcessEnded old new → bytes_in new.own ≡ bytes
 
 -- A second power cut changes nothing of the bytes.
 abbrev pub CutsOnce : Type 0
@@ -30,7 +30,7 @@ ends_in_an_image old new ended = elim ended [
   | inr crashed ↦ crashed.left
 ]
 
-nil_begins : (kept : List ℕ) → IsBeginning kept [] → kept ≡ []
+nil_begins : (kept : List ℕ) → IsPrefixOf kept [] → kept ≡ []
 nil_begins [] begins = refl
 nil_begins (byte ∷ kept) begins = absurd (cc begins.1)
 

@@ -26,8 +26,8 @@ abbrev pub moment_of : DiskValue → ℕ
 moment_of disk = length disk.past
 
 -- what a power cut at this moment or a later one, up to now, could have left
-abbrev pub IsLeftSince : DiskValue → ℕ → List ℕ → Type 0
-IsLeftSince disk moment image = WasLeft (disk.folder ∷ disk.past) moment image
+abbrev pub IsFileLeftSince : DiskValue → ℕ → List ℕ → Type 0
+IsFileLeftSince disk moment image = WasLeft (disk.folder ∷ disk.past) moment image
 
 -- one more failure, unless the count is at its highest
 unfoldable pub risen : ℕ → ℕ

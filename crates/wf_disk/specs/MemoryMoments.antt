@@ -3,7 +3,7 @@ use Rattle.std.specs.Prelude.{ℕ, ◌≤◌, List, [], ◌∷◌, length}
 use Rattle.std.proofs.Common.{inl, inr, le_refl, le_trans, le_of_lt, lt_irrefl, lt_of_lt_of_le}
 use Rattle.wf_disk.specs.Moments.{LeavesNow, AreNested}
 use Rattle.wf_disk.specs.Folder.{Folder, MayLeave}
-use Rattle.wf_disk.specs.MemoryDisk.{DiskValue, WasLeft, IsLeftSince, moment_of}
+use Rattle.wf_disk.specs.MemoryDisk.{DiskValue, WasLeft, IsFileLeftSince, moment_of}
 
 -- no folder stood at a moment that hasn't come
 pub none_later : (folders : List Folder) (moment : ℕ) (image : List ℕ) → length folders ≤ moment → WasLeft folders moment image → ⊥
@@ -14,7 +14,7 @@ none_later (folder ∷ older) moment image late left = elim left [
   | inr before ↦ none_later older moment image (le_of_lt late) before
 ]
 
-pub memory_now : (disk : DiskValue) → LeavesNow (MayLeave disk.folder) (IsLeftSince disk (moment_of disk))
+pub memory_now : (disk : DiskValue) → LeavesNow (MayLeave disk.folder) (IsFileLeftSince disk (moment_of disk))
 unfolding WasLeft
 memory_now disk = record {
   counts = λ image is. inl (le_refl (length disk.past), is);
@@ -32,5 +32,5 @@ left_earlier (folder ∷ older) moment later image before left = elim left [
   | inr past ↦ inr (left_earlier older moment later image before past)
 ]
 
-pub memory_nested : (disk : DiskValue) → AreNested (IsLeftSince disk)
+pub memory_nested : (disk : DiskValue) → AreNested (IsFileLeftSince disk)
 memory_nested disk = left_earlier (disk.folder ∷ disk.past)

@@ -2,8 +2,8 @@
 use Rattle.std.specs.Prelude.{◌≡◌, ◌⊎◌, ◌<◌, ◌≤◌, ℕ, List, ◌++◌}
 
 -- the first bytes are a prefix of the second
-abbrev pub IsBeginning : List ℕ → List ℕ → Type 0
-IsBeginning front bytes = (rest : List ℕ) × (bytes ≡ front ++ rest)
+abbrev pub IsPrefixOf : List ℕ → List ℕ → Type 0
+IsPrefixOf front bytes = (rest : List ℕ) × (bytes ≡ front ++ rest)
 
 -- each image was one before
 abbrev pub LeavesNoOther : (List ℕ → Type 0) → (List ℕ → Type 0) → Type 0

@@ -2,7 +2,7 @@ ghost use Rattle.std.specs.Prelude.{◌≡◌, ℕ, List, Option, None, IfOk};
 ghost use Rattle.std.specs.declared.io.ErrorKind.{ErrorKind as ErrorKindValue};
 ghost use Rattle.wf_disk.specs.Moments.{Elapses, LeavesNow, AreNested, LeavesOldOrNew};
 ghost use Rattle.wf_disk.specs.Folder.{Folder, MayLeave, bytes_in};
-ghost use Rattle.wf_disk.specs.Call.{Open, Make, Append, Sync, Rename, SyncNames, Read, IsLeft, IsCounted, IsNotMemory, error_of};
+ghost use Rattle.wf_disk.specs.Call.{Open, Make, Append, Sync, Rename, SyncNames, Read, IsLeft, IsCounted, IsNotOutOfMemory, error_of};
 
 use crate::fault::DiskFault;
 use crate::folder::Name;
@@ -70,7 +70,7 @@ pub trait Disk {
     fn sync(&mut self, name: Name) -> Result<(), DiskFault>
         ensures leaves { durable →
             IsLeft (Sync name) (folder self.old) (error_of result) (folder self.new) }
-        ensures memory { IsNotMemory result }
+        ensures memory { IsNotOutOfMemory result }
         ensures time { durable → Elapses
             (moment self.old) (moment self.new) (left_since self.old) (left_since self.new) }
         ensures inside { durable → LeavesOldOrNew (MayLeave (folder self.old))
@@ -92,7 +92,7 @@ pub trait Disk {
     fn sync_names(&mut self) -> Result<(), DiskFault>
         ensures leaves { durable →
             IsLeft SyncNames (folder self.old) (error_of result) (folder self.new) }
-        ensures memory { IsNotMemory result }
+        ensures memory { IsNotOutOfMemory result }
         ensures time { durable → Elapses
             (moment self.old) (moment self.new) (left_since self.old) (left_since self.new) }
         ensures inside { durable → LeavesOldOrNew (MayLeave (folder self.old))

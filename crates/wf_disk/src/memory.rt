@@ -143,7 +143,7 @@ fn burn(call: usize, kept: usize) -> Option<usize>
 }
 
 impl Disk for MemoryDisk {
-    ghost use Rattle.wf_disk.specs.MemoryDisk.{moment_of, IsLeftSince};
+    ghost use Rattle.wf_disk.specs.MemoryDisk.{moment_of, IsFileLeftSince};
     ghost use Rattle.wf_disk.specs.MemoryMoments.{memory_now, memory_nested};
 
     ghost durable = { Unit {0} };
@@ -154,7 +154,7 @@ impl Disk for MemoryDisk {
 
     ghost moment = { moment_of };
 
-    ghost left_since = { IsLeftSince };
+    ghost left_since = { IsFileLeftSince };
 
     ghost is_now = { λ _. memory_now };
 

@@ -56,7 +56,8 @@ impl TextLine {
     // Appends the state of a proposal.
     fn push_proposal_state(&mut self, proposal_state: ProposalState)
         requires { length self.old.bytes.items + 30 ≤ most_line_bytes }
-        ensures text { self.new.bytes.items ≡ self.old.bytes.items ++ proposal_state_words proposal_state }
+        ensures text { self.new.bytes.items ≡
+            self.old.bytes.items ++ proposal_state_words proposal_state }
         ensures size { length self.new.bytes.items ≤ length self.old.bytes.items + 30 }
     {
         match proposal_state {
@@ -81,7 +82,8 @@ impl TextLine {
     #[tactic(auto, unfolding(crate::specs::Page::at_offset))]
     fn push_at_offset(&mut self, number: &str, byte_offset: usize)
         requires { length self.old.bytes.items + length number.now + 21 ≤ most_line_bytes }
-        ensures text { self.new.bytes.items ≡ self.old.bytes.items ++ at_offset number.now byte_offset }
+        ensures text { self.new.bytes.items ≡
+            self.old.bytes.items ++ at_offset number.now byte_offset }
         ensures size { length self.new.bytes.items
             ≤ length self.old.bytes.items + length number.now + 21 }
     {

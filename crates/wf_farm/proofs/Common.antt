@@ -42,7 +42,7 @@ pub use Rattle.wf_delivery.specs.Delivery.{AnyPart, AreChanged, AreHandedOut, Ch
 unfoldable pub use Rattle.wf_delivery.specs.Delivery.{MayLeaveOfEach, NoneHalted, StandAmong}
 pub use Rattle.wf_farm.specs.Event.{view}
 pub use Rattle.wf_delivery.specs.NodeInput.{IsSturdy, MayBeLost, Takes}
-pub use Rattle.wf_farm.specs.Exchange.{IsAsked, IsExchange}
+pub use Rattle.wf_farm.specs.Exchange.{IsAskedByClient, IsExchange}
 unfoldable pub use Rattle.wf_farm.specs.Exchange.{IsReadyFor, ReachabilityGoesOn}
 pub use Rattle.wf_farm.specs.Farm.{IsAtOnce, IsSoundFarm, IsMemoryFarm, IsReachable, MemoryFarm, Runs, running_in, size}
 pub use Rattle.wf_farm.specs.Fault.{reported}

@@ -5,7 +5,7 @@ use Rattle.wf_farm.proofs.Common.{le-ltb, lt-ltb, append-nil, nil_from_length, t
 use Rattle.wf_ballot.specs.Field.{frame}
 use Rattle.wf_journal.specs.Encoding.{spelling, text_spelling}
 use Rattle.wf_journal.specs.EncodingTheorems.{length_of_encoding}
-use Rattle.wf_tape.specs.Tape.{IsBeginning}
+use Rattle.wf_tape.specs.Tape.{IsPrefixOf}
 use Rattle.wf_model.specs.declared.action.Kept.TheVariants as declared
 use Rattle.wf_model.specs.Kept.{view as view_kept}
 use Rattle.wf_delivery.proofs.Stored.{begins_taken, read_one_way}
@@ -39,7 +39,7 @@ long_more (x ∷ records) r = omega (arith, long_more records r)
 
 -- ---- what a crash leaves
 
-same_both : (a b : List ℕ) → IsBeginning a b → IsBeginning b a → a ≡ b
+same_both : (a b : List ℕ) → IsPrefixOf a b → IsPrefixOf b a → a ≡ b
 same_both a b a_begins b_begins =
     let none : a_begins.0 ≡ [] = nil_from_length a_begins.0 (omega (arith, ap length a_begins.1, ap length b_begins.1, length-append a a_begins.0, length-append b b_begins.0)) in
     sym (a_begins.1 ∙ ap (λ (t : List ℕ). a ++ t) none ∙ append-nil a)
@@ -48,14 +48,14 @@ same_both a b a_begins b_begins =
 crash_is_image : (left : TapeValue) (keep : ℕ) → IsImageNow left (take (left.synced + keep) left.bytes)
 crash_is_image left keep = (
   begins_taken (left.synced + keep) left.bytes,
-  subst (λ (t : List ℕ). IsBeginning t (take (left.synced + keep) left.bytes)) (take-take left.synced (left.synced + keep) left.bytes (omega arith)) (begins_taken left.synced (take (left.synced + keep) left.bytes)),
+  subst (λ (t : List ℕ). IsPrefixOf t (take (left.synced + keep) left.bytes)) (take-take left.synced (left.synced + keep) left.bytes (omega arith)) (begins_taken left.synced (take (left.synced + keep) left.bytes)),
 )
 
 -- All bytes are synced: they are the only image.
 only_image : (kept : TapeValue) → kept.synced ≡ length kept.bytes → (image : List ℕ) → IsImageNow kept image → image ≡ kept.bytes
 only_image kept all image is =
     let whole : take kept.synced kept.bytes ≡ kept.bytes = take_all kept.synced kept.bytes (omega (arith, all)) in
-    same_both image kept.bytes is.0 (subst (λ (t : List ℕ). IsBeginning t image) whole is.1)
+    same_both image kept.bytes is.0 (subst (λ (t : List ℕ). IsPrefixOf t image) whole is.1)
 
 -- ---- the node that is opened from it
 

@@ -1,7 +1,7 @@
 -- A farm's entry whose node takes an input; and what a client does to a farm's node is done to the
 -- nodes.
 use Rattle.std.proofs.Common.{◌≡◌, ℕ, zero, suc, ◌∷◌, slice_index_or, ◌≤◌, Bool, false, List, [], length-set, slice_get, slice_set, Some, refl, sym, ap, subst, ◌∙◌, arith, Vec}
-use Rattle.wf_farm.proofs.Common.{Global, none-some, same_Some, Message, Definition, Input, Node, NodeHost, Running, Stopped, StandAmong, IsAsked, IsReadyFor, IsSturdy, ReachabilityGoesOn, IsSoundFarm, Takes, AreReachableFrom, AreReachableSending, KeepEntries, KeepsEntry, nodes_of, set_there, keep_set, length-nodes, nodes_get, nodes_set}
+use Rattle.wf_farm.proofs.Common.{Global, none-some, same_Some, Message, Definition, Input, Node, NodeHost, Running, Stopped, StandAmong, IsAskedByClient, IsReadyFor, IsSturdy, ReachabilityGoesOn, IsSoundFarm, Takes, AreReachableFrom, AreReachableSending, KeepEntries, KeepsEntry, nodes_of, set_there, keep_set, length-nodes, nodes_get, nodes_set}
 use Rattle.wf_farm.specs.Hosts.{AreMembers}
 use Rattle.wf_delivery.proofs.Deliveries.{stays_itself}
 use Rattle.wf_farm.proofs.Nodes.{in_turn_of, member_of, reached_reachable, running_stopped, set_members}
@@ -37,7 +37,7 @@ ready_there ready client hosts i node is at = is node at
 
 -- Node i was asked.
 pub asked_as : {T C : Type 0} (tapes : Tape T) (asks : C → Node T → Vec Message Global → Node T → C → Type 0) (hosts : List (NodeHost T)) (i : ℕ) (client next : C) (before after : Node T) (outputs : Vec Message Global) →
-    slice_get hosts i ≡ Some (Running before) → asks client before outputs after next → IsAsked asks i client (nodes_of hosts) outputs next (nodes_of (slice_set hosts i (Running after)))
+    slice_get hosts i ≡ Some (Running before) → asks client before outputs after next → IsAskedByClient asks i client (nodes_of hosts) outputs next (nodes_of (slice_set hosts i (Running after)))
 asked_as tapes asks hosts i client next before after outputs at is = record {
   before = before;
   after = after;

@@ -5,7 +5,7 @@ use Rattle.wf_farm.proofs.Common.{both_ways, cases_eq, false≢true, append-nil,
 use Rattle.wf_codec.specs.Message as message
 use Rattle.wf_model.specs.World as world
 use Rattle.wf_delivery.specs.Delivery as delivering
-use Rattle.wf_farm.specs.Hosts.{IsNode, AreNodes, IsMember, AreMembers}
+use Rattle.wf_farm.specs.Hosts.{IsHostNode, AreNodes, IsMember, AreMembers}
 use Rattle.wf_farm.proofs.Entries.{all_nodes, as_many, node_at}
 use Rattle.wf_delivery.proofs.Stored.{one_stand}
 use Rattle.wf_tape.specs.declared.tape.Tape.{Ghosts as Tape}
@@ -113,7 +113,7 @@ entry_there (x ∷ xs) (z ∷ ys) (suc i) y long e = entry_there xs ys i y (omeg
 -- ---- a farm over durable tapes is reached
 
 module _ {T : Type 0} (durable : Type 0) (images : T → List ℕ → Type 0) (never_fails : T → Type 0) where
-  any_node : (n i : ℕ) (host : NodeHost T) (shown : world.Node Definition) → IsMember durable images never_fails n i host → durable → IsNode images host shown → delivering.ShowsNode (AnyPart i) (node_in n i host) shown
+  any_node : (n i : ℕ) (host : NodeHost T) (shown : world.Node Definition) → IsMember durable images never_fails n i host → durable → IsHostNode images host shown → delivering.ShowsNode (AnyPart i) (node_in n i host) shown
   any_node n i (Running node) shown member h is = subst (λ b. IsNodeBy b (AnyPart i) node shown) (sym (member.2 h).0) is
   any_node n i (Stopped tape) shown member h is = (is.0, (shown.stored.history, refl), tt)
 
@@ -184,7 +184,7 @@ module _ {T : Type 0} (tapes : Tape T) (durable : tapes.durable) (hosts next : L
   stopped_after i tape at = let kept = keep i (Stopped tape) at in kept.1 ∙ ap Some kept.2
 
   module _ (w : World Definition) (are : AreNodes tapes.images hosts w.nodes) where
-    is_by : (i : ℕ) (host : NodeHost T) (shown : world.Node Definition) → slice_get hosts i ≡ Some host → IsNode tapes.images host shown →
+    is_by : (i : ℕ) (host : NodeHost T) (shown : world.Node Definition) → slice_get hosts i ≡ Some host → IsHostNode tapes.images host shown →
         delivering.ShowsNode (StandFor left i) (node_in (length hosts) i host) shown
     is_by i (Running node) shown at is =
         subst (λ b. IsNodeBy b (StandFor left i) node shown) (sym ((member_of tapes.durable tapes.images tapes.never_fails hosts i (Running node) at members).2 durable).0) is
@@ -201,7 +201,7 @@ module _ {T : Type 0} (tapes : Tape T) (durable : tapes.durable) (hosts next : L
     }
 
     module _ (v : World Definition) (refines : delivering.AreNodes (StandFor left) (nodes_of next) v.nodes) where
-      is_now : (i : ℕ) (host : NodeHost T) → slice_get next i ≡ Some host → (node : world.Node Definition) × (slice_get v.nodes i ≡ Some node) × IsNode tapes.images host node
+      is_now : (i : ℕ) (host : NodeHost T) → slice_get next i ≡ Some host → (node : world.Node Definition) × (slice_get v.nodes i ≡ Some node) × IsHostNode tapes.images host node
       is_now i (Running node) at =
           let here = refines.node_is i node (nodes_get next i (Running node) at) in
           (here.0, here.1, subst (λ b. IsNodeBy b (StandFor left i) node here.0) ((member_of tapes.durable tapes.images tapes.never_fails next i (Running node) at next_members).2 durable).0 here.2)

@@ -14,7 +14,7 @@ unfoldable pub IsReadyFor : {T C : Type 0} → (C → Node T → Type 0) → C �
 IsReadyFor {T} ready client hosts number = (node : Node T) → slice_get hosts number ≡ Some (Running node) → ready client node
 
 -- Node `number` was asked, and sent these messages, which the client's relation tells of.
-pub record IsAsked {T C : Type 0} (asks : C → Node T → Vec Message Global → Node T → C → Type 0) (number : ℕ) (client : C) (nodes : List (Node T)) (outputs : Vec Message Global) (client_after : C) (nodes_after : List (Node T)) : Type 0 where
+pub record IsAskedByClient {T C : Type 0} (asks : C → Node T → Vec Message Global → Node T → C → Type 0) (number : ℕ) (client : C) (nodes : List (Node T)) (outputs : Vec Message Global) (client_after : C) (nodes_after : List (Node T)) : Type 0 where
   -- the node before and after it was asked
   pub before : Node T
   pub after : Node T
@@ -34,6 +34,6 @@ module _ {T : Type 0} (tapes : Tape T) where
     -- the node's messages, and the nodes by then
     pub outputs : Vec Message Global
     pub middle : List (Node T)
-    pub asked : IsAsked asks number client nodes outputs client_after middle
+    pub asked : IsAskedByClient asks number client nodes outputs client_after middle
     pub delivered : IsDelivered tapes middle outputs.items pumped.deliveries nodes_after
     pub handed : AreHandedOut tapes middle outputs.items pumped.deliveries pumped.lost pumped.stopped nodes_after

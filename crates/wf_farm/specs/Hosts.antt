@@ -10,16 +10,16 @@ module _ {T : Type 0} (images : T → List ℕ → Type 0) where
   -- The entry is this node of the model. A running node has both its parts. A stopped one has no
   -- volatile state, and its durable state is what its tape stands for, whatever a crash leaves of
   -- it.
-  abbrev pub IsNode : NodeHost T → world.Node Definition → Type 0
-  IsNode (Running node) shown = shown ≡ record { stored = stored_of node; volatile = Some (volatile_of node) }
-  IsNode (Stopped tape) shown = (shown.volatile ≡ None) × AllStandFor shown.stored (images tape)
+  abbrev pub IsHostNode : NodeHost T → world.Node Definition → Type 0
+  IsHostNode (Running node) shown = shown ≡ record { stored = stored_of node; volatile = Some (volatile_of node) }
+  IsHostNode (Stopped tape) shown = (shown.volatile ≡ None) × AllStandFor shown.stored (images tape)
 
   -- index by index, these nodes of the model
   abbrev pub AreNodes : List (NodeHost T) → List (world.Node Definition) → Type 0
   AreNodes [] [] = ⊤
   AreNodes [] (node ∷ nodes) = ⊥
   AreNodes (host ∷ hosts) [] = ⊥
-  AreNodes (host ∷ hosts) (node ∷ nodes) = IsNode host node × AreNodes hosts nodes
+  AreNodes (host ∷ hosts) (node ∷ nodes) = IsHostNode host node × AreNodes hosts nodes
 
 module _ {T : Type 0} (durable : Type 0) (images : T → List ℕ → Type 0) (never_fails : T → Type 0) where
   -- The entry has node i of n. a durable tape doesn't fail, so that its node isn't halted; and a

@@ -16,7 +16,7 @@ MemoryHost = NodeHost TapeValue
 
 -- the entry is this node of the model
 abbrev pub HostsNode : MemoryHost → world.Node Definition → Type 0
-HostsNode host shown = entries.IsNode IsImageNow host shown
+HostsNode host shown = entries.IsHostNode IsImageNow host shown
 
 -- The entry has node i of n, and its tape hasn't failed.
 abbrev pub IsHostOf : ℕ → ℕ → MemoryHost → Type 0

@@ -7,7 +7,7 @@ ghost use Rattle.wf_codec.specs.declared.message.Message.{Message};
 ghost use Rattle.wf_node.specs.Node.{Node};
 ghost use Rattle.wf_delivery.specs.Delivery.{AnyPart, StandInTurn};
 ghost use Rattle.wf_delivery.specs.NodeInput.{IsSturdy};
-ghost use Rattle.wf_farm.specs.Exchange.{IsAsked, IsExchange, IsReadyFor, ReachabilityGoesOn};
+ghost use Rattle.wf_farm.specs.Exchange.{IsAskedByClient, IsExchange, IsReadyFor, ReachabilityGoesOn};
 ghost use Rattle.wf_delivery.specs.Reachability.{AreReachableFrom, AreReachableSending, AreReachable, HaveOneHistory};
 ghost use Rattle.wf_farm.specs.Nodes.{KeepEntries, KeepHosts, RunsAt, nodes_in, nodes_of};
 ghost use Rattle.wf_farm.specs.Hosts.{AreMembers};
@@ -141,9 +141,10 @@ fn ask_node<C: NodeClient<T>, T: Tape>(
     requires runs { RunsAt hosts.old number }
     requires ready { IsReadyFor C.ready client.old hosts.old number }
     requires members { AreMembers T.durable T.images T.never_fails hosts.old }
-    ensures asked { IsAsked C.asks number client.old (nodes_of hosts.old) result
+    ensures asked { IsAskedByClient C.asks number client.old (nodes_of hosts.old) result
         client.new (nodes_of hosts.new) }
-    ensures only_sends { AreReachableSending T.Tape (nodes_of hosts.old) result.items (nodes_of hosts.new) }
+    ensures only_sends { AreReachableSending T.Tape (nodes_of hosts.old) result.items
+        (nodes_of hosts.new) }
     ensures entries { KeepEntries T.Tape hosts.old hosts.new }
 {
     match &mut hosts[number] {

@@ -6,7 +6,7 @@ use Rattle.std.proofs.lemmas.Grind.{common_steps}
 use Rattle.wf_ballot.specs.Ballot.{Ballot, IsBallot, below}
 use Rattle.wf_ballot.specs.OrderTheorems.{below-asymmetric, below-irreflexive, below-not_below, not_below-below, not_below-transitive}
 use Rattle.wf_model.specs.DurableState.{raised}
-use Rattle.wf_folder.specs.Reach.{IsKnown, IsNoLess, IsNoLower, IsNoLowerVote, IsPromise, IsReach, IsVote, IsVoteOrNone, higher_promise, higher_vote, nothing_known, raised_vote, together, vote_below}
+use Rattle.wf_folder.specs.Reach.{IsKnown, IsReachNoLess, IsNoLower, IsNoLowerVote, IsPromise, IsReach, IsVote, IsVoteOrNone, higher_promise, higher_vote, nothing_known, raised_vote, together, vote_below}
 use Rattle.wf_folder.specs.declared.reach.HighestVote.{HighestVote}
 use Rattle.wf_folder.specs.declared.reach.Reach.{Reach}
 
@@ -102,7 +102,7 @@ no_lower_vote_both known (Some v) = no_lower_vote_raised known v
 
 -- ---- both together
 
-pub by_together : (a b : Reach) → IsNoLess a (together a b)
+pub by_together : (a b : Reach) → IsReachNoLess a (together a b)
 by_together a b = record { tried = omega arith; promised = no_lower_both a.promise b.promise; voted = no_lower_vote_both a.vote b.vote; up_to = omega arith }
 
 raised_in_range : (p b : Ballot) (t : Bool) → IsBallot p → IsBallot b → IsPromise (cond t (Some b) (Some p))

@@ -15,8 +15,8 @@ pub record IsFarmFile (file : FarmFile) : Type 0 where
   pub bytes : IsBytes file.mark
   pub size : length file.mark ≡ 16
 
--- ---- its lines: what it is and its version, the kind of its folder, how the tapes began, the number of nodes in two decimal
--- digits, and the mark in hexadecimal digits
+-- ---- its lines: what it is and its version, the kind of its folder, how the tapes began, the
+-- number of nodes in two decimal digits, and the mark in hexadecimal digits
 abbrev pub first_line : List ℕ
 first_line = codes "wfarm folder 1\n"
 

@@ -35,9 +35,10 @@ started file = record file { starts = file.starts + 1 }
 abbrev pub raised_known : Known → Reach → List ℕ → Known
 raised_known k r digest = record { reach = together k.reach r; digest = if nat_lt k.reach.published r.published then digest else k.digest }
 
--- ---- its lines that a serving farm's hasn't: the version and the kind of its folder, the number of the node in two decimal digits, the
--- number of starts in hexadecimal digits, what is known of the node, who suspended it, if anybody
--- did, and the farm's name. A line's end stands before what follows the starts.
+-- ---- its lines that a serving farm's hasn't: the version and the kind of its folder, the number
+-- of the node in two decimal digits, the number of starts in hexadecimal digits, what is known of
+-- the node, who suspended it, if anybody did, and the farm's name. A line's end stands before what
+-- follows the starts.
 abbrev pub node_first_line : List ℕ
 node_first_line = codes "wfarm folder 2\n"
 

@@ -75,7 +75,7 @@ abbrev pub together : Reach → Reach → Reach
 together a b = record { round = max a.round b.round; promise = higher_promise a.promise b.promise; vote = higher_vote a.vote b.vote; published = max a.published b.published }
 
 -- no part of what was known is less
-pub record IsNoLess (known claimed : Reach) : Type 0 where
+pub record IsReachNoLess (known claimed : Reach) : Type 0 where
   pub tried : known.round ≤ claimed.round
   pub promised : IsNoLower known.promise claimed.promise
   pub voted : IsNoLowerVote known.vote claimed.vote

@@ -30,7 +30,8 @@ pub(crate) fn push_digest(text: &mut Vec<u8>, digest: &[u8; 32]) -> Result<(), A
 pub(crate) fn split_digest(bytes: &[u8]) -> Option<([u8; 32], &[u8])>
     ensures digest { IfSome result (λ x. IsBytes x.0 × (length x.0 ≡ 32)) }
     ensures some { IfSome result (λ x. bytes.now ≡ encode_lower x.0 ++ x.1.now) }
-    ensures none { IfNone result ((digest rest : List ℕ) → IsBytes digest → length digest ≡ 32 → bytes.now ≢ encode_lower digest ++ rest) }
+    ensures none { IfNone result ((digest rest : List ℕ) → IsBytes digest → length digest ≡ 32 →
+        bytes.now ≢ encode_lower digest ++ rest) }
 {
     if bytes.len() < DIGITS {
         return None;
@@ -46,7 +47,8 @@ pub(crate) fn split_digest(bytes: &[u8]) -> Option<([u8; 32], &[u8])>
 fn digest_of(text: &[u8]) -> Option<[u8; 32]>
     ensures digest { IfSome result (λ digest. IsBytes digest × (length digest ≡ 32)) }
     ensures some { IfSome result (λ digest. text.now ≡ encode_lower digest) }
-    ensures none { IfNone result ((digest : List ℕ) → IsBytes digest → length digest ≡ 32 → text.now ≢ encode_lower digest) }
+    ensures none { IfNone result ((digest : List ℕ) → IsBytes digest → length digest ≡ 32 →
+        text.now ≢ encode_lower digest) }
 {
     let mut digest = [0u8; 32];
     match hex::decode_to_slice(text, &mut digest) {

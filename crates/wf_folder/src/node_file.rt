@@ -2,7 +2,7 @@
 ghost use Rattle.std.specs.Prelude.{◌≡◌, ◌<◌, ◌++◌, [], Some, None, length, IfOk, OnOk, IfSome, SomeIff};
 ghost use Rattle.wf_folder.specs.FarmFile.{IsNumberOfNodes};
 ghost use Rattle.wf_folder.specs.NodeFile.{IsNodeFile, farm_line, known_then, last_start, node_end, node_line, node_text, raised_known, started, starts_line, suspended_then};
-ghost use Rattle.wf_folder.specs.Reach.{IsKnown, IsNoLess, IsPromise, IsReach, IsVoteOrNone, nothing_known};
+ghost use Rattle.wf_folder.specs.Reach.{IsKnown, IsReachNoLess, IsPromise, IsReach, IsVoteOrNone, nothing_known};
 
 use crate::digest::push_digest;
 use crate::farm_file::{push_mark, push_nodes};
@@ -79,9 +79,10 @@ impl NodeFile {
     #[tactic(auto, using(crate::proofs::Raised::is_known, crate::proofs::Raised::by_together))]
     pub fn raise(&self, reach: &Reach, digest: [u8; 32]) -> NodeFile
         requires { IsNodeFile self.now }
-        ensures value { result ≡ record self.now { known = raised_known self.now.known reach.now digest } }
+        ensures value { result ≡
+            record self.now { known = raised_known self.now.known reach.now digest } }
         ensures file { IsNodeFile result }
-        ensures kept { IsNoLess self.now.known.reach result.known.reach }
+        ensures kept { IsReachNoLess self.now.known.reach result.known.reach }
     {
         let known = raise_known(&self.known, reach, digest);
         NodeFile { known, ..*self }
@@ -122,7 +123,8 @@ impl NodeFile {
     /// node 00
     /// nodes 03
     /// starts 0000000c
-    /// known tried 00000007 promised 00000007 of 00000001 voted 00000007 of 00000001 at 0000000d published 0000000c digest
+    /// known tried 00000007 promised 00000007 of 00000001 voted 00000007 of 00000001 at 0000000d
+    ///  published 0000000c digest
     ///  0f1e2d3c4b5a69788796a5b4c3d2e1f00f1e2d3c4b5a69788796a5b4c3d2e1f0 (on one line)
     /// suspended by 00000001 at 00000000000000000000ffff0a000002 port 00001b58 cause 00000008
     /// farm county
@@ -219,7 +221,8 @@ fn push_starts(text: &mut Vec<u8>, starts: u32) -> Result<(), AllocError>
 #[tactic(auto, using(crate::proofs::Ends::end_parts))]
 fn push_end(text: &mut Vec<u8>, file: &NodeFile) -> Result<(), AllocError>
     requires { IsNodeFile file.now }
-    ensures { OnOk result (text.new.items ≡ text.old.items ++ known_then file.now.known (node_end file.now.suspension file.now.farm file.now.mark)) }
+    ensures { OnOk result (text.new.items ≡ text.old.items ++ known_then file.now.known
+        (node_end file.now.suspension file.now.farm file.now.mark)) }
 {
     push_known(text, &file.known)?;
     push_suspension(text, &file.suspension)?;
@@ -253,7 +256,8 @@ fn push_suspension(text: &mut Vec<u8>, suspension: &Option<Suspension>) -> Resul
 /// Appends who suspended the node.
 #[tactic(auto, using(crate::proofs::Ends::suspension_parts))]
 fn push_accuser(text: &mut Vec<u8>, suspension: &Suspension) -> Result<(), AllocError>
-    ensures { OnOk result (text.new.items ≡ text.old.items ++ suspended_then (Some suspension.now) []) }
+    ensures { OnOk result (text.new.items ≡
+        text.old.items ++ suspended_then (Some suspension.now) []) }
 {
     push_word(
         text,

@@ -30,9 +30,13 @@ impl NodeFile {
     pub fn read(bytes: &[u8]) -> Result<NodeFile, NodeFileFault>
         ensures file { IfOk result IsNodeFile }
         ensures text { IfOk result (IsTextOf bytes.now) }
-        ensures none { IfErr result (λ _. (file : NodeFile) → IsNodeFile file → ¬ IsTextOf bytes.now file) }
-        ensures version { IsErrOf result NodeFileFault.Version → (rest : List ℕ) → (bytes.now ≢ node_first_line ++ rest) × (bytes.now ≢ first_line ++ rest) }
-        ensures kind { IsErrOf result NodeFileFault.Kind → (rest : List ℕ) → (bytes.now ≢ node_first_line ++ (kind_node_line ++ rest)) × (bytes.now ≢ first_line ++ (kind_node_line ++ rest)) }
+        ensures none { IfErr result (λ _. (file : NodeFile) → IsNodeFile file →
+            ¬ IsTextOf bytes.now file) }
+        ensures version { IsErrOf result NodeFileFault.Version → (rest : List ℕ) →
+            (bytes.now ≢ node_first_line ++ rest) × (bytes.now ≢ first_line ++ rest) }
+        ensures kind { IsErrOf result NodeFileFault.Kind → (rest : List ℕ) →
+            (bytes.now ≢ node_first_line ++ (kind_node_line ++ rest))
+            × (bytes.now ≢ first_line ++ (kind_node_line ++ rest)) }
     {
         if let Some(rest) = after(bytes, NODE_FIRST_LINE) {
             return match read_kind(rest) {
@@ -54,9 +58,11 @@ impl NodeFile {
 fn read_kind(bytes: &[u8]) -> Result<NodeFile, NodeFileFault>
     ensures file { IfOk result IsNodeFile }
     ensures text { IfOk result (λ file. bytes.now ≡ kind_node_line ++ node_fields file) }
-    ensures none { IfErr result (λ _. (file : NodeFile) → IsNodeFile file → bytes.now ≢ kind_node_line ++ node_fields file) }
+    ensures none { IfErr result (λ _. (file : NodeFile) → IsNodeFile file →
+        bytes.now ≢ kind_node_line ++ node_fields file) }
     ensures version { ¬ IsErrOf result NodeFileFault.Version }
-    ensures kind { IsErrOf result NodeFileFault.Kind → (rest : List ℕ) → bytes.now ≢ kind_node_line ++ rest }
+    ensures kind { IsErrOf result NodeFileFault.Kind → (rest : List ℕ) →
+        bytes.now ≢ kind_node_line ++ rest }
 {
     let Some(rest) = after(bytes, NODE_LINE) else {
         return Err(NodeFileFault::Kind);
@@ -72,9 +78,11 @@ fn read_old_kind(bytes: &[u8]) -> Result<NodeFile, NodeFileFault>
     ensures file { IfOk result IsNodeFile }
     ensures old { IfOk result IsOldFile }
     ensures text { IfOk result (λ file. bytes.now ≡ kind_node_line ++ old_node_fields file) }
-    ensures none { IfErr result (λ _. (file : NodeFile) → IsNodeFile file → bytes.now ≢ kind_node_line ++ old_node_fields file) }
+    ensures none { IfErr result (λ _. (file : NodeFile) → IsNodeFile file →
+        bytes.now ≢ kind_node_line ++ old_node_fields file) }
     ensures version { ¬ IsErrOf result NodeFileFault.Version }
-    ensures kind { IsErrOf result NodeFileFault.Kind → (rest : List ℕ) → bytes.now ≢ kind_node_line ++ rest }
+    ensures kind { IsErrOf result NodeFileFault.Kind → (rest : List ℕ) →
+        bytes.now ≢ kind_node_line ++ rest }
 {
     let Some(rest) = after(bytes, NODE_LINE) else {
         return Err(NodeFileFault::Kind);
@@ -89,7 +97,8 @@ fn read_old_kind(bytes: &[u8]) -> Result<NodeFile, NodeFileFault>
 fn read_fields(bytes: &[u8]) -> Option<NodeFile>
     ensures file { IfSome result IsNodeFile }
     ensures some { IfSome result (λ file. bytes.now ≡ node_fields file) }
-    ensures none { IfNone result ((file : NodeFile) → IsNodeFile file → bytes.now ≢ node_fields file) }
+    ensures none { IfNone result ((file : NodeFile) → IsNodeFile file →
+        bytes.now ≢ node_fields file) }
 {
     let Some((node, nodes, starts, rest)) = read_numbers(bytes) else {
         return None;
@@ -115,7 +124,8 @@ fn read_old_fields(bytes: &[u8]) -> Option<NodeFile>
     ensures file { IfSome result IsNodeFile }
     ensures old { IfSome result IsOldFile }
     ensures some { IfSome result (λ file. bytes.now ≡ old_node_fields file) }
-    ensures none { IfNone result ((file : NodeFile) → IsNodeFile file → bytes.now ≢ old_node_fields file) }
+    ensures none { IfNone result ((file : NodeFile) → IsNodeFile file →
+        bytes.now ≢ old_node_fields file) }
 {
     let Some((node, nodes, starts, rest)) = read_numbers(bytes) else {
         return None;
@@ -141,7 +151,8 @@ fn read_numbers(bytes: &[u8]) -> Option<(u8, u8, u32, &[u8])>
     ensures node { IfSome result (λ x. x.0 < x.1) }
     ensures starts { IfSome result (λ x. x.2 < 2 ^ 32) }
     ensures some { IfSome result (λ x. bytes.now ≡ numbers_then x.0 x.1 x.2 x.3.now) }
-    ensures none { IfNone result ((node nodes starts : ℕ) (rest : List ℕ) → IsNumberOfNodes nodes → node < nodes → starts < 2 ^ 32 → bytes.now ≢ numbers_then node nodes starts rest) }
+    ensures none { IfNone result ((node nodes starts : ℕ) (rest : List ℕ) → IsNumberOfNodes nodes →
+        node < nodes → starts < 2 ^ 32 → bytes.now ≢ numbers_then node nodes starts rest) }
 {
     let (node, rest) = read_node(bytes)?;
     let (nodes, rest) = read_nodes(rest)?;
@@ -156,7 +167,8 @@ fn read_numbers(bytes: &[u8]) -> Option<(u8, u8, u32, &[u8])>
 /// The number of the node, and what follows that line.
 fn read_node(bytes: &[u8]) -> Option<(u8, &[u8])>
     ensures some { IfSome result (λ x. bytes.now ≡ node_line x.0 ++ x.1.now) }
-    ensures none { IfNone result ((node : ℕ) (rest : List ℕ) → node < 64 → bytes.now ≢ node_line node ++ rest) }
+    ensures none { IfNone result ((node : ℕ) (rest : List ℕ) → node < 64 →
+        bytes.now ≢ node_line node ++ rest) }
 {
     match after(bytes, b"node ")? {
         [tens, ones, b'\n', rest @ ..] => {
@@ -182,7 +194,8 @@ fn node_with(tens: u8, ones: u8) -> Option<u8>
 /// The number of starts, and what follows it.
 fn read_starts(bytes: &[u8]) -> Option<(u32, &[u8])>
     ensures some { IfSome result (λ x. bytes.now ≡ starts_line x.0 ++ x.1.now) }
-    ensures none { IfNone result ((starts : ℕ) (rest : List ℕ) → starts < 2 ^ 32 → bytes.now ≢ starts_line starts ++ rest) }
+    ensures none { IfNone result ((starts : ℕ) (rest : List ℕ) → starts < 2 ^ 32 →
+        bytes.now ≢ starts_line starts ++ rest) }
 {
     split_number(after(bytes, b"starts ")?)
 }
@@ -191,7 +204,8 @@ fn read_starts(bytes: &[u8]) -> Option<(u32, &[u8])>
 fn split_known(bytes: &[u8]) -> Option<(Known, &[u8])>
     ensures known { IfSome result (λ x. IsKnown x.0) }
     ensures some { IfSome result (λ x. bytes.now ≡ known_then x.0 x.1.now) }
-    ensures none { IfNone result ((k : KnownValue) (rest : List ℕ) → IsKnown k → bytes.now ≢ known_then k rest) }
+    ensures none { IfNone result ((k : KnownValue) (rest : List ℕ) → IsKnown k →
+        bytes.now ≢ known_then k rest) }
 {
     let rest = after(bytes, b"\nknown")?;
     let Some((reach, rest)) = split_reach(rest) else {
@@ -207,7 +221,8 @@ fn split_known(bytes: &[u8]) -> Option<(Known, &[u8])>
 fn split_any_suspension(bytes: &[u8]) -> (Option<Suspension>, &[u8])
     ensures suspension { IsSuspensionOrNone result.0 }
     ensures some { bytes.now ≡ suspended_then result.0 result.1.now }
-    ensures none { result.0 ≡ None → (s : SuspensionValue) (rest : List ℕ) → IsSuspension s → bytes.now ≢ suspended_then (Some s) rest }
+    ensures none { result.0 ≡ None → (s : SuspensionValue) (rest : List ℕ) → IsSuspension s →
+        bytes.now ≢ suspended_then (Some s) rest }
 {
     match split_suspension(bytes) {
         Some((suspension, rest)) => (Some(suspension), rest),
@@ -219,7 +234,8 @@ fn split_any_suspension(bytes: &[u8]) -> (Option<Suspension>, &[u8])
 fn split_suspension(bytes: &[u8]) -> Option<(Suspension, &[u8])>
     ensures suspension { IfSome result (λ x. IsSuspension x.0) }
     ensures some { IfSome result (λ x. bytes.now ≡ suspended_then (Some x.0) x.1.now) }
-    ensures none { IfNone result ((s : SuspensionValue) (rest : List ℕ) → IsSuspension s → bytes.now ≢ suspended_then (Some s) rest) }
+    ensures none { IfNone result ((s : SuspensionValue) (rest : List ℕ) → IsSuspension s →
+        bytes.now ≢ suspended_then (Some s) rest) }
 {
     let (accuser, rest) = split_word(bytes, b"\nsuspended by ")?;
     let (ip, rest) = split_named(rest, b" at ")?;
@@ -234,8 +250,10 @@ fn split_suspension(bytes: &[u8]) -> Option<(Suspension, &[u8])>
 /// The suspension with these numbers, if they are in their ranges.
 fn suspension_of(accuser: u32, ip: [u8; 16], port: u32, cause: u32) -> Option<Suspension>
     ensures suspension { IfSome result IsSuspension }
-    ensures some { IfSome result (λ s. (s.accuser ≡ accuser) × (s.address.ip ≡ ip) × (s.address.port ≡ port) × (s.cause ≡ cause)) }
-    ensures none { IfNone result ((s : SuspensionValue) → IsSuspension s → s.accuser ≡ accuser → s.address.port ≡ port → s.cause ≢ cause) }
+    ensures some { IfSome result (λ s. (s.accuser ≡ accuser) × (s.address.ip ≡ ip)
+        × (s.address.port ≡ port) × (s.cause ≡ cause)) }
+    ensures none { IfNone result ((s : SuspensionValue) → IsSuspension s → s.accuser ≡ accuser →
+        s.address.port ≡ port → s.cause ≢ cause) }
 {
     let accuser = node_of(accuser)?;
     let Ok(port) = u16::try_from(port) else {
@@ -256,7 +274,8 @@ fn suspension_of(accuser: u32, ip: [u8; 16], port: u32, cause: u32) -> Option<Su
 fn read_farm_and_mark(bytes: &[u8]) -> Option<(FarmName, [u8; 16])>
     ensures mark { IfSome result (λ x. IsFarmName x.0 × IsBytes x.1 × (length x.1 ≡ 16)) }
     ensures some { IfSome result (λ x. bytes.now ≡ farm_and_mark x.0 x.1) }
-    ensures none { IfNone result ((name mark : List ℕ) → IsFarmName name → IsBytes mark → length mark ≡ 16 → bytes.now ≢ farm_and_mark name mark) }
+    ensures none { IfNone result ((name mark : List ℕ) → IsFarmName name → IsBytes mark →
+        length mark ≡ 16 → bytes.now ≢ farm_and_mark name mark) }
 {
     let (front, end) = bytes.split_at(bytes.len().checked_sub(MARK_LINE)?);
     let farm = read_farm(front)?;

@@ -32,7 +32,8 @@ pub fn push_number(text: &mut Vec<u8>, number: u32) -> Result<(), AllocError>
 #[tactic(auto, using(crate::proofs::Numbers::number_fits, crate::proofs::Numbers::number_front))]
 pub fn split_number(bytes: &[u8]) -> Option<(u32, &[u8])>
     ensures some { IfSome result (λ x. bytes.now ≡ number_digits x.0 ++ x.1.now) }
-    ensures none { IfNone result ((n : ℕ) (rest : List ℕ) → n < 2 ^ 32 → bytes.now ≢ number_digits n ++ rest) }
+    ensures none { IfNone result ((n : ℕ) (rest : List ℕ) → n < 2 ^ 32 →
+        bytes.now ≢ number_digits n ++ rest) }
 {
     if bytes.len() < DIGITS {
         return None;

@@ -18,9 +18,12 @@ impl FarmFile {
     pub fn read(bytes: &[u8]) -> Result<FarmFile, FileFault>
         ensures file { IfOk result IsFarmFile }
         ensures text { IfOk result (λ file. bytes.now ≡ farm_text file) }
-        ensures none { IfErr result (λ _. (file : FarmFile) → IsFarmFile file → bytes.now ≢ farm_text file) }
-        ensures version { IsErrOf result FileFault.Version → (rest : List ℕ) → bytes.now ≢ first_line ++ rest }
-        ensures kind { IsErrOf result FileFault.Kind → (rest : List ℕ) → bytes.now ≢ first_line ++ (kind_line ++ rest) }
+        ensures none { IfErr result (λ _. (file : FarmFile) → IsFarmFile file →
+            bytes.now ≢ farm_text file) }
+        ensures version { IsErrOf result FileFault.Version → (rest : List ℕ) →
+            bytes.now ≢ first_line ++ rest }
+        ensures kind { IsErrOf result FileFault.Kind → (rest : List ℕ) →
+            bytes.now ≢ first_line ++ (kind_line ++ rest) }
     {
         let Some(rest) = after(bytes, FIRST_LINE) else {
             return Err(FileFault::Version);
@@ -38,8 +41,10 @@ impl FarmFile {
 /// The file whose text ends so, after the line of its kind.
 fn read_fields(bytes: &[u8]) -> Option<FarmFile>
     ensures file { IfSome result IsFarmFile }
-    ensures some { IfSome result (λ file. bytes.now ≡ beginning_line file.beginning ++ (nodes_line file.nodes ++ mark_line file.mark)) }
-    ensures none { IfNone result ((file : FarmFile) → IsFarmFile file → bytes.now ≢ beginning_line file.beginning ++ (nodes_line file.nodes ++ mark_line file.mark)) }
+    ensures some { IfSome result (λ file. bytes.now ≡
+        beginning_line file.beginning ++ (nodes_line file.nodes ++ mark_line file.mark)) }
+    ensures none { IfNone result ((file : FarmFile) → IsFarmFile file → bytes.now ≢
+        beginning_line file.beginning ++ (nodes_line file.nodes ++ mark_line file.mark)) }
 {
     let (beginning, rest) = read_beginning(bytes)?;
     let (nodes, rest) = read_nodes(rest)?;
@@ -62,7 +67,8 @@ pub fn after<'a>(bytes: &'a [u8], line: &[u8]) -> Option<&'a [u8]>
 /// How the tapes began, and what follows that line.
 fn read_beginning(bytes: &[u8]) -> Option<(Beginning, &[u8])>
     ensures some { IfSome result (λ x. bytes.now ≡ beginning_line x.0 ++ x.1.now) }
-    ensures none { IfNone result ((beginning : Beginning) (rest : List ℕ) → bytes.now ≢ beginning_line beginning ++ rest) }
+    ensures none { IfNone result ((beginning : Beginning) (rest : List ℕ) →
+        bytes.now ≢ beginning_line beginning ++ rest) }
 {
     match after(bytes, EMPTY_LINE) {
         Some(rest) => Some((Beginning::Empty, rest)),
@@ -77,7 +83,8 @@ fn read_beginning(bytes: &[u8]) -> Option<(Beginning, &[u8])>
 pub(crate) fn read_nodes(bytes: &[u8]) -> Option<(u8, &[u8])>
     ensures number { IfSome result (λ x. IsNumberOfNodes x.0) }
     ensures some { IfSome result (λ x. bytes.now ≡ nodes_line x.0 ++ x.1.now) }
-    ensures none { IfNone result ((nodes : ℕ) (rest : List ℕ) → IsNumberOfNodes nodes → bytes.now ≢ nodes_line nodes ++ rest) }
+    ensures none { IfNone result ((nodes : ℕ) (rest : List ℕ) → IsNumberOfNodes nodes →
+        bytes.now ≢ nodes_line nodes ++ rest) }
 {
     match after(bytes, b"nodes ")? {
         [tens, ones, b'\n', rest @ ..] => {
@@ -92,7 +99,8 @@ pub(crate) fn read_nodes(bytes: &[u8]) -> Option<(u8, &[u8])>
 fn number_of(tens: u8, ones: u8) -> Option<u8>
     ensures number { IfSome result IsNumberOfNodes }
     ensures some { IfSome result (λ n. (tens ≡ 48 + n / 10) × (ones ≡ 48 + n % 10)) }
-    ensures none { IfNone result ((n : ℕ) → IsNumberOfNodes n → tens ≡ 48 + n / 10 → ones ≢ 48 + n % 10) }
+    ensures none { IfNone result ((n : ℕ) → IsNumberOfNodes n → tens ≡ 48 + n / 10 →
+        ones ≢ 48 + n % 10) }
 {
     if !tens.is_ascii_digit() || !ones.is_ascii_digit() {
         return None;
@@ -109,7 +117,8 @@ fn number_of(tens: u8, ones: u8) -> Option<u8>
 pub(crate) fn read_mark(bytes: &[u8]) -> Option<[u8; 16]>
     ensures mark { IfSome result (λ mark. IsBytes mark × (length mark ≡ 16)) }
     ensures some { IfSome result (λ mark. bytes.now ≡ mark_line mark) }
-    ensures none { IfNone result ((mark : List ℕ) → IsBytes mark → length mark ≡ 16 → bytes.now ≢ mark_line mark) }
+    ensures none { IfNone result ((mark : List ℕ) → IsBytes mark → length mark ≡ 16 →
+        bytes.now ≢ mark_line mark) }
 {
     let text = before(after(bytes, b"mark ")?, b"\n")?;
     mark_of(text)
@@ -128,7 +137,8 @@ pub(crate) fn before<'a>(bytes: &'a [u8], end: &[u8]) -> Option<&'a [u8]>
 pub fn split_mark(bytes: &[u8]) -> Option<([u8; 16], &[u8])>
     ensures mark { IfSome result (λ x. IsBytes x.0 × (length x.0 ≡ 16)) }
     ensures some { IfSome result (λ x. bytes.now ≡ encode_lower x.0 ++ x.1.now) }
-    ensures none { IfNone result ((mark rest : List ℕ) → IsBytes mark → length mark ≡ 16 → bytes.now ≢ encode_lower mark ++ rest) }
+    ensures none { IfNone result ((mark rest : List ℕ) → IsBytes mark → length mark ≡ 16 →
+        bytes.now ≢ encode_lower mark ++ rest) }
 {
     if bytes.len() < MARK_DIGITS {
         return None;
@@ -144,7 +154,8 @@ pub fn split_mark(bytes: &[u8]) -> Option<([u8; 16], &[u8])>
 fn mark_of(text: &[u8]) -> Option<[u8; 16]>
     ensures mark { IfSome result (λ mark. IsBytes mark × (length mark ≡ 16)) }
     ensures some { IfSome result (λ mark. text.now ≡ encode_lower mark) }
-    ensures none { IfNone result ((mark : List ℕ) → IsBytes mark → length mark ≡ 16 → text.now ≢ encode_lower mark) }
+    ensures none { IfNone result ((mark : List ℕ) → IsBytes mark → length mark ≡ 16 →
+        text.now ≢ encode_lower mark) }
 {
     let mut mark = [0u8; 16];
     match hex::decode_to_slice(text, &mut mark) {

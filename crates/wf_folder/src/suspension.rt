@@ -29,7 +29,8 @@ impl PeerAddress {
 
     /// The address of a peer; what an address of IPv6 has besides its bytes isn't kept.
     pub fn of(address: SocketAddr) -> PeerAddress
-        ensures ip { MatchIp (socket_ip address) (λ ip. result.ip ≡ octets_of (embedded_segments 0xffff ip)) (λ ip. result.ip ≡ ipv6_octets ip) }
+        ensures ip { MatchIp (socket_ip address) (λ ip. result.ip ≡
+            octets_of (embedded_segments 0xffff ip)) (λ ip. result.ip ≡ ipv6_octets ip) }
         ensures port { result.port ≡ socket_port address }
     {
         let ip = match address.ip() {

@@ -20,7 +20,8 @@ use wf_ballot::{Ballot, NodeId, Seq, Slot};
 pub fn split_reach(bytes: &[u8]) -> Option<(Reach, &[u8])>
     ensures known { IfSome result (λ x. IsReach x.0) }
     ensures some { IfSome result (λ x. bytes.now ≡ reach_then x.0 x.1.now) }
-    ensures none { IfNone result ((r : ReachValue) (rest : List ℕ) → IsReach r → bytes.now ≢ reach_then r rest) }
+    ensures none { IfNone result ((r : ReachValue) (rest : List ℕ) → IsReach r →
+        bytes.now ≢ reach_then r rest) }
 {
     let (round, rest) = split_word(bytes, b" tried ")?;
     let Some((promise, rest)) = split_promise(rest) else {
@@ -43,7 +44,8 @@ fn split_end(bytes: &[u8]) -> Option<(Option<HighestVote>, Seq, &[u8])>
     ensures vote { IfSome result (λ x. IsVoteOrNone x.0) }
     ensures seq { IfSome result (λ x. IsSequence x.1) }
     ensures some { IfSome result (λ x. bytes.now ≡ end_then x.0 x.1 x.2.now) }
-    ensures none { IfNone result ((vote : Option VoteValue) (s : ℕ) (rest : List ℕ) → IsVoteOrNone vote → IsSequence s → bytes.now ≢ end_then vote s rest) }
+    ensures none { IfNone result ((vote : Option VoteValue) (s : ℕ) (rest : List ℕ) →
+        IsVoteOrNone vote → IsSequence s → bytes.now ≢ end_then vote s rest) }
 {
     match split_published(bytes) {
         Some((published, rest)) => Some((None, published, rest)),
@@ -56,7 +58,8 @@ fn split_voted(bytes: &[u8]) -> Option<(Option<HighestVote>, Seq, &[u8])>
     ensures vote { IfSome result (λ x. IsVoteOrNone x.0) }
     ensures seq { IfSome result (λ x. IsSequence x.1) }
     ensures some { IfSome result (λ x. bytes.now ≡ end_then x.0 x.1 x.2.now) }
-    ensures none { IfNone result ((vote : VoteValue) (s : ℕ) (rest : List ℕ) → IsVote vote → IsSequence s → bytes.now ≢ end_then (Some vote) s rest) }
+    ensures none { IfNone result ((vote : VoteValue) (s : ℕ) (rest : List ℕ) → IsVote vote →
+        IsSequence s → bytes.now ≢ end_then (Some vote) s rest) }
 {
     let Some((vote, rest)) = split_vote(bytes) else {
         return None;
@@ -71,7 +74,8 @@ fn split_voted(bytes: &[u8]) -> Option<(Option<HighestVote>, Seq, &[u8])>
 fn split_published(bytes: &[u8]) -> Option<(Seq, &[u8])>
     ensures seq { IfSome result (λ x. IsSequence x.0) }
     ensures some { IfSome result (λ x. bytes.now ≡ number_then (codes " published ") x.0 x.1.now) }
-    ensures none { IfNone result ((s : ℕ) (rest : List ℕ) → IsSequence s → bytes.now ≢ number_then (codes " published ") s rest) }
+    ensures none { IfNone result ((s : ℕ) (rest : List ℕ) → IsSequence s →
+        bytes.now ≢ number_then (codes " published ") s rest) }
 {
     let (number, rest) = split_word(bytes, b" published ")?;
     match sequence_of(number) {
@@ -106,7 +110,8 @@ fn slot_of(number: u32) -> Option<Slot>
 fn split_vote(bytes: &[u8]) -> Option<(HighestVote, &[u8])>
     ensures vote { IfSome result (λ x. IsVote x.0) }
     ensures some { IfSome result (λ x. bytes.now ≡ vote_then (Some x.0) x.1.now) }
-    ensures none { IfNone result ((v : VoteValue) (rest : List ℕ) → IsVote v → bytes.now ≢ vote_then (Some v) rest) }
+    ensures none { IfNone result ((v : VoteValue) (rest : List ℕ) → IsVote v →
+        bytes.now ≢ vote_then (Some v) rest) }
 {
     let (round, rest) = split_word(bytes, b" voted ")?;
     let (node, rest) = split_word(rest, b" of ")?;
@@ -125,7 +130,8 @@ fn split_vote(bytes: &[u8]) -> Option<(HighestVote, &[u8])>
 fn split_promise(bytes: &[u8]) -> Option<(Option<Ballot>, &[u8])>
     ensures promise { IfSome result (λ x. IsPromise x.0) }
     ensures some { IfSome result (λ x. bytes.now ≡ promise_then x.0 x.1.now) }
-    ensures none { IfNone result ((p : Option BallotValue) (rest : List ℕ) → IsPromise p → bytes.now ≢ promise_then p rest) }
+    ensures none { IfNone result ((p : Option BallotValue) (rest : List ℕ) → IsPromise p →
+        bytes.now ≢ promise_then p rest) }
 {
     match after(bytes, NO_PROMISE) {
         Some(rest) => Some((None, rest)),
@@ -140,7 +146,8 @@ fn split_promise(bytes: &[u8]) -> Option<(Option<Ballot>, &[u8])>
 fn split_ballot(bytes: &[u8]) -> Option<(Ballot, &[u8])>
     ensures ballot { IfSome result (λ x. IsBallot x.0) }
     ensures some { IfSome result (λ x. bytes.now ≡ promise_then (Some x.0) x.1.now) }
-    ensures none { IfNone result ((b : BallotValue) (rest : List ℕ) → IsBallot b → bytes.now ≢ promise_then (Some b) rest) }
+    ensures none { IfNone result ((b : BallotValue) (rest : List ℕ) → IsBallot b →
+        bytes.now ≢ promise_then (Some b) rest) }
 {
     let (round, rest) = split_word(bytes, b" promised ")?;
     let (node, rest) = split_word(rest, b" of ")?;
@@ -153,7 +160,8 @@ fn split_ballot(bytes: &[u8]) -> Option<(Ballot, &[u8])>
 /// The ballot with this round and node.
 fn ballot_of(round: u32, node: u32) -> Option<Ballot>
     ensures some { IfSome result (λ b. (b.round ≡ round) × (b.node ≡ node) × IsBallot b) }
-    ensures none { IfNone result ((b : BallotValue) → IsBallot b → b.round ≡ round → b.node ≢ node) }
+    ensures none { IfNone result ((b : BallotValue) → IsBallot b → b.round ≡ round →
+        b.node ≢ node) }
 {
     match node_of(node) {
         Some(node) => Ballot::new(round, node),
@@ -178,7 +186,8 @@ pub(crate) fn node_of(number: u32) -> Option<NodeId>
 pub fn split_named<'a>(bytes: &'a [u8], word: &[u8]) -> Option<([u8; 16], &'a [u8])>
     ensures mark { IfSome result (λ x. IsBytes x.0 × (length x.0 ≡ 16)) }
     ensures some { IfSome result (λ x. bytes.now ≡ mark_then word.now x.0 x.1.now) }
-    ensures none { IfNone result ((mark rest : List ℕ) → IsBytes mark → length mark ≡ 16 → bytes.now ≢ mark_then word.now mark rest) }
+    ensures none { IfNone result ((mark rest : List ℕ) → IsBytes mark → length mark ≡ 16 →
+        bytes.now ≢ mark_then word.now mark rest) }
 {
     match after(bytes, word) {
         Some(rest) => split_mark(rest),
@@ -192,7 +201,8 @@ pub fn split_named<'a>(bytes: &'a [u8], word: &[u8]) -> Option<([u8; 16], &'a [u
 pub fn split_word<'a>(bytes: &'a [u8], word: &[u8]) -> Option<(u32, &'a [u8])>
     ensures fits { IfSome result (λ x. x.0 < 2 ^ 32) }
     ensures some { IfSome result (λ x. bytes.now ≡ number_then word.now x.0 x.1.now) }
-    ensures none { IfNone result ((n : ℕ) (rest : List ℕ) → n < 2 ^ 32 → bytes.now ≢ number_then word.now n rest) }
+    ensures none { IfNone result ((n : ℕ) (rest : List ℕ) → n < 2 ^ 32 →
+        bytes.now ≢ number_then word.now n rest) }
 {
     match after(bytes, word) {
         Some(rest) => split_number(rest),

@@ -25,7 +25,8 @@ pub fn push_mark_after(text: &mut Vec<u8>, word: &[u8], mark: [u8; 16]) -> Resul
 
 /// Appends a word and a number. The only error is allocation failure.
 pub fn push_word(text: &mut Vec<u8>, word: &[u8], number: u32) -> Result<(), AllocError>
-    ensures items { OnOk result (text.new.items ≡ text.old.items ++ number_then word.now number []) }
+    ensures items { OnOk result (text.new.items ≡
+        text.old.items ++ number_then word.now number []) }
     ensures fits { number < 2 ^ 32 }
 {
     text.extend_from_slice(word)?;

@@ -74,7 +74,7 @@ LacksBody layout bytes = (length bytes < 4) ⊎ ((fits layout (stated_length byt
 
 -- Part of a frame, without an error in its version, its kind and its length as far as they are
 -- there; the length is checked once its four bytes are there.
-abbrev pub IsUnfinished : Format → List ℕ → Type 0
-IsUnfinished format [] = Unit {0}
-IsUnfinished format (version ∷ []) = format.is_read version ≡ true
-IsUnfinished format (version ∷ byte ∷ bytes) = (format.is_read version ≡ true) × ((layout : Layout) × (format.layout version byte ≡ Some layout) × LacksBody layout bytes)
+abbrev pub IsUnfinishedFrame : Format → List ℕ → Type 0
+IsUnfinishedFrame format [] = Unit {0}
+IsUnfinishedFrame format (version ∷ []) = format.is_read version ≡ true
+IsUnfinishedFrame format (version ∷ byte ∷ bytes) = (format.is_read version ≡ true) × ((layout : Layout) × (format.layout version byte ≡ Some layout) × LacksBody layout bytes)

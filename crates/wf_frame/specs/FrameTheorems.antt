@@ -12,7 +12,7 @@ use Rattle.wf_ballot.specs.FrontTheorems.{four_bytes, AreBytes-take}
 use Rattle.wf_frame.specs.declared.fault.FrameFault.{FrameFault}
 use Rattle.wf_frame.specs.declared.fault.FrameFault.TheVariants.{Short, BadVersion, TooLong, BadLength}
 use Rattle.wf_frame.specs.Layout.{Layout, fits, body_bytes, body_texts, read_body}
-use Rattle.wf_frame.specs.Frame.{Format, IsFormat, HasBody, Found, body_front, length_front, kind_front, frame_front, LacksBody, IsUnfinished}
+use Rattle.wf_frame.specs.Frame.{Format, IsFormat, HasBody, Found, body_front, length_front, kind_front, frame_front, LacksBody, IsUnfinishedFrame}
 use Rattle.wf_frame.specs.Theorem.{IsFramed, FramesAreRead, BodiesAreRead, Payload, IsPayload, NoneBeginsAnother}
 use Rattle.wf_frame.specs.ReportTheorems.{AreBytes-rest}
 use Rattle.wf_frame.specs.LayoutTheorems.{body_fits, body_again, body_stands, body_checked}
@@ -196,7 +196,7 @@ version_short : {A : Type 0} (b : Bool) (r : Result A FrameFault) → cond b r (
 version_short true r e = (refl, e)
 version_short false r e = absurd cc
 
-pub short_is_unfinished : (format : Format) (bytes : List ℕ) → frame_front format bytes ≡ Err Short → IsUnfinished format bytes
+pub short_is_unfinished : (format : Format) (bytes : List ℕ) → frame_front format bytes ≡ Err Short → IsUnfinishedFrame format bytes
 unfolding frame_front kind_front
 short_is_unfinished format [] e = tt
 short_is_unfinished format (version ∷ []) e = (version_short {A = Found} (format.is_read version) (Err Short) e).0
@@ -220,7 +220,7 @@ length_is_short format is v k layout (a ∷ b ∷ c ∷ d ∷ bytes) known (inl 
 length_is_short format is v k layout (a ∷ b ∷ c ∷ d ∷ bytes) known (inr lacks) =
     body_is_short format is v k layout (from_be_bytes w32 (a ∷ b ∷ c ∷ d ∷ [])) bytes known lacks.0 (omega (arith, lacks.1))
 
-pub unfinished_is_short : (format : Format) → IsFormat format → (bytes : List ℕ) → IsUnfinished format bytes → frame_front format bytes ≡ Err Short
+pub unfinished_is_short : (format : Format) → IsFormat format → (bytes : List ℕ) → IsUnfinishedFrame format bytes → frame_front format bytes ≡ Err Short
 unfolding frame_front kind_front
 unfinished_is_short format is [] unfinished = refl
 unfinished_is_short format is (version ∷ []) same = rw same refl

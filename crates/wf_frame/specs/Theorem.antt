@@ -6,7 +6,7 @@ use Rattle.wf_ballot.specs.Front.{AreBytes}
 use Rattle.wf_frame.specs.declared.fault.FrameFault.{FrameFault}
 use Rattle.wf_frame.specs.declared.fault.FrameFault.TheVariants.{Short}
 use Rattle.wf_frame.specs.Layout.{Layout, Body, IsBody, body_bytes, body_texts, fits, read_body, has_fields, texts_in}
-use Rattle.wf_frame.specs.Frame.{Format, HasBody, frame_front, IsUnfinished}
+use Rattle.wf_frame.specs.Frame.{Format, HasBody, frame_front, IsUnfinishedFrame}
 
 -- the bytes begin with the frame of this version and kind with this body
 pub record IsFramed (format : Format) (bytes : List ℕ) (version byte : ℕ) (body : List ℕ) : Type 0 where
@@ -21,7 +21,7 @@ pub record FramesAreRead (format : Format) : Type 0 where
   pub whole : (version byte : ℕ) (body rest : List ℕ) → HasBody format version byte body → frame_front format (frame version byte body ++ rest) ≡ Ok (version, byte, body)
   pub front : (bytes : List ℕ) (version byte : ℕ) (body : List ℕ) → AreBytes bytes → frame_front format bytes ≡ Ok (version, byte, body) → IsFramed format bytes version byte body
   pub remains : (bytes more : List ℕ) (fault : FrameFault) → frame_front format bytes ≡ Err fault → (fault ≡ Short → ⊥) → frame_front format (bytes ++ more) ≡ Err fault
-  pub short : (bytes : List ℕ) → (frame_front format bytes ≡ Err Short) ↔ IsUnfinished format bytes
+  pub short : (bytes : List ℕ) → (frame_front format bytes ≡ Err Short) ↔ IsUnfinishedFrame format bytes
 
 -- A body has a length that its layout allows, it is read as its parts, and what is read has those
 -- bytes. It is read iff each field is in its range, by byte offset, and its texts are those that

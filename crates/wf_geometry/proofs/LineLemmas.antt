@@ -62,7 +62,8 @@ unfolding deviation run rise level plus difference product opposite
 deviation_upward u row a b =
     added _ (pos pixel_side *ℤ (b.x -ℤ a.x) *ℤ pos u) (((pos pixel_side *ℤ pos 0 +ℤ pos half_side) -ℤ a.y) *ℤ (b.x -ℤ a.x)) _ (stepped (pos u) a.y (b.x -ℤ a.x))
 
--- ---- the deviations of a picture's pixels change by one step from column to column, and by another from row to row
+-- ---- the deviations of a picture's pixels change by one step from column to column, and by
+-- another from row to row
 
 rise_back : (a b : PositionValue) → opposite (product (pos pixel_side) (rise a b)) ≡ product (pos pixel_side) (rise b a)
 unfolding rise difference product opposite

@@ -9,7 +9,7 @@ use Rattle.wf_career.specs.Run.{given_to}
 use Rattle.wf_codec.specs.Message.{view}
 use Rattle.wf_codec.specs.declared.message.Message.{Message}
 use Rattle.wf_def.specs.Definition.{Definition}
-use Rattle.wf_mail.specs.Mail.{IsBeginning}
+use Rattle.wf_mail.specs.Mail.{IsFirstPart}
 use Rattle.wf_mail.specs.Receiver.{ReceiverState}
 use Rattle.wf_model.specs.Chosen.{IsIn}
 use Rattle.wf_model.specs.Message as model
@@ -34,7 +34,7 @@ pub record IsSentBefore (sent : List Message) {peer : ℕ} {stream : List (Vec �
   pub bytes : List ℕ
   pub put : List (model.Message Definition)
   pub sent_as : IsSentAs bytes put
-  pub begins : IsBeginning (bytes_by_then come) bytes
+  pub begins : IsFirstPart (bytes_by_then come) bytes
   pub returned : AreAmong put (map view sent)
 
 -- so it is for each message that comes from a peer

@@ -12,7 +12,7 @@ use Rattle.wf_edge.specs.RequestEffect.{Responds}
 use Rattle.wf_edge.specs.Theorem.{AsksMapService}
 use Rattle.wf_edge.specs.declared.outcome.Outcome.TheVariants.{Sent}
 use Rattle.wf_http.specs.Response.{Response, response_bytes}
-use Rattle.wf_voter.specs.Answer.{IsAnswer}
+use Rattle.wf_voter.specs.Answer.{IsProcessAnswer}
 use Rattle.wf_model.specs.DurableState.{definition_at}
 use Rattle.wf_node.specs.Node.{Node}
 use Rattle.wf_safety.specs.Theorems.{IsBeginning}
@@ -90,7 +90,7 @@ module _ {T : Type 0} (tapes : Tape T) where
     pub after : Process T tapes
     pub status : ℕ
     pub count : ℕ
-    pub answer : IsAnswer tapes process came response (Sent status count) after
+    pub answer : IsProcessAnswer tapes process came response (Sent status count) after
     pub answers : status ≢ 503
     pub ever : IsEver n before folders process.actor.node
 

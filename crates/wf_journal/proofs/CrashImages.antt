@@ -7,7 +7,7 @@ use Rattle.wf_canon.specs.TextMeaning.{OneTextOneMap}
 use Rattle.wf_model.specs.DurableState.{Record}
 use Rattle.wf_journal.specs.declared.open_error.OpenFault.{OpenFault}
 use Rattle.wf_journal.specs.declared.open_error.OpenFault.TheVariants.{TapeFailed, BadRecord, Memory}
-use Rattle.wf_tape.specs.Tape.{IsBeginning, IsOnlyImage, IsUnchanged, LeavesNoOther, IsExtended, IsCutShort, LeavesOldOr, LeavesOldOrCut, HasRisen}
+use Rattle.wf_tape.specs.Tape.{IsPrefixOf, IsOnlyImage, IsUnchanged, LeavesNoOther, IsExtended, IsCutShort, LeavesOldOr, LeavesOldOrCut, HasRisen}
 use Rattle.wf_journal.specs.Encoding.{Encodes}
 use Rattle.wf_journal.specs.Records.{ReadsAs, AreRecords, AreWritten}
 use Rattle.wf_journal.specs.Front.{HasRead}
@@ -112,7 +112,7 @@ not_bad_anywhere Memory content good = tt
 
 -- a prefix of the content with the record's bytes, that begins with the content, is the content
 -- followed by a prefix of them
-added_front : (content spelled image : List ℕ) → IsBeginning image (content ++ spelled) → IsBeginning content image → (front : List ℕ) × (after : List ℕ) × (image ≡ content ++ front) × (spelled ≡ front ++ after)
+added_front : (content spelled image : List ℕ) → IsPrefixOf image (content ++ spelled) → IsPrefixOf content image → (front : List ℕ) × (after : List ℕ) × (image ≡ content ++ front) × (spelled ≡ front ++ after)
 added_front content spelled image within behind =
     let regrouped : content ++ spelled ≡ content ++ (behind.0 ++ within.0) =
     within.1 ∙ ap (λ (t : List ℕ). t ++ within.0) behind.1 ∙ append_assoc content behind.0 within.0 in
@@ -123,7 +123,7 @@ pub same_or_more : OneTextOneMap → (content spelled : List ℕ) (r : Record De
     Follows (ReadsSameOrOneMore r) old new
 same_or_more one_map content spelled r old new settled spells cut image left =
     let held = settled.1 in
-    let behind : IsBeginning content image = subst (λ (t : List ℕ). IsBeginning t image) (held.only.no_other (cut image left).1.0 (cut image left).1.1) (cut image left).1.2 in
+    let behind : IsPrefixOf content image = subst (λ (t : List ℕ). IsPrefixOf t image) (held.only.no_other (cut image left).1.0 (cut image left).1.1) (cut image left).1.2 in
     let parts = added_front content spelled image (cut image left).0 behind in
     let cut_spelled : Encodes r (parts.0 ++ parts.1) = subst (λ (t : List ℕ). Encodes r t) parts.3 spells in
     let reads = subst (λ (t : List ℕ). ReadsAs t settled.0 ⊎ ReadsAs t (settled.0 ++ r ∷ [])) (sym parts.2) (cut_reads one_map content settled.0 r parts.0 parts.1 held.are_records cut_spelled) in

@@ -5,7 +5,7 @@ use Rattle.wf_model.specs.DurableState.{Record}
 use Rattle.wf_canon.specs.TextMeaning.{OneTextOneMap}
 use Rattle.wf_tape.specs.declared.fault.TapeFault.{TapeFault}
 use Rattle.wf_tape.specs.declared.fault.TapeFault.TheVariants.{Device, Memory}
-use Rattle.wf_tape.specs.Tape.{IsBeginning, IsUnchanged, IsExtended, IsNotMemory, LeavesNoOther, LeavesOldOrCut, LeavesOldOrNew, Elapses, LeavesNow}
+use Rattle.wf_tape.specs.Tape.{IsPrefixOf, IsUnchanged, IsExtended, IsNotMemory, LeavesNoOther, LeavesOldOrCut, LeavesOldOrNew, Elapses, LeavesNow}
 use Rattle.wf_journal.specs.MomentTheorems.{inside_two}
 use Rattle.wf_journal.specs.Encoding.{Encodes}
 use Rattle.wf_journal.specs.Journal.{IsSettled, Follows, ReadsSameOrOneMore}
@@ -19,7 +19,7 @@ pub inside_written : (a b c : ℕ) (content bytes new : List ℕ) (old mid : Lis
     Elapses a b first second → Elapses b c second third → LeavesOldOrNew old mid (second a) → LeavesNoOther mid (third b) → LeavesOldOrCut (content ++ bytes) old (third a)
 inside_written a b c content bytes new old mid first second third is cut one two in_first in_second =
     let short : LeavesOldOrCut (content ++ bytes) old mid = subst (λ (t : List ℕ). LeavesOldOrCut t old mid) is cut in
-    inside_two a b c second third (λ image. old image ⊎ (IsBeginning image (content ++ bytes) × ((earlier : List ℕ) × old earlier × IsBeginning earlier image))) one.later two
+    inside_two a b c second third (λ image. old image ⊎ (IsPrefixOf image (content ++ bytes) × ((earlier : List ℕ) × old earlier × IsPrefixOf earlier image))) one.later two
     (λ image left. elim (in_first image left) [ inl was ↦ inl was | inr is_new ↦ short image is_new ])
     (λ image left. short image (in_second image left))
 
@@ -46,5 +46,5 @@ pub inside_added : OneTextOneMap → (content spelled : List ℕ) (r : Record De
     Follows (ReadsSameOrOneMore r) old inside
 inside_added one_map content spelled r old inside settled spells leaves image left = elim (leaves image left) [
   | inl was ↦ (image, was, λ records reads. inl reads)
-  | inr cut ↦ same_or_more one_map content spelled r old (λ other. IsBeginning other (content ++ spelled) × ((earlier : List ℕ) × old earlier × IsBeginning earlier other)) settled spells (λ other is. is) image cut
+  | inr cut ↦ same_or_more one_map content spelled r old (λ other. IsPrefixOf other (content ++ spelled) × ((earlier : List ℕ) × old earlier × IsPrefixOf earlier other)) settled spells (λ other is. is) image cut
 ]

@@ -19,7 +19,7 @@ use Rattle.wf_journal.specs.Record.{row, texts, end_definition, HasText, IsRecor
 use Rattle.wf_journal.specs.Encoding.{format, HasTextWithin}
 use Rattle.wf_journal.specs.EncodingTheorems.{text_is_short}
 use Rattle.wf_journal.specs.FormatTheorems.{version_again, text_within}
-use Rattle.wf_journal.specs.Stages.{IsNoText}
+use Rattle.wf_journal.specs.Stages.{IsNoRecordText}
 
 -- a canonical text begins with MAP
 not_empty : (d : Definition) → 1 ≤ length (canon d)
@@ -99,12 +99,12 @@ pub texts_apart : OneTextOneMap → (q r : Record Definition) → IsRecord q →
 texts_apart one_map q r is_q is_r e =
     rows_apart one_map q r is_q is_r (ap (λ (x : Row (List ℕ)). x.byte) e) (ap (λ (x : Row (List ℕ)). x.fields) e) (ap (λ (x : Row (List ℕ)). x.ending) e)
 
-no_bad_end : (values : List FieldValue) (end : RowEnd Definition) → AreInRange HasText values end → IsSomeAnd (end_definition (end_with canon end)) IsNoText → ⊥
+no_bad_end : (values : List FieldValue) (end : RowEnd Definition) → AreInRange HasText values end → IsSomeAnd (end_definition (end_with canon end)) IsNoRecordText → ⊥
 no_bad_end (v ∷ values) end p bad = no_bad_end values end p.1 bad
 no_bad_end [] NoEnd p bad = bad
 no_bad_end [] (TextEnd d) p bad = bad d p refl
 no_bad_end [] (VotesEnd s b votes) p bad = bad
 
 -- a record's text is canonical
-pub not_bad : (r : Record Definition) → IsRecord r → IsSomeAnd (end_definition (texts r).ending) IsNoText → ⊥
+pub not_bad : (r : Record Definition) → IsRecord r → IsSomeAnd (end_definition (texts r).ending) IsNoRecordText → ⊥
 not_bad r is bad = no_bad_end (row r).fields (row r).ending is bad

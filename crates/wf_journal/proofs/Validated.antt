@@ -28,7 +28,7 @@ use Rattle.wf_journal.specs.EncodingTheorems.{length-text_spelling}
 use Rattle.wf_journal.specs.FormatTheorems.{is_format, version_stands}
 use Rattle.wf_journal.specs.Records.{BeginsWithNone, IsTorn, IsBad}
 use Rattle.wf_journal.specs.Front.{BeginsWith}
-use Rattle.wf_journal.specs.Stages.{record_fault, ReadsBody, IsValidated, IsFaultOfBytes}
+use Rattle.wf_journal.specs.Stages.{record_fault, ReadsBody, IsRecordValidated, IsFaultOfBytes}
 use Rattle.wf_journal.proofs.Texts.{has_kind, texts_apart, not_bad, text_is_within, row_of_record, body_of_record}
 
 -- ---- a record at the front
@@ -96,7 +96,7 @@ version_of v byte body has =
     record { version = version; version_is = version_stands v version is; has_kind = goes })
 
 begins_by : {X : Type 0} (view : X → Record Definition) (x : X × ℕ) (bytes : List ℕ) (r : Result Found FrameFault) → frame_front format bytes ≡ r → AreBytes bytes →
-    IsValidated view (Ok x) r → BeginsWith bytes (view x.0) x.1
+    IsRecordValidated view (Ok x) r → BeginsWith bytes (view x.0) x.1
 unfolding text_spelling
 begins_by view x bytes (Err fault) is are_bytes validated = absurd cc
 begins_by view x bytes (Ok found) is are_bytes validated =
@@ -126,7 +126,7 @@ begins_by view x bytes (Ok found) is are_bytes validated =
     }
 
 -- the record that is read is at the front
-pub begins : {X : Type 0} (view : X → Record Definition) (result : Result (X × ℕ) RecordFault) (bytes : List ℕ) → AreBytes bytes → IsValidated view result (frame_front format bytes) →
+pub begins : {X : Type 0} (view : X → Record Definition) (result : Result (X × ℕ) RecordFault) (bytes : List ℕ) → AreBytes bytes → IsRecordValidated view result (frame_front format bytes) →
     IfOk result (λ x. BeginsWith bytes (view x.0) x.1)
 begins view (Ok x) bytes are_bytes validated = begins_by view x bytes (frame_front format bytes) refl are_bytes validated
 begins view (Err e) bytes are_bytes validated = tt
@@ -147,17 +147,17 @@ is_short frames.BadLength e = absurd cc
 abbrev frame_error : FrameFault → Result Found FrameFault
 frame_error fault = Err fault
 
-torn_by : {X : Type 0} (view : X → Record Definition) (result : Result (X × ℕ) RecordFault) (r : Result Found FrameFault) → IsValidated view result r → result ≡ Err Torn → r ≡ Err frames.Short
+torn_by : {X : Type 0} (view : X → Record Definition) (result : Result (X × ℕ) RecordFault) (r : Result Found FrameFault) → IsRecordValidated view result r → result ≡ Err Torn → r ≡ Err frames.Short
 torn_by {X} view result (Err fault) validated torn = ap frame_error (is_short fault (err_same {X = X × ℕ} (record_fault fault) Torn (sym validated ∙ torn)))
 torn_by {X} view result (Ok found) validated torn =
     absurd (subst (λ (a : Result (X × ℕ) RecordFault). ReadsBody (λ (x : X × ℕ). view x.0) a (read_of found)) torn (validated.0 most_canon_bytes))
 
 -- part of a frame is a torn record
-torn_record : (bytes : List ℕ) → (bytes ≡ [] → ⊥) → parts.IsUnfinished format bytes → IsTorn bytes
+torn_record : (bytes : List ℕ) → (bytes ≡ [] → ⊥) → parts.IsUnfinishedFrame format bytes → IsTorn bytes
 torn_record [] some unfinished = some refl
 torn_record (byte ∷ bytes) some unfinished = unfinished
 
-torn_frame : (bytes : List ℕ) → IsTorn bytes → parts.IsUnfinished format bytes
+torn_frame : (bytes : List ℕ) → IsTorn bytes → parts.IsUnfinishedFrame format bytes
 torn_frame [] torn = absurd torn
 torn_frame (byte ∷ bytes) torn = torn
 
@@ -165,14 +165,14 @@ torn_validated : (bytes : List ℕ) → IsTorn bytes → frame_front format byte
 torn_validated bytes torn = frame_theorems.unfinished_is_short format is_format bytes (torn_frame bytes torn)
 
 -- bytes for which Torn is returned are torn
-pub is_torn : {X : Type 0} (view : X → Record Definition) (result : Result (X × ℕ) RecordFault) (bytes : List ℕ) → IsValidated view result (frame_front format bytes) → IsErrOf result Torn → (bytes ≡ [] → ⊥) → IsTorn bytes
+pub is_torn : {X : Type 0} (view : X → Record Definition) (result : Result (X × ℕ) RecordFault) (bytes : List ℕ) → IsRecordValidated view result (frame_front format bytes) → IsErrOf result Torn → (bytes ≡ [] → ⊥) → IsTorn bytes
 is_torn view result bytes validated torn some = torn_record bytes some (frame_theorems.short_is_unfinished format bytes (torn_by view result (frame_front format bytes) validated torn))
 
 framed_torn : (bytes : List ℕ) → frame_front format bytes ≡ Err frames.Short → BeginsWithNone bytes
 framed_torn bytes torn r spelled after encodes e = let whole = cut_of r spelled after bytes encodes e in absurd cc
 
 -- and begin with no record
-pub torn_begins_none : {X : Type 0} (view : X → Record Definition) (result : Result (X × ℕ) RecordFault) (bytes : List ℕ) → IsValidated view result (frame_front format bytes) → IsErrOf result Torn → BeginsWithNone bytes
+pub torn_begins_none : {X : Type 0} (view : X → Record Definition) (result : Result (X × ℕ) RecordFault) (bytes : List ℕ) → IsRecordValidated view result (frame_front format bytes) → IsErrOf result Torn → BeginsWithNone bytes
 torn_begins_none view result bytes validated torn = framed_torn bytes (torn_by view result (frame_front format bytes) validated torn)
 
 body_rejected : {X : Type 0} (view : X → Record Definition) (fault : RecordFault) (r : Record Definition) → IsFaultOfBytes fault → IsRecord r → ReadsBody (λ (x : X × ℕ). view x.0) (Err fault) (Some (texts r)) → ⊥
@@ -187,7 +187,7 @@ not_torn_fault fault of_bytes torn = subst IsFaultOfBytes torn of_bytes
 frame_same : (d e : FrameFault) → frame_error d ≡ frame_error e → d ≡ e
 frame_same d e same = cc
 
-bad_by : {X : Type 0} (view : X → Record Definition) (fault : RecordFault) (bytes : List ℕ) (r : Result Found FrameFault) → frame_front format bytes ≡ r → IsValidated view (Err fault) r →
+bad_by : {X : Type 0} (view : X → Record Definition) (fault : RecordFault) (bytes : List ℕ) (r : Result Found FrameFault) → frame_front format bytes ≡ r → IsRecordValidated view (Err fault) r →
     IsFaultOfBytes fault → (bytes ≡ [] → ⊥) → IsBad bytes
 bad_by {X} view fault bytes (Err found) is validated of_bytes some =
     let same : fault ≡ record_fault found = err_same {X = X × ℕ} fault (record_fault found) validated in
@@ -207,7 +207,7 @@ bad_by {X} view fault bytes (Ok found) is validated of_bytes some =
     }
 
 -- rejected bytes are bad
-pub is_bad : {X : Type 0} (view : X → Record Definition) (result : Result (X × ℕ) RecordFault) (bytes : List ℕ) → IsValidated view result (frame_front format bytes) →
+pub is_bad : {X : Type 0} (view : X → Record Definition) (result : Result (X × ℕ) RecordFault) (bytes : List ℕ) → IsRecordValidated view result (frame_front format bytes) →
     IfErr result (λ fault. IsFaultOfBytes fault → (bytes ≡ [] → ⊥) → IsBad bytes)
 is_bad view (Ok x) bytes validated = tt
 is_bad view (Err fault) bytes validated = bad_by view fault bytes (frame_front format bytes) refl validated

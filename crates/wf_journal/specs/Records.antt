@@ -3,7 +3,7 @@
 use Rattle.std.specs.Prelude.{◌≡◌, ℕ, ◌+◌, ◌⊎◌, List, [], ◌∷◌, ◌++◌, length}
 use Rattle.wf_model.specs.DurableState.{Record}
 use Rattle.wf_def.specs.Definition.{Definition}
-use Rattle.wf_frame.specs.Frame.{IsUnfinished}
+use Rattle.wf_frame.specs.Frame.{IsUnfinishedFrame}
 use Rattle.wf_journal.specs.Encoding.{spelling, spellings, format, Encodes}
 
 -- the bytes are the encodings of the records, followed by the rest
@@ -50,7 +50,7 @@ length_of (r ∷ records) = length (spelling r) + length_of records
 -- they are there, and its bytes end too early. The length is checked once its four bytes are there.
 abbrev pub IsTorn : List ℕ → Type 0
 IsTorn [] = ⊥
-IsTorn (byte ∷ bytes) = IsUnfinished format (byte ∷ bytes)
+IsTorn (byte ∷ bytes) = IsUnfinishedFrame format (byte ∷ bytes)
 
 -- Bytes that are neither a record nor a torn one.
 pub record IsBad (bytes : List ℕ) : Type 0 where

@@ -19,13 +19,13 @@ record_fault Short = Torn
 record_fault fault = Bad
 
 -- it isn't any record's text
-abbrev pub IsNoText : List ℕ → Type 0
-IsNoText text = (d : Definition) → HasText d → canon d ≡ text → ⊥
+abbrev pub IsNoRecordText : List ℕ → Type 0
+IsNoRecordText text = (d : Definition) → HasText d → canon d ≡ text → ⊥
 
 -- the definition of a canonical text; or the text isn't canonical; or allocation failed
 abbrev pub ReadsText : Result Definition RecordFault → List ℕ → Type 0
 ReadsText (Ok d) text = (canon d ≡ text) × HasText d
-ReadsText (Err NotCanonical) text = IsNoText text
+ReadsText (Err NotCanonical) text = IsNoRecordText text
 ReadsText (Err Memory) text = Unit {0}
 ReadsText (Err fault) text = ⊥
 
@@ -33,14 +33,14 @@ ReadsText (Err fault) text = ⊥
 abbrev pub ReadsBody : {X : Type 0} → (X → Record Definition) → Result X RecordFault → Option (Row (List ℕ)) → Type 0
 ReadsBody view (Ok x) read = (read ≡ Some (texts (view x))) × IsRecord (view x)
 ReadsBody view (Err Bad) read = read ≡ None
-ReadsBody view (Err NotCanonical) read = IsSomeAnd read (λ r. IsSomeAnd (end_definition r.ending) IsNoText)
+ReadsBody view (Err NotCanonical) read = IsSomeAnd read (λ r. IsSomeAnd (end_definition r.ending) IsNoRecordText)
 ReadsBody view (Err Memory) read = Unit {0}
 ReadsBody view (Err fault) read = ⊥
 
 -- The frame's error, or else the record of its body, and the length of the whole. What is read
 -- doesn't depend on how long a text may be.
-abbrev pub IsValidated : {X : Type 0} → (X → Record Definition) → Result (X × ℕ) RecordFault → Result Found FrameFault → Type 0
-IsValidated view result split = MatchResult split
+abbrev pub IsRecordValidated : {X : Type 0} → (X → Record Definition) → Result (X × ℕ) RecordFault → Result Found FrameFault → Type 0
+IsRecordValidated view result split = MatchResult split
     (λ frame. ((most : ℕ) → ReadsBody (λ x. view x.0) result (read_row (kinds most) frame.1 frame.2)) × IfOk result (λ x. x.1 ≡ header_length + length frame.2))
     (λ fault. result ≡ Err (record_fault fault))
 

@@ -3,7 +3,7 @@ ghost use Rattle.wf_journal.specs.Record.{view};
 ghost use Rattle.wf_journal.specs.Records.{IsTorn, IsBad, BeginsWithNone};
 ghost use Rattle.wf_frame.specs.Frame.{frame_front};
 ghost use Rattle.wf_journal.specs.Encoding.{format};
-ghost use Rattle.wf_journal.specs.Stages.{record_fault, ReadsText, IsValidated, IsFaultOfBytes};
+ghost use Rattle.wf_journal.specs.Stages.{record_fault, ReadsText, IsRecordValidated, IsFaultOfBytes};
 ghost use Rattle.wf_journal.specs.Front.{BeginsWith};
 
 use crate::fault::RecordFault;
@@ -30,7 +30,7 @@ pub fn decode(alloc: Global, bytes: &[u8]) -> Result<(Record, usize), RecordFaul
 }
 
 fn validate(alloc: Global, bytes: &[u8]) -> Result<(Record, usize), RecordFault>
-    ensures { IsValidated view result (frame_front format bytes.now) }
+    ensures { IsRecordValidated view result (frame_front format bytes.now) }
 {
     let (_, kind, body) = match split_frame::<RecordFormat>(bytes) {
         Ok(frame) => frame,

@@ -15,7 +15,7 @@ use Rattle.std.proofs.lemmas.Option.{slice_get_past, slice_get_read}
 use Rattle.wf_def.specs.declared.color.Color.{Color}
 use Rattle.wf_geometry.specs.Exact.{plus, difference, is_less}
 use Rattle.wf_paint.specs.Pixmap.{PixmapValue}
-use Rattle.wf_label.specs.Colored.{IsColored, is_between, is_in, bit_at, is_bit, is_in_bits, bit_box, one_bit, row_bits, character_bits}
+use Rattle.wf_label.specs.Colored.{IsPixmapColored, is_between, is_in, bit_at, is_bit, is_in_bits, bit_box, one_bit, row_bits, character_bits}
 use Rattle.wf_label.specs.Glyph.{glyph}
 use Rattle.wf_label.specs.Ink.{steps, inks, inks_at, inks_bit, inks_steps, has_bit, row_up}
 use Rattle.wf_label.specs.Limit.{cell_height, cell_width, glyph_height, glyph_width}
@@ -277,11 +277,11 @@ inks_in_bits label k m some = inks_bits label some (steps label.left (pos k)) (s
 -- ---- pictures
 
 module _ (label : PlacedValue) (color : Color) (a b c : PixmapValue) where
-  pub bits_none : (f : ℕ → ℕ → Bool) → ((k m : ℕ) → f k m ≡ false) → IsColored (is_in_bits label f) color a a
+  pub bits_none : (f : ℕ → ℕ → Bool) → ((k m : ℕ) → f k m ≡ false) → IsPixmapColored (is_in_bits label f) color a a
   bits_none f none = IsColored-none color a b c (is_in_bits label f) (in_bits-none label f none)
 
-  pub bits_same : (f g : ℕ → ℕ → Bool) → ((k m : ℕ) → g k m ≡ f k m) → IsColored (is_in_bits label f) color a b → IsColored (is_in_bits label g) color a b
+  pub bits_same : (f g : ℕ → ℕ → Bool) → ((k m : ℕ) → g k m ≡ f k m) → IsPixmapColored (is_in_bits label f) color a b → IsPixmapColored (is_in_bits label g) color a b
   bits_same f g same is = IsColored-same color a b c (is_in_bits label f) (is_in_bits label g) (λ k m wide high. in_bits-same label f g same k m) is
 
-  pub bits_next : (f g h : ℕ → ℕ → Bool) → ((k m : ℕ) → h k m ≡ (f k m || g k m)) → IsColored (is_in_bits label f) color a b → IsColored (is_in_bits label g) color b c → IsColored (is_in_bits label h) color a c
+  pub bits_next : (f g h : ℕ → ℕ → Bool) → ((k m : ℕ) → h k m ≡ (f k m || g k m)) → IsPixmapColored (is_in_bits label f) color a b → IsPixmapColored (is_in_bits label g) color b c → IsPixmapColored (is_in_bits label h) color a c
   bits_next f g h either one two = IsColored-next color a b c (is_in_bits label f) (is_in_bits label g) (is_in_bits label h) (λ k m wide high. in_bits-or label f g h either k m) one two

@@ -7,7 +7,7 @@ use Rattle.std.proofs.lemmas.Nat.{div_below}
 use Rattle.std.proofs.Math.Nat.{mul-le-mul, mul_comm, mul-zero, zero-mul}
 use Rattle.wf_def.specs.declared.color.Color.{Color}
 use Rattle.wf_paint.specs.Pixmap.{PixmapValue, IsSet, pixel_at, column_of, row_of}
-use Rattle.wf_label.specs.Colored.{IsColored, IsCutBefore, is_between, is_in, is_in_row}
+use Rattle.wf_label.specs.Colored.{IsPixmapColored, IsCutBefore, is_between, is_in, is_in_row}
 use Rattle.wf_label.specs.declared.placed.PixelBox.{PixelBox}
 
 -- ---- one after another
@@ -26,11 +26,11 @@ pixel_in (suc w) zero i within = absurd (omega (arith, mul-zero (suc w)))
 pixel_in (suc w) (suc h) i within = (omega arith, omega arith)
 
 module _ (color : Color) (a b c : PixmapValue) where
-  pub IsColored-none : (shown : ℕ → ℕ → Bool) → ((k m : ℕ) → shown k m ≡ false) → IsColored shown color a a
+  pub IsColored-none : (shown : ℕ → ℕ → Bool) → ((k m : ℕ) → shown k m ≡ false) → IsPixmapColored shown color a a
   IsColored-none shown none = record { width = refl; height = refl; pixels = λ i within. rw none refl }
 
   -- the same pixels, named by another function
-  pub IsColored-same : (first shown : ℕ → ℕ → Bool) → ((k m : ℕ) → k < a.width → m < a.height → shown k m ≡ first k m) → IsColored first color a b → IsColored shown color a b
+  pub IsColored-same : (first shown : ℕ → ℕ → Bool) → ((k m : ℕ) → k < a.width → m < a.height → shown k m ≡ first k m) → IsPixmapColored first color a b → IsPixmapColored shown color a b
   IsColored-same first shown same is = record {
     width = is.width;
     height = is.height;
@@ -41,7 +41,7 @@ module _ (color : Color) (a b c : PixmapValue) where
 
   -- the pixels that got the colour first, or then
   pub IsColored-next : (first second shown : ℕ → ℕ → Bool) → ((k m : ℕ) → k < a.width → m < a.height → shown k m ≡ (first k m || second k m)) →
-      IsColored first color a b → IsColored second color b c → IsColored shown color a c
+      IsPixmapColored first color a b → IsPixmapColored second color b c → IsPixmapColored shown color a c
   IsColored-next first second shown either one two = record {
     width = two.width ∙ one.width;
     height = two.height ∙ one.height;
@@ -111,7 +111,7 @@ run_in_row q m line w left end inside most = elim (cases_order q line) [
 
 -- a run within a line of the picture, lines counted from the top, is a part of that row
 pub IsRun-in_row : (row left end : ℕ) (color : Color) (a b : PixmapValue) → row < a.height → end ≤ a.width →
-    IsRun ((a.height - 1 - row) * a.width + left) ((a.height - 1 - row) * a.width + end) color a b → IsColored (is_in_row row left end) color a b
+    IsRun ((a.height - 1 - row) * a.width + left) ((a.height - 1 - row) * a.width + end) color a b → IsPixmapColored (is_in_row row left end) color a b
 unfolding is_in_row column_of row_of
 IsRun-in_row row left end color a b here most run = record { width = run.width; height = run.height; pixels = each } where
   each : (i : ℕ) → i < a.width * a.height →
@@ -149,7 +149,7 @@ between_cuts most first end low high k begins ends within =
 
 module _ (f : PixelBox) (left right bottom top : ℕ) (color : Color) (a b c : PixmapValue) (begins : IsCutBefore a.width left f.left) (ends : IsCutBefore a.width right f.right) where
   -- one row more
-  pub rows_next : (row : ℕ) → bottom ≤ row → IsColored (in_rows f bottom row) color a b → IsColored (is_in_row row left right) color b c → IsColored (in_rows f bottom (row + 1)) color a c
+  pub rows_next : (row : ℕ) → bottom ≤ row → IsPixmapColored (in_rows f bottom row) color a b → IsPixmapColored (is_in_row row left right) color b c → IsPixmapColored (in_rows f bottom (row + 1)) color a c
   unfolding is_in_row
   rows_next row above one two = IsColored-next color a b c (in_rows f bottom row) (is_in_row row left right) (in_rows f bottom (row + 1)) either one two where
     either : (k m : ℕ) → k < a.width → m < a.height → in_rows f bottom (row + 1) k m ≡ (in_rows f bottom row k m || is_in_row row left right k m)
@@ -158,7 +158,7 @@ module _ (f : PixelBox) (left right bottom top : ℕ) (color : Color) (a b c : P
       by_row there = grind (arith, nat_tests)
 
   -- all rows
-  pub rows_all : (row : ℕ) → IsCutBefore a.height bottom f.bottom → IsCutBefore a.height top f.top → row ≡ max top bottom → IsColored (in_rows f bottom row) color a b → IsColored (is_in f) color a b
+  pub rows_all : (row : ℕ) → IsCutBefore a.height bottom f.bottom → IsCutBefore a.height top f.top → row ≡ max top bottom → IsPixmapColored (in_rows f bottom row) color a b → IsPixmapColored (is_in f) color a b
   unfolding is_in
   rows_all row low high last is = IsColored-same color a b c (in_rows f bottom row) (is_in f) same is where
     same : (k m : ℕ) → k < a.width → m < a.height → is_in f k m ≡ in_rows f bottom row k m

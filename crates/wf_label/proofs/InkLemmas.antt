@@ -3,7 +3,7 @@ use Rattle.std.proofs.Common.{◌≡◌, ℕ, ◌+◌, ◌-◌, ◌<◌, ◌≤�
 use Rattle.std.proofs.lemmas.List.{drop_more}
 use Rattle.wf_def.specs.declared.color.Color.{Color}
 use Rattle.wf_paint.specs.Pixmap.{PixmapValue, pixel_at, column_of, row_of}
-use Rattle.wf_label.specs.Colored.{IsColored}
+use Rattle.wf_label.specs.Colored.{IsPixmapColored}
 use Rattle.wf_label.specs.Ink.{ink_of, inks, inked, IsInked}
 use Rattle.wf_label.specs.Placed.{PlacedValue, placed_value, placed_values}
 use Rattle.wf_label.specs.declared.placed.Placed.{Placed}
@@ -24,7 +24,7 @@ inked-first label labels below column row = by_test (inks label column row) refl
 
 -- one label drawn over those after it
 IsInked-more : (label : PlacedValue) (labels : List PlacedValue) (a b c : PixmapValue) → IsInked labels a b →
-    IsColored (λ column row. inks label (pos column) (pos row)) label.color b c → IsInked (label ∷ labels) a c
+    IsPixmapColored (λ column row. inks label (pos column) (pos row)) label.color b c → IsInked (label ∷ labels) a c
 IsInked-more label labels a b c before drawn = record {
   width = drawn.width ∙ before.width;
   height = drawn.height ∙ before.height;
@@ -37,7 +37,7 @@ IsInked-more label labels a b c before drawn = record {
 
 -- the same by the code's labels, of which the one before this index is drawn
 pub label_drawn : (labels : List Placed) (index : ℕ) (d : Placed) (a b c : PixmapValue) → 0 < index → index ≤ length labels → IsInked (placed_values (drop index labels)) a b →
-    IsColored (λ column row. inks (placed_value (get_or labels (index - 1) d)) (pos column) (pos row)) (get_or labels (index - 1) d).color b c →
+    IsPixmapColored (λ column row. inks (placed_value (get_or labels (index - 1) d)) (pos column) (pos row)) (get_or labels (index - 1) d).color b c →
     IsInked (placed_values (drop (index - 1) labels)) a c
 label_drawn labels index d a b c some within before drawn =
     let next : index - 1 + 1 ≡ index = omega arith in

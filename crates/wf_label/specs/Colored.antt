@@ -12,7 +12,7 @@ use Rattle.wf_label.specs.declared.placed.PixelBox.{PixelBox}
 
 -- the pixels that the function names by column and row, rows counted upward, got the colour, and
 -- every other has its old one
-pub record IsColored (shown : ℕ → ℕ → Bool) (color : Color) (old new : PixmapValue) : Type 0 where
+pub record IsPixmapColored (shown : ℕ → ℕ → Bool) (color : Color) (old new : PixmapValue) : Type 0 where
   pub width : new.width ≡ old.width
   pub height : new.height ≡ old.height
   pub pixels : (i : ℕ) → i < old.width * old.height →

@@ -1,6 +1,6 @@
 //! Labels drawn over a picture.
 ghost use Rattle.std.specs.Prelude.{◌≡◌, ◌≤◌, ◌*◌, ◌^◌, pos};
-ghost use Rattle.wf_label.specs.Colored.{IsColored, bit_box, character_bits, is_in_bits, one_bit, row_bits};
+ghost use Rattle.wf_label.specs.Colored.{IsPixmapColored, bit_box, character_bits, is_in_bits, one_bit, row_bits};
 ghost use Rattle.wf_label.specs.Ink.{IsInked, inks};
 ghost use Rattle.wf_label.specs.Placed.{placed_value, placed_values};
 
@@ -26,7 +26,7 @@ pub fn draw_labels(pixmap: &mut Pixmap, labels: &[Placed])
 
 /// Gives the pixels that the label's letters ink its colour.
 fn draw_label(pixmap: &mut Pixmap, label: &Placed)
-    ensures { IsColored (λ column row. inks (placed_value label.now) (pos column) (pos row))
+    ensures { IsPixmapColored (λ column row. inks (placed_value label.now) (pos column) (pos row))
         label.now.color pixmap.old pixmap.new }
 {
     for (index, character) in label.text.chars().enumerate() {
@@ -36,7 +36,7 @@ fn draw_label(pixmap: &mut Pixmap, label: &Placed)
 
 /// Draws one character of the label, at this index of its text.
 fn draw_character(pixmap: &mut Pixmap, label: &Placed, index: usize, character: char)
-    ensures { IsColored (is_in_bits (placed_value label.now) (character_bits index character))
+    ensures { IsPixmapColored (is_in_bits (placed_value label.now) (character_bits index character))
         label.now.color pixmap.old pixmap.new }
 {
     let rows = glyph(character);
@@ -47,7 +47,7 @@ fn draw_character(pixmap: &mut Pixmap, label: &Placed, index: usize, character: 
 
 /// Draws one row of a character, `up` rows of bits up in its cell.
 fn draw_row(pixmap: &mut Pixmap, label: &Placed, index: usize, up: u8, row: u8)
-    ensures { IsColored (is_in_bits (placed_value label.now) (row_bits index up row))
+    ensures { IsPixmapColored (is_in_bits (placed_value label.now) (row_bits index up row))
         label.now.color pixmap.old pixmap.new }
 {
     for column in 0..GLYPH_WIDTH {
@@ -61,7 +61,7 @@ fn draw_row(pixmap: &mut Pixmap, label: &Placed, index: usize, up: u8, row: u8)
 /// Draws one bit, which is `across` bits to the right in the label's box and `up` bits up.
 fn draw_bit(pixmap: &mut Pixmap, label: &Placed, across: u128, up: u8)
     requires { across ≤ 2 ^ 70 }
-    ensures { IsColored (is_in_bits (placed_value label.now) (one_bit across up))
+    ensures { IsPixmapColored (is_in_bits (placed_value label.now) (one_bit across up))
         label.now.color pixmap.old pixmap.new }
 {
     fill(pixmap, &bit_box(label, across, up), label.color);

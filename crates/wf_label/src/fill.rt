@@ -1,7 +1,7 @@
 //! Boxes of pixels filled with a colour.
 ghost use Rattle.std.specs.Prelude.{◌≤◌, ◌<◌};
 ghost use Rattle.wf_geometry.specs.Exact.{is_less};
-ghost use Rattle.wf_label.specs.Colored.{IsColored, IsCutBefore, is_in, is_in_row};
+ghost use Rattle.wf_label.specs.Colored.{IsPixmapColored, IsCutBefore, is_in, is_in_row};
 
 use crate::placed::PixelBox;
 use wf_def::Color;
@@ -9,7 +9,7 @@ use wf_paint::Pixmap;
 
 /// Gives the pixels of the picture that lie in the box the colour.
 pub(crate) fn fill(pixmap: &mut Pixmap, pixel_box: &PixelBox, color: Color)
-    ensures { IsColored (is_in pixel_box.now) color pixmap.old pixmap.new }
+    ensures { IsPixmapColored (is_in pixel_box.now) color pixmap.old pixmap.new }
 {
     let left = cut(pixel_box.left, pixmap.width());
     let right = cut(pixel_box.right, pixmap.width());
@@ -39,7 +39,7 @@ pub(crate) fn cut(side: i128, most: u32) -> u32
 fn fill_row(pixmap: &mut Pixmap, row: u32, left: u32, right: u32, color: Color)
     requires row { row < pixmap.old.height }
     requires right { right ≤ pixmap.old.width }
-    ensures { IsColored (is_in_row row left right) color pixmap.old pixmap.new }
+    ensures { IsPixmapColored (is_in_row row left right) color pixmap.old pixmap.new }
 {
     let start = (pixmap.height() - 1 - row) * pixmap.width();
     for column in left..right.max(left) {

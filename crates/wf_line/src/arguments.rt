@@ -393,7 +393,8 @@ fn drawing_commands<'a>(alloc: Global) -> Result<Command<'a>, AllocError>
 
 // The commands about a mapfile.
 fn mapfile_commands<'a>(alloc: Global) -> Result<Command<'a>, AllocError>
-    ensures { IfOk result (HasSubcommands (caps_shape ∷ draw_shape ∷ canon_shape ∷ check_shape ∷ [])) }
+    ensures { IfOk result (HasSubcommands
+        (caps_shape ∷ draw_shape ∷ canon_shape ∷ check_shape ∷ [])) }
 {
     let check = check_command(alloc)?;
     drawing_commands(alloc)?

@@ -28,7 +28,8 @@ pub fn text_of_map(
 
 /// A copy of a map's text.
 fn copy_definition(alloc: Global, map: Option<&Canon>) -> Result<Option<Vec<u8>>, AllocError>
-    ensures { IfOk result (λ text. option_map (λ t. t.items) text ≡ option_map canon (option_copied map.entry)) }
+    ensures { IfOk result (λ text. option_map (λ t. t.items) text ≡
+        option_map canon (option_copied map.entry)) }
 {
     match map {
         Some(canon) => {

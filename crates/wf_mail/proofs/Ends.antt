@@ -1,7 +1,7 @@
 -- The two ends of a connection.
 use Rattle.std.proofs.Common.{◌≡◌, ◌≢◌, ℕ, Bool, true, false, take, drop, List, [], ◌++◌, refl, sym, ap, subst, ◌∙◌, append_assoc, append-nil}
 use Rattle.wf_mail.proofs.Streams.{all_sent_come, never_breaks, only_sent_come}
-use Rattle.wf_mail.specs.Mail.{spelled, AreMessages, IsBeginning}
+use Rattle.wf_mail.specs.Mail.{spelled, AreMessages, IsFirstPart}
 use Rattle.wf_mail.specs.Outbox.{OutboxState}
 use Rattle.wf_mail.specs.Receiver.{ReceiverState, Open, Closed, is_memory, came, taken, IsOpen, IsClosed}
 use Rattle.wf_mail.proofs.Received.{memory_is, not_memory}
@@ -10,12 +10,12 @@ use Rattle.wf_mail.specs.Stream.{Reads}
 use Rattle.wf_codec.specs.declared.fault.DecodeFault.{DecodeFault}
 use Rattle.wf_codec.specs.declared.fault.DecodeFault.TheVariants.{Memory}
 
-begins_through : {A : Type 0} (xs ys zs : List A) → IsBeginning xs ys → IsBeginning ys zs → IsBeginning xs zs
+begins_through : {A : Type 0} (xs ys zs : List A) → IsFirstPart xs ys → IsFirstPart ys zs → IsFirstPart xs zs
 begins_through xs ys zs (rest, e) (more, h) = (rest ++ more, sym (append_assoc xs rest more) ∙ subst (λ k. k ++ more ≡ zs) (sym e) h)
 
 module _ (outbox : OutboxState) (receiver : ReceiverState) (are : AreMessages outbox.put) (spells : outbox.written ++ outbox.waiting ≡ spelled outbox.put)
     (reads : (rest : List ℕ) × Reads (taken receiver) (came receiver) rest) where
-  pub only_sent : IsBeginning (taken receiver) outbox.written → IsBeginning (came receiver) outbox.put
+  pub only_sent : IsFirstPart (taken receiver) outbox.written → IsFirstPart (came receiver) outbox.put
   only_sent begins =
       only_sent_come outbox.put (came receiver) (taken receiver) reads.0
       (record { messages = are; begins = begins_through (taken receiver) outbox.written (spelled outbox.put) begins (outbox.waiting, spells) }) reads.1.splits

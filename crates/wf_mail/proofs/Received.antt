@@ -12,7 +12,7 @@ use Rattle.wf_mail.specs.Stream.{Splits, Reads, Breaks}
 use Rattle.wf_codec.specs.declared.fault.DecodeFault.{DecodeFault}
 use Rattle.wf_codec.specs.declared.fault.DecodeFault.TheVariants.{Short, BadVersion, BadKind, BadField, NotCanonical, TooLong, Memory}
 use Rattle.wf_mail.specs.Mail.{spelled, AreMessages}
-use Rattle.wf_mail.specs.Receiver.{ReceiverState, Closed, is_memory, logged, with_inbox, state_of, came, taken, IsReceived, IsClosed, KeepsPartIn, IsReceiver}
+use Rattle.wf_mail.specs.Receiver.{ReceiverState, Closed, is_memory, logged, with_inbox, state_of, came, taken, IsPieceReceived, IsClosed, KeepsPartIn, IsReceiver}
 use Rattle.wf_mail.proofs.Spelled.{spelled_then, messages_then}
 use Rattle.wf_mail.proofs.Streams.{splits_are, are_split, breaks_behind}
 use Rattle.wf_mail.proofs.WholeMessages.{nothing_is_part}
@@ -53,7 +53,7 @@ more_came : (log log' : Log) (messages : Vec code.Message Global) (count : ℕ) 
 more_came log log' messages count e = ap logged e ∙ logged_more log messages count
 
 received : (log log' : Log) (messages : Vec code.Message Global) (count : ℕ) (old new : InboxState) (piece : List ℕ) → log' ≡ log ++ (messages, count) ∷ [] → IsFed old piece (map view messages.items) new →
-    IsReceived (with_inbox (logged log) old) piece (map view messages.items) (with_inbox (logged log') new)
+    IsPieceReceived (with_inbox (logged log) old) piece (map view messages.items) (with_inbox (logged log') new)
 received log log' messages count (inbox.Open rest) (inbox.Open after) piece e fed = (more_came log log' messages count e, fed)
 received log log' messages count (inbox.Open rest) (inbox.Failed fault) piece e fed = absurd fed
 received log log' messages count (inbox.Failed fault) new piece e fed = absurd fed
@@ -80,10 +80,10 @@ stays_receiver log log' messages count (inbox.Failed fault) new piece e fed is =
 
 -- by what the receiver was
 pub received_now : (out : Bool) (log log' : Log) (messages : Vec code.Message Global) (count : ℕ) (old new : InboxState) (piece : List ℕ) (before : ReceiverState) → out ≡ false → state_of out (logged log) old ≡ before →
-    log' ≡ log ++ (messages, count) ∷ [] → IsFed old piece (map view messages.items) new → IsReceived before piece (map view messages.items) (state_of out (logged log') new)
+    log' ≡ log ++ (messages, count) ∷ [] → IsFed old piece (map view messages.items) new → IsPieceReceived before piece (map view messages.items) (state_of out (logged log') new)
 received_now out log log' messages count old new piece before not_out was e fed =
-    subst (λ x. IsReceived x piece (map view messages.items) (state_of out (logged log') new)) was
-    (subst (λ o. IsReceived (state_of o (logged log) old) piece (map view messages.items) (state_of o (logged log') new)) (sym not_out) (received log log' messages count old new piece e fed))
+    subst (λ x. IsPieceReceived x piece (map view messages.items) (state_of out (logged log') new)) was
+    (subst (λ o. IsPieceReceived (state_of o (logged log) old) piece (map view messages.items) (state_of o (logged log') new)) (sym not_out) (received log log' messages count old new piece e fed))
 
 pub takes_now : (out : Bool) (log log' : Log) (messages : Vec code.Message Global) (count : ℕ) (old new : InboxState) (piece : List ℕ) (before : ReceiverState) → out ≡ false → state_of out (logged log) old ≡ before →
     log' ≡ log ++ (messages, count) ∷ [] → IsFed old piece (map view messages.items) new → taken (state_of out (logged log') new) ≡ taken before ++ piece

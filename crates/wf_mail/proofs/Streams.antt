@@ -9,7 +9,7 @@ use Rattle.wf_mail.proofs.Split.{breaks_or_reads, split_one_way, stays_broken}
 use Rattle.wf_mail.proofs.WholeMessages.{nothing_is_part}
 use Rattle.wf_mail.specs.Stream.{Splits, Reads, Breaks}
 use Rattle.wf_codec.specs.declared.fault.DecodeFault.{DecodeFault}
-use Rattle.wf_mail.specs.Mail.{spelled, AreMessages, IsBeginning}
+use Rattle.wf_mail.specs.Mail.{spelled, AreMessages, IsFirstPart}
 use Rattle.wf_mail.specs.Theorem.{OnlySentCome, AllSentCome, NeverBreaks}
 
 -- ---- a stream that splits
@@ -53,7 +53,7 @@ breaks_behind messages stream fault are breaks = record {
 
 -- ---- what comes of a connection
 
-come_of : (put came : List (Message Definition)) (bytes rest more : List ℕ) → AreMessages put → Splits bytes came rest → bytes ++ more ≡ spelled put → IsBeginning came put
+come_of : (put came : List (Message Definition)) (bytes rest more : List ℕ) → AreMessages put → Splits bytes came rest → bytes ++ more ≡ spelled put → IsFirstPart came put
 unfolding spelled
 come_of put [] bytes rest more are splits e = (put, refl)
 come_of [] (m ∷ came) bytes rest more are splits e =
@@ -84,5 +84,5 @@ never_breaks put bytes fault carried breaks =
 
 -- ---- the two ends
 
-pub begins_through : {A : Type 0} (xs ys zs : List A) → IsBeginning xs ys → IsBeginning ys zs → IsBeginning xs zs
+pub begins_through : {A : Type 0} (xs ys zs : List A) → IsFirstPart xs ys → IsFirstPart ys zs → IsFirstPart xs zs
 begins_through xs ys zs (rest, e) (more, h) = (rest ++ more, sym (append_assoc xs rest more) ∙ subst (λ k. k ++ more ≡ zs) (sym e) h)

@@ -16,11 +16,11 @@ AreMessages [] = ⊤
 AreMessages (m ∷ messages) = IsMessage m × AreMessages messages
 
 -- the one list is the first part of the other, or all of it
-abbrev pub IsBeginning : {A : Type 0} → List A → List A → Type 0
-IsBeginning {A} xs ys = (rest : List A) × (xs ++ rest ≡ ys)
+abbrev pub IsFirstPart : {A : Type 0} → List A → List A → Type 0
+IsFirstPart {A} xs ys = (rest : List A) × (xs ++ rest ≡ ys)
 
 -- These bytes came of a connection into which the messages were put: a beginning of their
 -- encodings. The rest comes later, or never.
 pub record IsCarried (put : List (Message Definition)) (bytes : List ℕ) : Type 0 where
   pub messages : AreMessages put
-  pub begins : IsBeginning bytes (spelled put)
+  pub begins : IsFirstPart bytes (spelled put)

@@ -58,7 +58,7 @@ pub record IsPut (before : OutboxState) (m : Message Definition) (after : Outbox
 
 -- As many messages were put in and bytes written out, the very same; only the room without an
 -- allocation may differ.
-pub record IsUnchanged (before after : OutboxState) : Type 0 where
+pub record IsSameOutbox (before after : OutboxState) : Type 0 where
   pub put : after.put ≡ before.put
   pub written : after.written ≡ before.written
   pub waiting : after.waiting ≡ before.waiting

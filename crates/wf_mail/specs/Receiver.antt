@@ -54,9 +54,9 @@ IsOpen (Closed messages fault) = ⊥
 
 -- These messages came out, in order; with the rest they are the bytes of the rest before and of the
 -- piece.
-abbrev pub IsReceived : ReceiverState → List ℕ → List (Message Definition) → ReceiverState → Type 0
-IsReceived (Open before rest) piece messages (Open after rest_after) = (after ≡ before ++ messages) × Reads (rest ++ piece) messages rest_after
-IsReceived before piece messages after = ⊥
+abbrev pub IsPieceReceived : ReceiverState → List ℕ → List (Message Definition) → ReceiverState → Type 0
+IsPieceReceived (Open before rest) piece messages (Open after rest_after) = (after ≡ before ++ messages) × Reads (rest ++ piece) messages rest_after
+IsPieceReceived before piece messages after = ⊥
 
 -- The receiver closed with the error, or was closed with it. Unless an allocation failed, the bytes
 -- taken and the piece are whole messages and then bytes with this error.

@@ -3,7 +3,7 @@ ghost use Rattle.std.specs.Io.KnownBytes.{Appends, Keeps};
 ghost use Rattle.wf_codec.specs.Message.{view};
 ghost use Rattle.wf_codec.specs.Encoding.{spelling};
 ghost use Rattle.wf_mail.specs.Mail.{spelled, AreMessages};
-ghost use Rattle.wf_mail.specs.Outbox.{IsAdvanced, IsPut, IsUnchanged};
+ghost use Rattle.wf_mail.specs.Outbox.{IsAdvanced, IsPut, IsSameOutbox};
 ghost use Rattle.wf_stream.specs.Effects.{Counts};
 
 use crate::dropped::Dropped;
@@ -60,7 +60,7 @@ impl Outbox {
     /// if an allocation fails, which needs more bytes than are spare; nothing else changes then.
     pub fn put(&mut self, message: &Message) -> Result<(), Dropped>
         ensures ok { OnOk result (IsPut self.old (view message.now) self.new) }
-        ensures dropped { OnErr result (IsUnchanged self.old self.new) }
+        ensures dropped { OnErr result (IsSameOutbox self.old self.new) }
         ensures no_room { IsErrOf result Dropped.NoRoom →
             self.old.limit < length self.old.waiting + length (spelling (view message.now)) }
         ensures memory { IsErrOf result Dropped.Memory →

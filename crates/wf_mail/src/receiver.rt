@@ -1,6 +1,6 @@
 ghost use Rattle.std.specs.Prelude.{◌≡◌, ◌++◌, ℕ, List, [], map, IfErr, IfOk, OnOk};
 ghost use Rattle.wf_codec.specs.Message.{view};
-ghost use Rattle.wf_mail.specs.Receiver.{Open, came, is_memory, taken, IsClosed, IsReceived};
+ghost use Rattle.wf_mail.specs.Receiver.{Open, came, is_memory, taken, IsClosed, IsPieceReceived};
 ghost use Rattle.wf_mail.specs.Stream.{Reads};
 
 use crate::inbox::Inbox;
@@ -48,7 +48,7 @@ impl Receiver {
     /// `Memory` too, since a caller has no piece a second time.
     pub fn receive(&mut self, piece: &[u8]) -> Result<Vec<Message>, DecodeFault>
         ensures ok { IfOk result (λ messages.
-            IsReceived self.old piece.now (map view messages.items) self.new) }
+            IsPieceReceived self.old piece.now (map view messages.items) self.new) }
         ensures bytes { OnOk result (taken self.new ≡ taken self.old ++ piece.now) }
         ensures err { IfErr result (λ fault. IsClosed self.old piece.now fault self.new) }
     {

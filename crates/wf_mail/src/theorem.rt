@@ -3,7 +3,7 @@
 ghost use Rattle.std.specs.Prelude.{◌≡◌, ◌<◌, [], ◌∷◌, IfErr, IfOk, OnOk};
 ghost use Rattle.wf_codec.specs.Message.{view};
 ghost use Rattle.wf_mail.specs.Theorem.{AllSentCome, NeverBreaks, OnlySentCome};
-ghost use Rattle.wf_mail.specs.Mail.{IsBeginning};
+ghost use Rattle.wf_mail.specs.Mail.{IsFirstPart};
 ghost use Rattle.wf_mail.specs.Receiver.{came, taken, IsOpen};
 
 use crate::dropped::Dropped;
@@ -26,8 +26,8 @@ pub fn only_sent_messages_come()
 /// wrote out, a beginning of the messages that were put in came; and all of them if it took all,
 /// and nothing waits. The call does nothing.
 pub fn came_of_what_was_put(outbox: &Outbox, receiver: &Receiver)
-    ensures only { IsBeginning (taken receiver.now) outbox.now.written →
-        IsBeginning (came receiver.now) outbox.now.put }
+    ensures only { IsFirstPart (taken receiver.now) outbox.now.written →
+        IsFirstPart (came receiver.now) outbox.now.put }
     ensures all { outbox.now.waiting ≡ [] → taken receiver.now ≡ outbox.now.written →
         came receiver.now ≡ outbox.now.put }
 {

@@ -20,7 +20,7 @@ use Rattle.wf_journal.specs.Journal.{Journal}
 use Rattle.wf_journal.specs.Record.{view}
 use Rattle.wf_node.specs.declared.fault.NodeFault.{NodeFault}
 use Rattle.wf_node.specs.declared.fault.NodeFault.TheVariants.{Memory}
-use Rattle.wf_node.specs.Act.{IsAct, IsChange, IsRejectedOr, IsStepReply}
+use Rattle.wf_node.specs.Act.{IsStepAtParts, IsChange, IsRejectedOr, IsStepReply}
 use Rattle.wf_node.specs.Fault.{rejected_by, TakesMemory, ByEntry, ByMessages, fault_of}
 use Rattle.wf_node.specs.DurablePart as keeping
 use Rattle.wf_node.specs.Parts.{Parts, stored_of}
@@ -43,7 +43,7 @@ module _ {T : Type 0} (tapes : Tape T) where
   pub act_done : {A : Type 0} (input : Input Definition) (given : Transition Definition) (journal journal_after : Journal T) (parts parts_after : Parts) (proposer proposer_after : Proposer)
       (result : Result (Vec Message A) NodeFault) → step_rejection (stored_of parts) (volatile_of proposer) input ≡ None → given ≡ transition_at parts proposer input →
       IsChange tapes given journal parts proposer result journal_after parts_after proposer_after →
-      IsAct tapes input journal parts proposer result journal_after parts_after proposer_after
+      IsStepAtParts tapes input journal parts proposer result journal_after parts_after proposer_after
   act_done input given journal journal_after parts parts_after proposer proposer_after result none is change =
       subst (λ why. IsRejectedOr tapes why (transition_at parts proposer input) journal parts proposer result journal_after parts_after proposer_after) (sym none)
       (change_as tapes given (transition_at parts proposer input) journal journal_after parts parts_after proposer proposer_after result is change)
@@ -52,7 +52,7 @@ module _ {T : Type 0} (tapes : Tape T) where
   pub act_only_sends : {A : Type 0} (input : Input Definition) (messages : List (model.Message Definition)) (journal : Journal T) (parts : Parts) (proposer : Proposer)
       (result : Result (Vec Message A) NodeFault) → step_rejection (stored_of parts) (volatile_of proposer) input ≡ None → journal.halted ≡ false →
       transition_at parts proposer input ≡ only_sends (volatile_of proposer) messages → IsStepReply messages result →
-      IsAct tapes input journal parts proposer result journal parts proposer
+      IsStepAtParts tapes input journal parts proposer result journal parts proposer
   act_only_sends input messages journal parts proposer result none running is reply =
       subst (λ why. IsRejectedOr tapes why (transition_at parts proposer input) journal parts proposer result journal parts proposer) (sym none)
       (sends_changes tapes (transition_at parts proposer input) messages journal parts proposer result running is reply)
@@ -60,7 +60,7 @@ module _ {T : Type 0} (tapes : Tape T) where
   -- an input that the table rejects
   pub act_rejected : {A : Type 0} (input : Input Definition) (why : StepRejection) (journal : Journal T) (parts : Parts) (proposer : Proposer)
       (result : Result (Vec Message A) NodeFault) → step_rejection (stored_of parts) (volatile_of proposer) input ≡ Some why → rejected_by result ≡ Some why →
-      IsAct tapes input journal parts proposer result journal parts proposer
+      IsStepAtParts tapes input journal parts proposer result journal parts proposer
   act_rejected input why journal parts proposer result some answered =
       subst (λ x. IsRejectedOr tapes x (transition_at parts proposer input) journal parts proposer result journal parts proposer) (sym some)
       (answered, refl, record { parts = refl; proposer = refl })
@@ -69,7 +69,7 @@ module _ {T : Type 0} (tapes : Tape T) where
   pub act_short : {A : Type 0} (input : Input Definition) (journal : Journal T) (parts parts_after : Parts) (proposer : Proposer)
       (result : Result (Vec Message A) NodeFault) → step_rejection (stored_of parts) (volatile_of proposer) input ≡ None → journal.halted ≡ false → result ≡ Err Memory → parts_after ≡ parts →
       TakesMemory (transition_at parts proposer input) →
-      IsAct tapes input journal parts proposer result journal parts_after proposer
+      IsStepAtParts tapes input journal parts proposer result journal parts_after proposer
   act_short input journal parts parts_after proposer result none running short same takes =
       subst (λ why. IsRejectedOr tapes why (transition_at parts proposer input) journal parts proposer result journal parts_after proposer) (sym none)
       (memory_changes tapes (transition_at parts proposer input) journal parts parts_after proposer result short running same takes)
@@ -98,7 +98,7 @@ accept_transition id parts proposer s b d same = ap (λ me. on_accept me (stored
 
 -- the record of the acceptor's answer fits
 pub answer_fits : (input : Input Definition) (given : VolatileState Definition → Transition Definition) (answer : AcceptorAnswer) (parts made : Parts) (proposer : Proposer) →
-    RecordsFit Definition → IsForNext (stored_of parts) (volatile_of proposer).proposing → keeping.IsTransition given answer → given (volatile_of proposer) ≡ transition_at parts proposer input → made ≡ parts →
+    RecordsFit Definition → IsForNext (stored_of parts) (volatile_of proposer).proposing → keeping.IsTransitionAnswer given answer → given (volatile_of proposer) ≡ transition_at parts proposer input → made ≡ parts →
     Fits (stored_of made) (option_map view answer.entry)
 answer_fits input given answer parts made proposer fit for_next is_transition is same =
     subst (λ p. Fits (stored_of p) (option_map view answer.entry)) (sym same)
@@ -113,9 +113,9 @@ stored_takes input given parts proposer stores is =
 module _ {T : Type 0} (tapes : Tape T) where
   -- the acceptor's answer is made
   pub act_given : {A : Type 0} (input : Input Definition) (given : VolatileState Definition → Transition Definition) (answer : AcceptorAnswer) (journal journal_after : Journal T) (parts made parts_after : Parts) (proposer proposer_after : Proposer)
-      (result : Result (Vec Message A) NodeFault) → step_rejection (stored_of parts) (volatile_of proposer) input ≡ None → keeping.IsTransition given answer → given (volatile_of proposer) ≡ transition_at parts proposer input → made ≡ parts →
+      (result : Result (Vec Message A) NodeFault) → step_rejection (stored_of parts) (volatile_of proposer) input ≡ None → keeping.IsTransitionAnswer given answer → given (volatile_of proposer) ≡ transition_at parts proposer input → made ≡ parts →
       IsChange tapes (answered.transition_of answer (volatile_of proposer)) journal made proposer result journal_after parts_after proposer_after →
-      IsAct tapes input journal parts proposer result journal_after parts_after proposer_after
+      IsStepAtParts tapes input journal parts proposer result journal_after parts_after proposer_after
   act_given input given answer journal journal_after parts made parts_after proposer proposer_after result none is_transition is same change =
       let answered_transition = answered.transition_of answer (volatile_of proposer) in
       act_done tapes input answered_transition journal journal_after parts parts_after proposer proposer_after result none (is_transition (volatile_of proposer) ∙ is)
@@ -124,7 +124,7 @@ module _ {T : Type 0} (tapes : Tape T) where
   proposer_rejects : (A : Type 0) (input : Input Definition) (why : held.StepRejection) (journal : Journal T) (parts : Parts) (proposer : Proposer) →
       step_rejection_of why ≡ step_rejection (stored_of parts) (volatile_of proposer) input → journal.halted ≡ false →
       (why ≡ held_case.Memory → TakesMemory (transition_at parts proposer input)) →
-      IsAct tapes {A = A} input journal parts proposer (Err (fault_of why)) journal parts proposer
+      IsStepAtParts tapes {A = A} input journal parts proposer (Err (fault_of why)) journal parts proposer
   proposer_rejects A input held_case.Busy journal parts proposer is running takes = act_rejected tapes input _ journal parts proposer _ (sym is) refl
   proposer_rejects A input held_case.Nothing journal parts proposer is running takes = act_rejected tapes input _ journal parts proposer _ (sym is) refl
   proposer_rejects A input held_case.RoundsFull journal parts proposer is running takes = act_rejected tapes input _ journal parts proposer _ (sym is) refl
@@ -135,9 +135,9 @@ module _ {T : Type 0} (tapes : Tape T) where
   pub act_proposer_rejects : (A : Type 0) (input : Input Definition) (why : held.StepRejection) (fault : NodeFault) (journal : Journal T) (parts : Parts) (proposer : Proposer) →
       fault ≡ fault_of why → step_rejection_of why ≡ step_rejection (stored_of parts) (volatile_of proposer) input → journal.halted ≡ false →
       (why ≡ held_case.Memory → TakesMemory (transition_at parts proposer input)) →
-      IsAct tapes {A = A} input journal parts proposer (Err fault) journal parts proposer
+      IsStepAtParts tapes {A = A} input journal parts proposer (Err fault) journal parts proposer
   act_proposer_rejects A input why fault journal parts proposer same is running takes =
-      subst (λ f. IsAct tapes {A = A} input journal parts proposer (Err f) journal parts proposer) (sym same)
+      subst (λ f. IsStepAtParts tapes {A = A} input journal parts proposer (Err f) journal parts proposer) (sym same)
       (proposer_rejects A input why journal parts proposer is running takes)
 
   abbrev error_or : {A E : Type 0} → E → Result A E → E
@@ -148,7 +148,7 @@ module _ {T : Type 0} (tapes : Tape T) where
   pub act_sends : (A B : Type 0) (input : Input Definition) (why : held.StepRejection) (fault : NodeFault) (journal : Journal T) (parts : Parts) (proposer : Proposer) →
       fault ≡ fault_of why → step_rejection (stored_of parts) (volatile_of proposer) input ≡ None → journal.halted ≡ false →
       Sends (transition_at parts proposer input) × ◌≡◌ {A = Result B held.StepRejection} (Err why) (Err held_case.Memory) →
-      IsAct tapes {A = A} input journal parts proposer (Err fault) journal parts proposer
+      IsStepAtParts tapes {A = A} input journal parts proposer (Err fault) journal parts proposer
   act_sends A B input why fault journal parts proposer same none running short =
       act_short tapes input journal parts parts proposer (Err fault) none running
       (ap Err (same ∙ ap fault_of (ap (error_or held_case.Memory) short.1))) refl (ByMessages short.0)

@@ -19,7 +19,7 @@ use Rattle.wf_acceptor.specs.AcceptorAnswer as answers
 use Rattle.wf_acceptor.specs.AcceptorAnswer.{AnswersAlways}
 use Rattle.wf_acceptor.specs.declared.acceptor.AcceptorAnswer.{AcceptorAnswer}
 use Rattle.wf_node.specs.Parts.{Parts, stored_of}
-use Rattle.wf_node.specs.DurablePart.{IsTransition, Stores, IsRoomFor, tried_after, definitions_after}
+use Rattle.wf_node.specs.DurablePart.{IsTransitionAnswer, Stores, IsRoomFor, tried_after, definitions_after}
 
 -- the durable state, of a tried round, an acceptor's part and a history
 abbrev pub parts_of : ℕ → Part → List Definition → Parts
@@ -124,7 +124,7 @@ nothing_applied stored entry none = sym (ap (λ (o : Option Record). store store
 -- ---- answers
 
 pub transition_if_ok : {E : Type 0} (tried : ℕ) (part : Part) (definitions : List Definition) (transition : DurableState Definition → VolatileState Definition → Transition Definition) (result : Result AcceptorAnswer E) →
-    part.published ≡ length definitions → IfOk result (AnswersAlways part transition) → IfOk result (IsTransition (transition (stored_of (parts_of tried part definitions))))
+    part.published ≡ length definitions → IfOk result (AnswersAlways part transition) → IfOk result (IsTransitionAnswer (transition (stored_of (parts_of tried part definitions))))
 transition_if_ok tried part definitions transition (Ok answer) as_many answers_ = λ volatile. answers_ (stored_of (parts_of tried part definitions)) volatile (acts_for_persistent tried part definitions as_many)
 transition_if_ok tried part definitions transition (Err e) as_many answers_ = tt
 
@@ -194,7 +194,7 @@ entry_has_room a has_room (Some (Accepted s b d)) nothing room = room
 entry_has_room a has_room (Some (Published s d)) nothing room = absurd nothing
 
 pub room_if_ok : {E : Type 0} (a : acceptor.Acceptor) (has_room : Bool) (transition : VolatileState Definition → Transition Definition) (result : Result AcceptorAnswer E) →
-    ((volatile : VolatileState Definition) → PublishesNothing (transition volatile).entry) → IfOk result (IsTransition transition) → IfOk result (λ answer. IfSome answer.entry (acceptor.HasRoomFor a)) →
+    ((volatile : VolatileState Definition) → PublishesNothing (transition volatile).entry) → IfOk result (IsTransitionAnswer transition) → IfOk result (λ answer. IfSome answer.entry (acceptor.HasRoomFor a)) →
     IfOk result (λ answer. IfSome answer.entry (IsRoomFor a.prepared has_room))
 room_if_ok a has_room transition (Ok answer) nothing is_transition room =
     let same = ap (λ (r : Transition Definition). r.entry) (is_transition at_start) in

@@ -19,7 +19,7 @@ use Rattle.wf_node.specs.declared.fault.NodeFault.TheVariants.{Memory, Busy, Seq
 use Rattle.wf_node.specs.Act.{IsChange, IsStepReply}
 use Rattle.wf_node.specs.Fault.{TakesMemory, ByEntry, ByMessages}
 use Rattle.wf_node.specs.Parts.{Parts, stored_of}
-use Rattle.wf_node.specs.TapeWrites.{bytes_of, keeping, IsTornAt, IsWritten, IsSpared, IsBroken, IsStoredBy, IsWrite}
+use Rattle.wf_node.specs.TapeWrites.{bytes_of, keeping, IsTornAt, IsWritten, IsSpared, IsWriteBroken, IsStoredBy, IsWrite}
 use Rattle.wf_tape.specs.Change.{inside}
 use Rattle.wf_node.proofs.Fold.{stored_none, stored_by, torn_at, cut_at}
 use Rattle.wf_tape.specs.declared.tape.Tape.{Ghosts as Tape}
@@ -107,8 +107,8 @@ module _ {T : Type 0} (tapes : Tape T) where
   entry_taken (Some r) some = refl
 
   -- what broke the journal is the same whatever record it keeps
-  broken_keeping : (entry : Option (Record Definition)) (journal journal_after : Journal T) → IsBroken tapes entry journal journal_after →
-      IsBroken tapes entry journal (record journal_after { failed = entry })
+  broken_keeping : (entry : Option (Record Definition)) (journal journal_after : Journal T) → IsWriteBroken tapes entry journal journal_after →
+      IsWriteBroken tapes entry journal (record journal_after { failed = entry })
   broken_keeping entry journal journal_after is = record {
     entry_is = is.entry_is;
     halted = is.halted;
@@ -162,7 +162,7 @@ module _ {T : Type 0} (tapes : Tape T) where
       (tapes.durable → IsExtended (tapes.content journal.tape) (spelling r) (tapes.content journal_after.tape)) →
       (tapes.durable → Follows (ReadsSameOrOneMore r) (tapes.images journal.tape) (tapes.images journal_after.tape)) →
       (tapes.durable → Follows (ReadsSameOrOneMore r) (inside tapes journal.tape journal.tape) (inside tapes journal.tape journal_after.tape)) → (tapes.never_fails journal.tape → ⊥) →
-      IsBroken tapes (Some r) journal journal_after
+      IsWriteBroken tapes (Some r) journal journal_after
   broken r journal journal_after halted risen part either each weak = record {
     entry_is = refl;
     halted = halted;

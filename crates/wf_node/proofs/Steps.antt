@@ -13,7 +13,7 @@ use Rattle.wf_journal.specs.Journal.{Journal}
 use Rattle.wf_tape.specs.Tape.{IsExtended, LeavesNoOther}
 use Rattle.wf_node.specs.declared.fault.NodeFault.{NodeFault}
 use Rattle.wf_node.specs.declared.fault.NodeFault.TheVariants.{Memory, Busy, SequenceFull, RoundsFull, Halted, TapeFailed, Nothing}
-use Rattle.wf_node.specs.Act.{IsAct, IsChange, IsRejectedOr, IsSame}
+use Rattle.wf_node.specs.Act.{IsStepAtParts, IsChange, IsRejectedOr, IsSame}
 use Rattle.wf_node.specs.Fault.{step_rejection_of, rejected_by}
 use Rattle.wf_node.specs.Images.{StandsFor, AllStandFor, EachStandsFor, EachIsCut}
 use Rattle.wf_node.specs.DurablePart.{DurablePart}
@@ -182,7 +182,7 @@ module _ {T : Type 0} (tapes : Tape T) where
   -- What the parts did or rejected is the node's step.
   pub act_steps : {A : Type 0} (journal journal_after : Journal T) (persistent persistent_after : DurablePart) (proposer proposer_after : Proposer) (input : Input Definition) (result : Result (Vec Message A) NodeFault) →
       IsSoundNode tapes journal persistent proposer → journal.halted ≡ false → RecordsFit Definition →
-      IsAct tapes input journal persistent.parts proposer result journal_after persistent_after.parts proposer_after →
+      IsStepAtParts tapes input journal persistent.parts proposer result journal_after persistent_after.parts proposer_after →
       IsStep tapes (view_of journal persistent.parts proposer) input result (view_of journal_after persistent_after.parts proposer_after)
   act_steps journal journal_after persistent persistent_after proposer proposer_after input result is running fit act =
       let fits : TransitionFits (stored_of persistent.parts) (proposer_transition proposer persistent.parts input) =
@@ -218,7 +218,7 @@ module _ {T : Type 0} (tapes : Tape T) where
 
   pub act_inside : {A : Type 0} (journal journal_after : Journal T) (persistent persistent_after : DurablePart) (proposer proposer_after : Proposer) (input : Input Definition) (result : Result (Vec Message A) NodeFault) →
       IsSoundNode tapes journal persistent proposer → journal.halted ≡ false → RecordsFit Definition →
-      IsAct tapes input journal persistent.parts proposer result journal_after persistent_after.parts proposer_after →
+      IsStepAtParts tapes input journal persistent.parts proposer result journal_after persistent_after.parts proposer_after →
       tapes.durable → LeavesNoOther (tapes.images journal.tape) (inside tapes journal.tape journal.tape) →
       EachStandsFor (stored_of persistent.parts) (store (stored_of persistent.parts) (transition_of (view_of journal persistent.parts proposer) input).entry) (inside tapes journal.tape journal_after.tape)
   act_inside journal journal_after persistent persistent_after proposer proposer_after input result is running fit act h now =
@@ -251,7 +251,7 @@ module _ {T : Type 0} (tapes : Tape T) where
 
   pub act_cut : {A : Type 0} (journal journal_after : Journal T) (persistent persistent_after : DurablePart) (proposer proposer_after : Proposer) (input : Input Definition) (result : Result (Vec Message A) NodeFault) →
       IsSoundNode tapes journal persistent proposer → journal.halted ≡ false → RecordsFit Definition →
-      IsAct tapes input journal persistent.parts proposer result journal_after persistent_after.parts proposer_after →
+      IsStepAtParts tapes input journal persistent.parts proposer result journal_after persistent_after.parts proposer_after →
       tapes.durable → result ≡ Err TapeFailed →
       EachIsCut (transition_of (view_of journal persistent.parts proposer) input).entry (stored_of persistent.parts) (store (stored_of persistent.parts) (transition_of (view_of journal persistent.parts proposer) input).entry)
       (tapes.images journal.tape) (tapes.images journal_after.tape)
@@ -304,7 +304,7 @@ module _ {T : Type 0} (tapes : Tape T) where
   -- The invariant of nodes holds after the step.
   pub act_keeps : {A : Type 0} (journal journal_after : Journal T) (persistent persistent_after : DurablePart) (proposer proposer_after : Proposer) (input : Input Definition) (result : Result (Vec Message A) NodeFault) →
       IsSoundNode tapes journal persistent proposer → journal.halted ≡ false → RecordsFit Definition → persistent_after.id ≡ persistent.id →
-      IsAct tapes input journal persistent.parts proposer result journal_after persistent_after.parts proposer_after →
+      IsStepAtParts tapes input journal persistent.parts proposer result journal_after persistent_after.parts proposer_after →
       IsSoundNode tapes journal_after persistent_after proposer_after
   act_keeps journal journal_after persistent persistent_after proposer proposer_after input result is running fit id act =
       let fits : TransitionFits (stored_of persistent.parts) (proposer_transition proposer persistent.parts input) =
@@ -335,7 +335,7 @@ module _ {T : Type 0} (tapes : Tape T) where
   rejected_soundly (Err fault) why is = λ e. none-some why (sym (ap step_rejection_of e) ∙ is)
 
   pub act_sturdy : {A : Type 0} (journal journal_after : Journal T) (parts parts_after : Parts) (proposer proposer_after : Proposer) (input : Input Definition) (result : Result (Vec Message A) NodeFault) →
-      IsAct tapes input journal parts proposer result journal_after parts_after proposer_after → tapes.never_fails journal.tape →
+      IsStepAtParts tapes input journal parts proposer result journal_after parts_after proposer_after → tapes.never_fails journal.tape →
       tapes.never_fails journal_after.tape × IfErr result (λ fault. fault ≡ TapeFailed → ⊥)
   act_sturdy journal journal_after parts parts_after proposer proposer_after input result act sound =
       elim (step_rejection (stored_of parts) (volatile_of proposer) input) as (λ why.

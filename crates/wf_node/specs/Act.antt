@@ -20,7 +20,7 @@ use Rattle.wf_node.specs.declared.fault.NodeFault.TheVariants.{Memory, Busy, Seq
 use Rattle.wf_node.specs.Fault.{rejected_by, TakesMemory}
 use Rattle.wf_node.specs.DurablePart as keeping
 use Rattle.wf_node.specs.Parts.{Parts, stored_of}
-use Rattle.wf_node.specs.TapeWrites.{IsTornAt, IsWritten, IsSpared, IsBroken}
+use Rattle.wf_node.specs.TapeWrites.{IsTornAt, IsWritten, IsSpared, IsWriteBroken}
 use Rattle.wf_tape.specs.Change.{inside}
 use Rattle.wf_tape.specs.declared.tape.Tape.{Ghosts as Tape}
 
@@ -94,7 +94,7 @@ module _ {T : Type 0} (tapes : Tape T) where
       IsSpared tapes journal journal_after × IsSame parts parts_after proposer proposer_after × TakesMemory the_transition ×
       (tapes.durable → IsTornAt the_transition.entry (inside tapes journal.tape journal.tape) (inside tapes journal.tape journal_after.tape))
   IsChange the_transition journal parts proposer (Err TapeFailed) journal_after parts_after proposer_after =
-      IsBroken tapes the_transition.entry journal journal_after × IsSame parts parts_after proposer proposer_after × (journal_after.failed ≡ the_transition.entry)
+      IsWriteBroken tapes the_transition.entry journal journal_after × IsSame parts parts_after proposer proposer_after × (journal_after.failed ≡ the_transition.entry)
   IsChange the_transition journal parts proposer (Err Busy) journal_after parts_after proposer_after = ⊥
   IsChange the_transition journal parts proposer (Err SequenceFull) journal_after parts_after proposer_after = ⊥
   IsChange the_transition journal parts proposer (Err RoundsFull) journal_after parts_after proposer_after = ⊥
@@ -110,8 +110,8 @@ module _ {T : Type 0} (tapes : Tape T) where
       (rejected_by result ≡ Some why) × (journal_after ≡ journal) × IsSame parts parts_after proposer proposer_after
 
   -- the input's step at these parts
-  abbrev pub IsAct : {A : Type 0} → Input Definition → Journal T → Parts → Proposer → Result (Vec Message A) NodeFault → Journal T → Parts → Proposer → Type 0
-  IsAct input journal parts proposer result journal_after parts_after proposer_after =
+  abbrev pub IsStepAtParts : {A : Type 0} → Input Definition → Journal T → Parts → Proposer → Result (Vec Message A) NodeFault → Journal T → Parts → Proposer → Type 0
+  IsStepAtParts input journal parts proposer result journal_after parts_after proposer_after =
       IsRejectedOr (step_rejection (stored_of parts) (volatile_of proposer) input)
       (transition definition_eq proposer.nodes proposer.node (stored_of parts) (volatile_of proposer) input) journal parts proposer result journal_after parts_after proposer_after
 
@@ -123,4 +123,4 @@ module _ {T : Type 0} (tapes : Tape T) where
 
   abbrev pub Acts : {A : Type 0} → Input Definition → Machine T → Result (Vec Message A) NodeFault → Machine T → Type 0
   Acts input before result after =
-      IsAct input before.journal before.persistent.parts before.proposer result after.journal after.persistent.parts after.proposer
+      IsStepAtParts input before.journal before.persistent.parts before.proposer result after.journal after.persistent.parts after.proposer

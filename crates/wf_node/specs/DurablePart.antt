@@ -52,14 +52,15 @@ abbrev pub accept_transition : DurablePart → ℕ → Ballot → Definition →
 accept_transition persistent s b d volatile = on_accept persistent.id (stored_of persistent) volatile s b d
 
 -- The answer is this transition, at a node with any volatile state.
-abbrev pub IsTransition : (VolatileState Definition → Transition Definition) → AcceptorAnswer → Type 0
-IsTransition transition answer = (volatile : VolatileState Definition) → transition_of answer volatile ≡ transition volatile
+abbrev pub IsTransitionAnswer : (VolatileState Definition → Transition Definition) → AcceptorAnswer → Type 0
+IsTransitionAnswer transition answer = (volatile : VolatileState Definition) → transition_of answer volatile ≡ transition volatile
 
 -- The transition stores a record, whatever the volatile state is.
 abbrev pub Stores : (VolatileState Definition → Transition Definition) → Type 0
 Stores transition = (volatile : VolatileState Definition) → IsSome (transition volatile).entry
 
--- ---- used only in this crate's contracts: the effect of a record on the parts other than the acceptor
+-- ---- used only in this crate's contracts: the effect of a record on the parts other than the
+-- acceptor
 
 -- there is room in the history, if the record publishes a definition
 abbrev pub IsRoomy : Bool → Record → Type 0

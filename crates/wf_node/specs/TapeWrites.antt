@@ -57,7 +57,7 @@ module _ {T : Type 0} (tapes : Tape T) where
     pub still : tapes.never_fails old.tape → tapes.never_fails new.tape
 
   -- the tape failed, and there was a record to write: a prefix of its bytes is on the tape
-  pub record IsBroken (entry : Option (Record Definition)) (old new : Journal T) : Type 0 where
+  pub record IsWriteBroken (entry : Option (Record Definition)) (old new : Journal T) : Type 0 where
     pub entry_is : IsSome entry
     pub halted : new.halted ≡ true
     pub risen : HasFailed tapes old.tape new.tape
@@ -71,7 +71,7 @@ module _ {T : Type 0} (tapes : Tape T) where
   abbrev pub IsWrite : {A : Type 0} → Option (Record Definition) → Journal T → Result A NodeFault → Journal T → Type 0
   IsWrite entry old (Ok x) new = IsWritten entry old new
   IsWrite entry old (Err Memory) new = IsSpared old new × (entry ≡ None → ⊥) × (tapes.durable → IsTornAt entry (inside tapes old.tape old.tape) (inside tapes old.tape new.tape))
-  IsWrite entry old (Err TapeFailed) new = IsBroken entry old new
+  IsWrite entry old (Err TapeFailed) new = IsWriteBroken entry old new
   IsWrite entry old (Err Busy) new = ⊥
   IsWrite entry old (Err SequenceFull) new = ⊥
   IsWrite entry old (Err RoundsFull) new = ⊥

@@ -70,7 +70,8 @@ impl<T: Tape> Machine<T> {
         requires running { self.old.journal.halted ≡ false }
         requires fits { Fits (stored_of self.old.persistent) (option_map view_record answer.entry) }
         requires room { IfSome answer.entry (HasRoomFor self.old.persistent) }
-        ensures change { Changes T.Tape (answered.transition_of answer (volatile_of self.old.proposer))
+        ensures change { Changes T.Tape
+            (answered.transition_of answer (volatile_of self.old.proposer))
             self.old result self.new }
         ensures id { self.new.persistent.id ≡ self.old.persistent.id }
     {

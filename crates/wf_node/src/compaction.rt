@@ -129,7 +129,8 @@ pub(crate) fn short_records(
     alloc: Global,
     persistent: &DurablePart,
 ) -> Result<Vec<Record>, AllocError>
-    ensures { IfOk result (λ records. map view records.items ≡ short_records (stored_in persistent.now)) }
+    ensures { IfOk result (λ records. map view records.items ≡
+        short_records (stored_in persistent.now)) }
 {
     let mut records = Vec::new(alloc);
     push_tried(&mut records, persistent.last_round())?;
@@ -173,7 +174,8 @@ fn push_sequence(
     persistent: &DurablePart,
     slot: Slot,
 ) -> Result<(), AllocError>
-    ensures { OnOk result (Appends (records_at (stored_in persistent.now) slot) records.old records.new) }
+    ensures { OnOk result
+        (Appends (records_at (stored_in persistent.now) slot) records.old records.new) }
 {
     match persistent.history().canon(slot) {
         Some(canon) => push(records, Record::Published(slot, canon.copy()?)),

@@ -14,7 +14,8 @@ use wf_learner::History;
 /// Whether the history is the other one with the record's definition, if it is the record of a
 /// published one.
 pub(crate) fn has_learned(history: &History, other: &History, entry: &Record) -> bool
-    ensures { IsTrue result → history.now.definitions ≡ definitions_after other.now.definitions entry.now }
+    ensures { IsTrue result →
+        history.now.definitions ≡ definitions_after other.now.definitions entry.now }
 {
     match entry {
         Record::Published(slot, canon) => is_followed(history, other, *slot, canon),
@@ -34,7 +35,8 @@ pub(crate) fn are_same(history: &History, other: &History) -> bool
 
 /// Whether the history is the other one, followed by this definition at the slot.
 fn is_followed(history: &History, other: &History, slot: Slot, canon: &Canon) -> bool
-    ensures { IsTrue result → history.now.definitions ≡ with_chosen other.now.definitions slot canon.now }
+    ensures { IsTrue result →
+        history.now.definitions ≡ with_chosen other.now.definitions slot canon.now }
 {
     let next = other.published().number() + 1;
     if slot.number() != next {

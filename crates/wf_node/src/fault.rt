@@ -69,7 +69,8 @@ pub(crate) fn fault_of(step_rejection: StepRejection) -> NodeFault
 
 /// The node's error for its proposer's rejection, if there is one.
 pub(crate) fn fault_for(step_rejection: Option<StepRejection>) -> Option<NodeFault>
-    ensures { (why : Option table.StepRejection) → proposer.IsWhyNot why step_rejection → IsWhyNot why result }
+    ensures { (why : Option table.StepRejection) → proposer.IsWhyStepRejected why step_rejection →
+        IsWhyNot why result }
 {
     match step_rejection {
         Some(step_rejection) => Some(fault_of(step_rejection)),

@@ -139,7 +139,8 @@ impl<T: Tape> Node<T> {
     /// Whether this node has stored what the other one had, and the record that the other one
     /// keeps.
     fn has_one_more(&self, other: &Node<T>) -> bool
-        ensures { IsTrue result → stored_of self.now ≡ store (stored_of other.now) other.now.failed }
+        ensures { IsTrue result →
+            stored_of self.now ≡ store (stored_of other.now) other.now.failed }
     {
         match other.machine.journal.failed() {
             Some(entry) => self
@@ -154,7 +155,8 @@ impl<T: Tape> Node<T> {
     /// None if it would begin. Doesn't allocate, changes nothing.
     pub fn proposal_step_rejection(&self) -> Option<NodeFault>
         ensures halted { self.now.halted ≡ true → result ≡ Some NodeFault.Halted }
-        ensures step_rejection { self.now.halted ≡ false → IsWhyNot (proposal_step_rejection self.now) result }
+        ensures step_rejection { self.now.halted ≡ false →
+            IsWhyNot (proposal_step_rejection self.now) result }
     {
         if self.machine.journal.is_halted() {
             return Some(NodeFault::Halted);
@@ -166,7 +168,8 @@ impl<T: Tape> Node<T> {
     /// None if it would begin. Doesn't allocate, changes nothing.
     pub fn retry_step_rejection(&self) -> Option<NodeFault>
         ensures halted { self.now.halted ≡ true → result ≡ Some NodeFault.Halted }
-        ensures step_rejection { self.now.halted ≡ false → IsWhyNot (retry_step_rejection self.now) result }
+        ensures step_rejection { self.now.halted ≡ false →
+            IsWhyNot (retry_step_rejection self.now) result }
     {
         if self.machine.journal.is_halted() {
             return Some(NodeFault::Halted);

@@ -113,7 +113,8 @@ fn assemble<T: Tape>(journal: Journal<T>, persistent: DurablePart, id: NodeId, n
 /// The fold of the records that were found, the oldest first.
 fn fold(alloc: Global, id: NodeId, records: Vec<Record>) -> Result<DurablePart, OpenFault>
     requires { length_of (map view records.items) < 2 ^ 64 }
-    ensures ok { IfOk result (λ persistent. fold (map view records.items) ≡ Some (persistent_.stored_of persistent)) }
+    ensures ok { IfOk result (λ persistent. fold (map view records.items) ≡
+        Some (persistent_.stored_of persistent)) }
     ensures id { IfOk result (λ persistent. persistent.id ≡ id) }
     ensures why { IfErr result (IsWhyUnfolded (map view records.items)) }
 {
@@ -134,7 +135,8 @@ fn fold(alloc: Global, id: NodeId, records: Vec<Record>) -> Result<DurablePart, 
 fn take_all(persistent: &mut DurablePart, records: Vec<Record>) -> Result<(), OpenFault>
     requires nothing { persistent_.stored_of persistent.old ≡ nothing_stored }
     requires size { length_of (map view records.items) < 2 ^ 64 }
-    ensures ok { OnOk result (fold (map view records.items) ≡ Some (persistent_.stored_of persistent.new)) }
+    ensures ok { OnOk result (fold (map view records.items) ≡
+        Some (persistent_.stored_of persistent.new)) }
     ensures id { persistent.new.id ≡ persistent.old.id }
     ensures why { IfErr result (IsWhyUnfolded (map view records.items)) }
 {
@@ -154,7 +156,8 @@ fn take_at(persistent: &mut DurablePart, index: usize, entry: Record) -> Result<
     ensures ok { IfOk result (λ next.
         IsApplied (persistent_.stored_of persistent.old) (view entry) index (persistent_.stored_of persistent.new) next) }
     ensures id { persistent.new.id ≡ persistent.old.id }
-    ensures why { IfErr result (IsWhyRecordRejected (persistent_.stored_of persistent.old) (view entry) index) }
+    ensures why { IfErr result (IsWhyRecordRejected (persistent_.stored_of persistent.old)
+        (view entry) index) }
 {
     if !persistent.fits(&entry) {
         drop(entry);

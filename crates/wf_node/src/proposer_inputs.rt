@@ -60,7 +60,8 @@ impl<T: Tape> Machine<T> {
 
     /// Why a proposal would be rejected now; None if it would begin.
     pub(crate) fn proposal_step_rejection(&self) -> Option<NodeFault>
-        ensures { IsWhyNot (start_step_rejection self.now.proposer (stored_of self.now.persistent)) result }
+        ensures { IsWhyNot (start_step_rejection self.now.proposer
+            (stored_of self.now.persistent)) result }
     {
         if self.runs() {
             return Some(NodeFault::Busy);
@@ -77,7 +78,8 @@ impl<T: Tape> Machine<T> {
 
     /// Why a retry would be rejected now; None if it would begin.
     pub(crate) fn retry_step_rejection(&self) -> Option<NodeFault>
-        ensures { IsWhyNot (retry_step_rejection self.now.proposer (stored_of self.now.persistent)) result }
+        ensures { IsWhyNot (retry_step_rejection self.now.proposer
+            (stored_of self.now.persistent)) result }
     {
         fault_for(
             self.proposer
@@ -145,9 +147,11 @@ impl<T: Tape> Machine<T> {
     /// Stores the record of the proposer's result, commits the result, and returns the messages.
     fn perform(&mut self, alloc: Global, next: Next) -> Result<Vec<Message>, NodeFault>
         requires running { self.old.journal.halted ≡ false }
-        requires fits { Fits (stored_of self.old.persistent) (transition_of self.old.proposer next).entry }
+        requires fits { Fits (stored_of self.old.persistent)
+            (transition_of self.old.proposer next).entry }
         requires own { IsOwnRecord (transition_of self.old.proposer next).entry }
-        ensures change { Changes T.Tape (transition_of self.old.proposer next) self.old result self.new }
+        ensures change { Changes T.Tape
+            (transition_of self.old.proposer next) self.old result self.new }
         ensures id { self.new.persistent.id ≡ self.old.persistent.id }
     {
         if self.persistent.make_room_for(next.entry()).is_err() {

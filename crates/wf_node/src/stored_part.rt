@@ -56,7 +56,7 @@ impl DurablePart {
     ghost use Rattle.wf_model.specs.DurableState.{fits, nothing_stored, with_record};
     ghost use Rattle.wf_model.specs.Table.{store, votes_at};
     ghost use Rattle.wf_journal.specs.Record.{view};
-    ghost use Rattle.wf_node.specs.DurablePart.{accept_transition, prepare_transition, stored_of, HasRoomFor, HasRoomIfOwn, IsTransition, Stores};
+    ghost use Rattle.wf_node.specs.DurablePart.{accept_transition, prepare_transition, stored_of, HasRoomFor, HasRoomIfOwn, IsTransitionAnswer, Stores};
 
     /// The durable state of a node that has stored nothing yet.
     pub(crate) fn new(alloc: Global, id: NodeId) -> Result<DurablePart, AllocError>
@@ -120,7 +120,8 @@ impl DurablePart {
         ballot: Ballot,
     ) -> Result<AcceptorAnswer, AllocError>
         requires { length self.old.parts.history < slot }
-        ensures transition { IfOk result (IsTransition (prepare_transition self.old slot ballot)) }
+        ensures transition { IfOk result
+            (IsTransitionAnswer (prepare_transition self.old slot ballot)) }
         ensures room { IfOk result (λ answer. IfSome answer.entry (λ r. HasRoomFor self.new r)) }
         ensures parts { self.new.parts ≡ self.old.parts }
         ensures id { self.new.id ≡ self.old.id }
@@ -138,7 +139,8 @@ impl DurablePart {
         canon: Canon,
     ) -> Result<AcceptorAnswer, AllocError>
         requires { length self.old.parts.history < slot }
-        ensures transition { IfOk result (IsTransition (accept_transition self.old slot ballot canon)) }
+        ensures transition { IfOk result
+            (IsTransitionAnswer (accept_transition self.old slot ballot canon)) }
         ensures room { IfOk result (λ answer. IfSome answer.entry (λ r. HasRoomFor self.new r)) }
         ensures parts { self.new.parts ≡ self.old.parts }
         ensures id { self.new.id ≡ self.old.id }

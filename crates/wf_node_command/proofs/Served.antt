@@ -17,18 +17,18 @@ use Rattle.wf_membership.specs.declared.membership.Membership.{Membership}
 use Rattle.wf_mesh.specs.declared.plan.LoopFault.{LoopFault}
 use Rattle.wf_mesh.specs.declared.plan.NodePlan.{NodePlan}
 use Rattle.wf_node_command.proofs.Learned.{learner_at_first}
-use Rattle.wf_node_command.specs.Done.{HasLivedOn, IsNodeDone, IsServed}
+use Rattle.wf_node_command.specs.Done.{HasLivedOn, IsNodeDone, IsNodeServed}
 use Rattle.wf_node_command.specs.Fault.{IsFromSystem}
 use Rattle.wf_node_command.specs.Folder.{IsHeardIn, StaysFrom, heard_in}
 use Rattle.wf_node_command.specs.Learned.{IsLearner}
-use Rattle.wf_node_command.specs.Ready.{IsJustStarted, IsReady}
+use Rattle.wf_node_command.specs.Ready.{IsJustStarted, IsNodeReady}
 use Rattle.wf_node_command.specs.Running.{IsRunning}
 use Rattle.wf_node_command.specs.Start.{IsNodeCause, IsNodeFault, IsUnserved}
 use Rattle.wf_node_command.specs.declared.fault.CommandFault.{CommandFault}
 use Rattle.wf_node_command.specs.declared.fault.CommandFault.TheVariants as faults
 use Rattle.wf_node_command.specs.declared.ready.ReadyNode.{ReadyNode}
 use Rattle.wf_peer.specs.Sender.{heard_of}
-use Rattle.wf_peer.specs.Told.{IsHeardOf, IsHeardText, IsLeft, TellsNoMoreOf}
+use Rattle.wf_peer.specs.Told.{IsHeardOf, IsHeardText, IsHeardLeft, TellsNoMoreOf}
 use Rattle.wf_peer.specs.declared.heard.Heard.{Heard as HeardOfNode}
 use Rattle.wf_rejoin.specs.Replacements.{latest_of}
 use Rattle.wf_rejoin.specs.declared.replacement.Replacement.{Replacement}
@@ -47,7 +47,7 @@ system_cause line old new (faults.Replacement why) is = absurd is
 system_cause line old new fault is = is
 
 -- what is left of what was heard was heard
-left_hears : (known : Option HeardOfNode) (latest : Option Replacement) (left : Option HeardOfNode) → IsLeft known latest left → (m : Message) → TellsNoMoreOf left (view m) → TellsNoMoreOf known (view m)
+left_hears : (known : Option HeardOfNode) (latest : Option Replacement) (left : Option HeardOfNode) → IsHeardLeft known latest left → (m : Message) → TellsNoMoreOf left (view m) → TellsNoMoreOf known (view m)
 left_hears None latest left is m tells = subst (λ (h : Option HeardOfNode). TellsNoMoreOf h (view m)) is tells
 left_hears (Some known) None left is m tells = subst (λ (h : Option HeardOfNode). TellsNoMoreOf h (view m)) is tells
 left_hears (Some known) (Some latest) left is m tells = elim is [
@@ -95,7 +95,7 @@ module _ {T : Type 0} (tapes : Tape T) where
   pub served_first : {N C L : Type 0} {connections : Connection C} (ready : ReadyNode T tapes) (hub held : Hub T N C L tapes connections) (old began new : List Call) → IsJustStarted tapes ready old → process_of hub ≡ ready.process → held ≡ hub
       → (IsSome ready.plan.joining → IsJoiner hub) → membership_of hub ≡ membership_by ready.plan → began ≡ old
       → ((plan : NodePlan) → membership_of held ≡ membership_by plan → (IsSome plan.joining → IsLearner tapes held) → HasLivedOn tapes (process_of held) plan new) → ∥ StaysFrom began new ∥₁
-      → IsServed tapes ready.process ready.plan old new (Ok tt)
+      → IsNodeServed tapes ready.process ready.plan old new (Ok tt)
   served_first {N} {C} {L} {connections} ready hub held old began new fresh same is joins goes_by stood on stays =
       let held_is : process_of held ≡ ready.process = ap (λ (h : Hub T N C L tapes connections). process_of h) is ∙ same in
       let held_joins : IsSome ready.plan.joining → IsJoiner held = λ some. subst (λ (h : Hub T N C L tapes connections). IsJoiner h) (sym is) (joins some) in
@@ -147,7 +147,7 @@ module _ {T : Type 0} (tapes : Tape T) where
   heard_text None known is = is
   heard_text (Some bytes) known is = is.2
 
-  pub fresh_by : (line : NodeLine) (ready : ReadyNode T tapes) (old mid : List Call) → IsReady tapes line ready old mid → IsJustStarted tapes ready mid
+  pub fresh_by : (line : NodeLine) (ready : ReadyNode T tapes) (old mid : List Call) → IsNodeReady tapes line ready old mid → IsJustStarted tapes ready mid
   fresh_by line ready old mid is =
       let counted = is.is_ready.is_counted.is_counted in
       record {
@@ -158,22 +158,22 @@ module _ {T : Type 0} (tapes : Tape T) where
         left = is.is_ready.left;
       }
 
-  pub not_served : (process : Process T tapes) (plan : NodePlan) (calls : List Call) (why : LoopFault) → IsServed tapes process plan calls calls (Err (faults.Loop why))
+  pub not_served : (process : Process T tapes) (plan : NodePlan) (calls : List Call) (why : LoopFault) → IsNodeServed tapes process plan calls calls (Err (faults.Loop why))
   not_served process plan calls why = (tt, refl)
 
   -- a node that is ready runs
-  pub running_by : (line : NodeLine) (ready : ReadyNode T tapes) (process : Process T tapes) (kept : List (Option HeardOfNode)) (membership : Membership) (old mid new : List Call) → IsReady tapes line ready (locked ∷ old) mid
+  pub running_by : (line : NodeLine) (ready : ReadyNode T tapes) (process : Process T tapes) (kept : List (Option HeardOfNode)) (membership : Membership) (old mid new : List Call) → IsNodeReady tapes line ready (locked ∷ old) mid
       → process ≡ ready.process → kept ≡ ready.heard → membership ≡ membership_by ready.plan → new ≡ mid → IsRunning tapes line process kept membership old new
   running_by line ready process kept membership old mid new is same heard goes_by stays = record {
     ready = ready;
-    is_ready = subst (λ (calls : List Call). IsReady tapes line ready (locked ∷ old) calls) (sym stays) is;
+    is_ready = subst (λ (calls : List Call). IsNodeReady tapes line ready (locked ∷ old) calls) (sym stays) is;
     same = same;
     heard = heard;
     goes_by = goes_by;
   }
 
   -- or it doesn't, and only its start was counted
-  pub not_started : (line : NodeLine) (ready : ReadyNode T tapes) (old mid new : List Call) (fault : CommandFault) → IsReady tapes line ready (locked ∷ old) mid → IsFromSystem fault → new ≡ mid
+  pub not_started : (line : NodeLine) (ready : ReadyNode T tapes) (old mid new : List Call) (fault : CommandFault) → IsNodeReady tapes line ready (locked ∷ old) mid → IsFromSystem fault → new ≡ mid
       → IsNodeFault line old new fault
   not_started line ready old mid new fault is system same = record {
     cause = system_cause line old new fault system;
@@ -186,8 +186,8 @@ module _ {T : Type 0} (tapes : Tape T) where
   }
 
   -- a node that is ready was served, or not
-  pub served_by : (line : NodeLine) (ready : ReadyNode T tapes) (old mid new : List Call) (result : Result (Unit {0}) CommandFault) → IsReady tapes line ready (locked ∷ old) mid
-      → IsServed tapes ready.process ready.plan mid new result → IsNodeDone tapes line old new result
+  pub served_by : (line : NodeLine) (ready : ReadyNode T tapes) (old mid new : List Call) (result : Result (Unit {0}) CommandFault) → IsNodeReady tapes line ready (locked ∷ old) mid
+      → IsNodeServed tapes ready.process ready.plan mid new result → IsNodeDone tapes line old new result
   served_by line ready old mid new (Ok done) is served = record {
     file = is.file;
     written = ready.file;

@@ -14,7 +14,7 @@ use Rattle.wf_node.specs.Node.{stored_of}
 use Rattle.wf_node_command.specs.Fault.{IsFromSystem, IsWhyUnheard}
 use Rattle.wf_node_command.specs.Folder.{IsHeardFound, StandsForRead, tape_in}
 use Rattle.wf_node_command.specs.Held.{IsKnownOf, IsRaisedTo}
-use Rattle.wf_node_command.specs.Ready.{IsPlanOf, IsPlanned, IsReady, IsReadyAs}
+use Rattle.wf_node_command.specs.Ready.{IsPlanOf, IsNodePlanned, IsNodeReady, IsReadyAs}
 use Rattle.wf_node_command.specs.ReplacementFiles.{AreNoted, IsJoinsIn, IsOwnJoining, IsReplacedIn}
 use Rattle.wf_node_command.specs.Texts.{is_joins, is_replaced, text_in}
 use Rattle.wf_node_command.specs.Start.{
@@ -28,7 +28,7 @@ use Rattle.wf_node_command.specs.Start.{
   IsNodeCause,
   IsNodeFault,
   IsNotCounted,
-  IsStarted,
+  IsProcessStarted,
   IsStopFault,
   IsStartCutShort,
   IsTapeOpened,
@@ -99,7 +99,7 @@ unplanned file old on_tape new is reads = inr (record { on_tape = on_tape; is_on
 
 module _ {T : Type 0} (tapes : Tape T) (file : NodeFile) (old on_tape planned new : List Call) (result : Result (ReadyNode T tapes) CommandFault) where
   -- one was, and then the start was counted
-  pub counted_on : (process : Process T tapes) (plan : NodePlan) → IsStarted tapes file process → StandsForRead (stored_of process.actor.node) (tape_in on_tape) → IsTapeOpened file old on_tape → IsLifeDrawn on_tape planned
+  pub counted_on : (process : Process T tapes) (plan : NodePlan) → IsProcessStarted tapes file process → StandsForRead (stored_of process.actor.node) (tape_in on_tape) → IsTapeOpened file old on_tape → IsLifeDrawn on_tape planned
       → IfOk result (λ ready. ready.process ≡ process) → IfOk result (λ ready. ready.plan ≡ plan)
       → IfOk result (λ ready. IsReadyCounted plan.replacements ready.heard ready.file planned new) → IfOk result (λ ready. IsRaisedTo (stored_of process.actor.node) file ready.file)
       → IfOk result (λ ready. IsReadyAs tapes file ready old new)
@@ -120,7 +120,7 @@ module _ {T : Type 0} (tapes : Tape T) (file : NodeFile) (old on_tape planned ne
         on_read =
             subst (λ (p : Process T tapes). StandsForRead (stored_of p.actor.node) (tape_in new)) (sym one)
             (subst (λ (had : Option (List ℕ)). StandsForRead (stored_of process.actor.node) had) (sym (ap tape_in now.is_counted.calls ∙ ap tape_in draws.1)) stands);
-        is_started = subst (λ (p : Process T tapes). IsStarted tapes file p) (sym one) started;
+        is_started = subst (λ (p : Process T tapes). IsProcessStarted tapes file p) (sym one) started;
         is_raised = subst (λ (p : Process T tapes). IsRaisedTo (stored_of p.actor.node) file ready.file) (sym one) raise;
       }
       by_result (Err fault) one by now raise = tt
@@ -154,7 +154,7 @@ module _ {file written : NodeFile} {known : List (Option HeardOfNode)} {old new 
   joins_still is = ap (text_in is_joins) is.is_counted.calls ∙ ap (text_in is_joins) is.is_on_tape.calls ∙ ap (text_in is_joins) is.is_on_tape.is_compared.calls
 
 planned_by : (line : NodeLine) (file : NodeFile) (files : ReplacementFiles) (plan : NodePlan) (old new : List Call) → text_in is_replaced new ≡ text_in is_replaced old → text_in is_joins new ≡ text_in is_joins old
-    → AreNoted file files old → IsPlanOf line files plan → IsPlanned line file new plan
+    → AreNoted file files old → IsPlanOf line files plan → IsNodePlanned line file new plan
 planned_by line file files plan old new same_replaced same_joins noted by = record {
   replaced =
       subst (λ (known : List (Option Replacement)). IsReplacedIn (text_in is_replaced new) known) (sym by.known)
@@ -187,11 +187,11 @@ stop_cause line file old admitted new fault is why = why
 
 module _ {T : Type 0} (tapes : Tape T) (line : NodeLine) (file : NodeFile) (old admitted new : List Call) (is : IsStartAdmitted line file old admitted) (result : Result (ReadyNode T tapes) CommandFault) where
   pub ready_as : (files : ReplacementFiles) → AreNoted file files admitted → IfOk result (λ ready. IsReadyAs tapes file ready admitted new) → IfOk result (λ ready. IsPlanOf line files ready.plan)
-      → IfOk result (λ ready. IsReady tapes line ready old new)
+      → IfOk result (λ ready. IsNodeReady tapes line ready old new)
   ready_as files noted has goes = by_result result has goes
     where
       by_result : (r : Result (ReadyNode T tapes) CommandFault) → IfOk r (λ ready. IsReadyAs tapes file ready admitted new) → IfOk r (λ ready. IsPlanOf line files ready.plan)
-          → IfOk r (λ ready. IsReady tapes line ready old new)
+          → IfOk r (λ ready. IsNodeReady tapes line ready old new)
       by_result (Ok ready) one by =
           record { file = file; admitted = admitted; is_admitted = is; is_ready = one; is_planned = planned_by line file files ready.plan admitted new (replaced_still one.is_counted) (joins_still one.is_counted) noted by }
       by_result (Err fault) one by = tt
@@ -239,8 +239,8 @@ held_cause line old new fault is = is
 
 -- it is
 module _ {T : Type 0} (tapes : Tape T) (line : NodeLine) (old held new : List Call) (is : held ≡ locked ∷ old) (result : Result (ReadyNode T tapes) CommandFault) where
-  pub ready_so : IfOk result (λ ready. IsReady tapes line ready held new) → IfOk result (λ ready. IsReady tapes line ready (locked ∷ old) new)
-  ready_so has = subst (λ (calls : List Call). IfOk result (λ ready. IsReady tapes line ready calls new)) is has
+  pub ready_so : IfOk result (λ ready. IsNodeReady tapes line ready held new) → IfOk result (λ ready. IsNodeReady tapes line ready (locked ∷ old) new)
+  ready_so has = subst (λ (calls : List Call). IfOk result (λ ready. IsNodeReady tapes line ready calls new)) is has
 
   pub not_ready : OnlyReads old held → OnErr result (OnlyReads held new ⊎ IsStartCutShort line held new) → IfErr result (IsHeldCause line held new) → IfErr result (IsNodeFault line old new)
   not_ready reads left cause = by_result result left cause

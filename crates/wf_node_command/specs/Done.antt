@@ -19,8 +19,8 @@ use Rattle.wf_node_command.specs.Folder.{StandsForRead, StaysFrom, heard_in, tap
 use Rattle.wf_node_command.specs.Held.{IsRaisedTo}
 use Rattle.wf_node_command.specs.Learned.{HasOnlyLearned}
 use Rattle.wf_node_command.specs.Made.{IsInitDone}
-use Rattle.wf_node_command.specs.Ready.{IsPlanned}
-use Rattle.wf_node_command.specs.Start.{IsNodeFault, IsStartOn, IsStarted}
+use Rattle.wf_node_command.specs.Ready.{IsNodePlanned}
+use Rattle.wf_node_command.specs.Start.{IsNodeFault, IsStartOn, IsProcessStarted}
 use Rattle.wf_node_command.specs.declared.fault.CommandFault.{CommandFault}
 use Rattle.wf_peer.specs.declared.heard.Heard.{Heard as HeardOfNode}
 use Rattle.wf_store.specs.Call.{Call, locked}
@@ -47,9 +47,9 @@ module _ {T : Type 0} (tapes : Tape T) where
     pub learned : IsSome plan.joining → HasOnlyLearned tapes voter.process
 
   -- how the turns of a process ended, if they began: its tape was left to it
-  abbrev pub IsServed : Process T tapes → NodePlan → List Call → List Call → Result (Unit {0}) CommandFault → Type 0
-  IsServed started plan old new (Ok done) = HasLivedOn started plan new × ∥ StaysFrom old new ∥₁
-  IsServed started plan old new (Err fault) = IsFromSystem fault × (new ≡ old)
+  abbrev pub IsNodeServed : Process T tapes → NodePlan → List Call → List Call → Result (Unit {0}) CommandFault → Type 0
+  IsNodeServed started plan old new (Ok done) = HasLivedOn started plan new × ∥ StaysFrom old new ∥₁
+  IsNodeServed started plan old new (Err fault) = IsFromSystem fault × (new ≡ old)
 
   -- The node was served. Its folder was locked, and these were the first calls: its start was
   -- admitted, its tape compared and opened, and its file written, raised to what its node had
@@ -62,11 +62,11 @@ module _ {T : Type 0} (tapes : Tape T) where
     pub begun : List Call
     pub is_start : IsStartOn line file written heard (locked ∷ old) begun
     pub started : Process T tapes
-    pub is_started : IsStarted tapes file started
+    pub is_started : IsProcessStarted tapes file started
     pub on_read : StandsForRead (stored_of started.actor.node) (tape_in begun)
     pub is_raised : IsRaisedTo (stored_of started.actor.node) file written
     pub plan : NodePlan
-    pub is_planned : IsPlanned line file begun plan
+    pub is_planned : IsNodePlanned line file begun plan
     pub on : HasLivedOn started plan new
     pub stays : ∥ StaysFrom begun new ∥₁
 

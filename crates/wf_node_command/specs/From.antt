@@ -163,20 +163,20 @@ CannotBeRead faults.Memory = ⊤
 CannotBeRead fault = ⊥
 
 -- no node opens on it
-abbrev pub IsUnopened : CommandFault → Type 0
-IsUnopened (faults.FromBad offset) = ⊤
-IsUnopened faults.Memory = ⊤
-IsUnopened fault = ⊥
+abbrev pub OpensNoNode : CommandFault → Type 0
+OpensNoNode (faults.FromBad offset) = ⊤
+OpensNoNode faults.Memory = ⊤
+OpensNoNode fault = ⊥
 
 -- why a tape isn't taken by its records: no node opens on it, or it can't be this one
 abbrev pub IsRecordsFault : (id : ℕ) (records : List (Record Definition)) → CommandFault → Type 0
 IsRecordsFault id records (faults.FromRejected (causes.Untried round tried)) = HasUntried id records round tried
-IsRecordsFault id records fault = IsUnopened fault
+IsRecordsFault id records fault = OpensNoNode fault
 
 -- and so by its bytes
 abbrev pub IsTapeFault : (id : ℕ) (bytes : List ℕ) → CommandFault → Type 0
 IsTapeFault id bytes (faults.FromRejected (causes.Untried round tried)) = IsTapeOfOther id bytes round tried
-IsTapeFault id bytes fault = IsUnopened fault
+IsTapeFault id bytes fault = OpensNoNode fault
 
 -- why the tape in this file isn't taken
 abbrev pub IsFromFault : (from : List ℕ) (id n : ℕ) → CommandFault → Type 0

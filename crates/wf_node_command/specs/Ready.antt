@@ -9,7 +9,7 @@ use Rattle.wf_node_command.specs.Folder.{StandsForRead, heard_in, tape_in}
 use Rattle.wf_node_command.specs.Held.{IsRaisedTo}
 use Rattle.wf_node_command.specs.ReplacementFiles.{IsJoinsIn, IsOwnJoining, IsReplacedIn}
 use Rattle.wf_node_command.specs.Texts.{is_joins, is_replaced, text_in}
-use Rattle.wf_node_command.specs.Start.{IsCountedOn, IsStartAdmitted, IsStarted}
+use Rattle.wf_node_command.specs.Start.{IsCountedOn, IsStartAdmitted, IsProcessStarted}
 use Rattle.wf_node_command.specs.declared.ready.ReadyNode.{ReadyNode}
 use Rattle.wf_node_command.specs.declared.replacement_files.ReplacementFiles.{ReplacementFiles}
 use Rattle.wf_peer.specs.Told.{AreLeft, IsHeardText}
@@ -19,7 +19,7 @@ use Rattle.wf_tape.specs.declared.tape.Tape.{Ghosts as Tape}
 
 -- The plan goes by what was last read of the files `replaced` and `joins`, which is of the folder
 -- with this file `farm`, and by the line.
-pub record IsPlanned (line : NodeLine) (file : NodeFile) (calls : List Call) (plan : NodePlan) : Type 0 where
+pub record IsNodePlanned (line : NodeLine) (file : NodeFile) (calls : List Call) (plan : NodePlan) : Type 0 where
   pub replaced : IsReplacedIn (text_in is_replaced calls) plan.replacements
   pub joins : IsJoinsIn (text_in is_joins calls) (option_map (λ joiner. joiner.joining) plan.joining)
   pub own : IfSome plan.joining (λ joiner. IsOwnJoining file joiner.joining)
@@ -41,7 +41,7 @@ module _ {T : Type 0} (tapes : Tape T) where
     pub is_counted : IsCountedOn file ready.file known old new
     pub left : AreLeft known ready.plan.replacements ready.heard
     pub on_read : StandsForRead (stored_of ready.process.actor.node) (tape_in new)
-    pub is_started : IsStarted tapes file ready.process
+    pub is_started : IsProcessStarted tapes file ready.process
     pub is_raised : IsRaisedTo (stored_of ready.process.actor.node) file ready.file
 
   -- Its process is in its first run, to which nothing was given yet, and what it heard is in the
@@ -54,9 +54,9 @@ module _ {T : Type 0} (tapes : Tape T) where
     pub left : AreLeft known ready.plan.replacements ready.heard
 
   -- Its folder, which is locked, had admitted the start.
-  pub record IsReady (line : NodeLine) (ready : ReadyNode T tapes) (old new : List Call) : Type 0 where
+  pub record IsNodeReady (line : NodeLine) (ready : ReadyNode T tapes) (old new : List Call) : Type 0 where
     pub file : NodeFile
     pub admitted : List Call
     pub is_admitted : IsStartAdmitted line file old admitted
     pub is_ready : IsReadyAs file ready admitted new
-    pub is_planned : IsPlanned line file new ready.plan
+    pub is_planned : IsNodePlanned line file new ready.plan

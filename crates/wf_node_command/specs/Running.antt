@@ -4,7 +4,7 @@ use Rattle.wf_actor.specs.declared.process.Process.{Process}
 use Rattle.wf_line.specs.declared.node_line.NodeLine.{NodeLine}
 use Rattle.wf_mesh.specs.Membership.{membership_by}
 use Rattle.wf_membership.specs.declared.membership.Membership.{Membership}
-use Rattle.wf_node_command.specs.Ready.{IsReady}
+use Rattle.wf_node_command.specs.Ready.{IsNodeReady}
 use Rattle.wf_node_command.specs.declared.ready.ReadyNode.{ReadyNode}
 use Rattle.wf_peer.specs.declared.heard.Heard.{Heard as HeardOfNode}
 use Rattle.wf_store.specs.Call.{Call, locked}
@@ -15,7 +15,7 @@ use Rattle.wf_tape.specs.declared.tape.Tape.{Ghosts as Tape}
 -- it was when it was ready.
 pub record IsRunning {T : Type 0} (tapes : Tape T) (line : NodeLine) (process : Process T tapes) (kept : List (Option HeardOfNode)) (membership : Membership) (old new : List Call) : Type 0 where
   pub ready : ReadyNode T tapes
-  pub is_ready : IsReady tapes line ready (locked ∷ old) new
+  pub is_ready : IsNodeReady tapes line ready (locked ∷ old) new
   pub same : process ≡ ready.process
   pub heard : kept ≡ ready.heard
   pub goes_by : membership ≡ membership_by ready.plan

@@ -121,7 +121,7 @@ module _ {T : Type 0} (tapes : Tape T) where
   -- The process is the node of this file, of as many nodes as the file says, and is in its first
   -- run: its node was opened, and moved to its tape, which has its records since. It holds all that
   -- the file says is known of it.
-  pub record IsStarted (file : NodeFile) (process : Process T tapes) : Type 0 where
+  pub record IsProcessStarted (file : NodeFile) (process : Process T tapes) : Type 0 where
     pub opened : IsOpened tapes process.actor.node.tape file.node file.nodes process.actor.node
     pub begun : IsJustOpened process
     pub first : process.ended.items ≡ []

@@ -58,7 +58,8 @@ fn write_cleared<S: Store>(alloc: Global, store: &mut S, file: &NodeFile) -> Res
 /// The node's file of a folder.
 #[tactic(auto, using(crate::proofs::Clearing::is_read))]
 fn file_in<S: Store>(store: &mut S) -> Result<NodeFile, CommandFault>
-    ensures file { IfOk result (λ file. HasReadFarmFile file (S.calls store.old) (S.calls store.new)) }
+    ensures file { IfOk result (λ file.
+        HasReadFarmFile file (S.calls store.old) (S.calls store.new)) }
     ensures reads { OnlyReads (S.calls store.old) (S.calls store.new) }
     ensures fault { IfErr result IsClearFault }
 {

@@ -23,7 +23,8 @@ const MOST_PEER_PROGRESS_BYTES: usize = 65_536;
 
 /// The file `farm` of a folder.
 pub(crate) fn find_in<S: Store>(store: &mut S) -> Result<NodeFound, FolderFault>
-    ensures found { IfOk result (λ found. IsFarmFound found (S.calls store.old) (S.calls store.new)) }
+    ensures found { IfOk result (λ found.
+        IsFarmFound found (S.calls store.old) (S.calls store.new)) }
     ensures unread { OnErr result (S.calls store.new ≡ failed ∷ S.calls store.old) }
     ensures reads { OnlyReads (S.calls store.old) (S.calls store.new) }
     ensures sound { IfOk result IsSoundFind }
@@ -51,7 +52,8 @@ fn found_in(bytes: &[u8]) -> NodeFound
 /// file that can't be read as one is an error.
 #[tactic(auto, using(crate::proofs::Found::heard_bad))]
 pub(crate) fn read_peer_progress<S: Store>(store: &mut S) -> Result<PeerProgress, CommandFault>
-    ensures known { IfOk result (λ known. IsHeardFound known (S.calls store.old) (S.calls store.new)) }
+    ensures known { IfOk result (λ known.
+        IsHeardFound known (S.calls store.old) (S.calls store.new)) }
     ensures reads { OnlyReads (S.calls store.old) (S.calls store.new) }
     ensures fault { IfErr result (IsWhyUnheard (S.calls store.new)) }
 {

@@ -4,7 +4,7 @@ ghost use Rattle.std.specs.Option.{option_copied};
 ghost use Rattle.std.specs.Path.{path_file_name};
 ghost use Rattle.wf_journal.specs.Record.{view};
 ghost use Rattle.wf_journal.specs.Records.{AreRecords};
-ghost use Rattle.wf_node_command.specs.From.{AllCanBeOf, CanBeOf, CanBeRecordsOf, MayBeFrom, IsFromFault, IsNamed, IsOfNode, IsFarmFileReadAs, IsTapeFault, IsRecordsFault, IsTapeOfNode, IsThatIfAny, IsUnopened, CannotBeRead, IsUntried, IsUntriedIn, IsWhyNotOfNode, ballot_of, digits, nodes_of, only_node, tape_name};
+ghost use Rattle.wf_node_command.specs.From.{AllCanBeOf, CanBeOf, CanBeRecordsOf, MayBeFrom, IsFromFault, IsNamed, IsOfNode, IsFarmFileReadAs, IsTapeFault, IsRecordsFault, IsTapeOfNode, IsThatIfAny, OpensNoNode, CannotBeRead, IsUntried, IsUntriedIn, IsWhyNotOfNode, ballot_of, digits, nodes_of, only_node, tape_name};
 
 use crate::fault::CommandFault;
 use crate::from_rejection::{Beside, FromRejection};
@@ -346,7 +346,7 @@ fn ballot_of(entry: &Record) -> Option<Ballot>
 
 /// The error of a tape in memory that doesn't open.
 fn from_fault(fault: OpenFault) -> CommandFault
-    ensures { IsUnopened result }
+    ensures { OpensNoNode result }
 {
     match fault {
         OpenFault::BadRecord(offset) => CommandFault::FromBad(offset),

@@ -46,7 +46,8 @@ impl<S: Store> HeldFolder<S> {
 
     /// The folder, once the node isn't served any more.
     pub(crate) fn close(self) -> S
-        ensures stays { ∥ StaysFrom (calls_in S.calls self.running.began.items) (S.calls result) ∥₁ }
+        ensures stays { ∥ StaysFrom (calls_in S.calls self.running.began.items)
+            (S.calls result) ∥₁ }
         ensures same { S.calls result ≡ S.calls self.running.store }
     {
         let HeldFolder {
@@ -62,7 +63,8 @@ impl<S: Store> HeldFolder<S> {
     /// Whether the file `farm` is one that this process wrote.
     fn examine_farm(&mut self) -> Result<(), NotReopened>
         ensures starts { self.new.starts ≡ self.old.starts }
-        ensures own { is_own (S.calls self.new.running.store) ≡ is_own (S.calls self.old.running.store) }
+        ensures own { is_own (S.calls self.new.running.store) ≡
+            is_own (S.calls self.old.running.store) }
         ensures began { self.new.running.began.items ≡ self.old.running.began.items }
         ensures heard { heard_in (S.calls self.new.running.store) ≡
             heard_in (S.calls self.old.running.store) }
@@ -108,7 +110,8 @@ impl<S: Store> HeldFolder<S> {
     /// Finds out which file is there after a failed writing, so that no more than two can be.
     fn settle(&mut self) -> Result<(), FolderError>
         ensures starts { self.new.starts ≡ self.old.starts }
-        ensures own { is_own (S.calls self.new.running.store) ≡ is_own (S.calls self.old.running.store) }
+        ensures own { is_own (S.calls self.new.running.store) ≡
+            is_own (S.calls self.old.running.store) }
         ensures began { self.new.running.began.items ≡ self.old.running.began.items }
         ensures heard { heard_in (S.calls self.new.running.store) ≡
             heard_in (S.calls self.old.running.store) }

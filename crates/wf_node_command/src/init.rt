@@ -148,8 +148,10 @@ fn write_files<S: Store>(
     requires range { IsInitInRange line.now }
     requires member { line.now.id < line.now.nodes }
     requires farm { farm ≡ pad line.now.farm.now }
-    ensures filled { OnOk result (IsFolderMade line.now tape.items (S.calls store.old) (S.calls store.new)) }
-    ensures left { OnErr result (IsUnfilled line.now tape.items (S.calls store.old) (S.calls store.new)) }
+    ensures filled { OnOk result (IsFolderMade line.now tape.items (S.calls store.old)
+        (S.calls store.new)) }
+    ensures left { OnErr result (IsUnfilled line.now tape.items (S.calls store.old)
+        (S.calls store.new)) }
     ensures fault { IfErr result IsFromSystem }
 {
     let mark = match store.draw() {
@@ -181,7 +183,8 @@ fn write_joins<S: Store>(
 ) -> Result<(), FolderFault>
     requires range { IsInitInRange line.now }
     requires member { line.now.id < line.now.nodes }
-    ensures written { OnOk result (S.calls store.new ≡ with_joins line.now mark (S.calls store.old)) }
+    ensures written { OnOk result (S.calls store.new ≡
+        with_joins line.now mark (S.calls store.old)) }
     ensures unwritten { OnErr result ((S.calls store.new ≡ S.calls store.old)
         ⊎ (S.calls store.new ≡ failed_at names.Joins ∷ S.calls store.old)) }
     ensures cause { IfErr result (IsWhyUnwritten names.Joins) }

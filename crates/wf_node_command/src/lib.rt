@@ -25,8 +25,8 @@
 //!   response to exactly what had come of its request (`HasAnswered`). Meanwhile no tape was made
 //!   or put in the place of another, and a file was opened or written only where the folder at its
 //!   path had been seen to be the one that is locked (`specs/Folder.antt`).
-//! - What its process went by of replacements, from its first turn to its last one, is what the file
-//!   `replaced` said that was read at its start, whatever it was told meanwhile.
+//! - What its process went by of replacements, from its first turn to its last one, is what the
+//!   file `replaced` said that was read at its start, whatever it was told meanwhile.
 //! - Where the file `joins` said that the folder joins, the node was given no message but those
 //!   that say what is published, in each of its runs: it voted for nothing, and promised nothing
 //!   (`specs/Learned.antt`).

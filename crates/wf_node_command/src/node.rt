@@ -8,9 +8,9 @@ ghost use Rattle.wf_node_command.specs.Done.{IsNodeDone};
 ghost use Rattle.wf_node_command.specs.Fault.{IsFromSystem, IsWhyUnheard};
 ghost use Rattle.wf_node_command.specs.Folder.{StandsForRead, tape_in};
 ghost use Rattle.wf_node_command.specs.Held.{IsKnownOf, IsRaisedTo};
-ghost use Rattle.wf_node_command.specs.Ready.{IsPlanOf, IsReady, IsReadyAs};
+ghost use Rattle.wf_node_command.specs.Ready.{IsPlanOf, IsNodeReady, IsReadyAs};
 ghost use Rattle.wf_node_command.specs.ReplacementFiles.{AreNoted};
-ghost use Rattle.wf_node_command.specs.Start.{IsFileAdmitted, IsFileCause, IsReadyCounted, IsStartAdmitted, IsStartCounted, IsLifeDrawn, IsHeldCause, IsLeftUncounted, IsNodeFault, IsNotCounted, IsStarted, IsStopFault, IsStartCutShort, IsTapeOpened, IsUnopened, IsWhyNotAdmitted, IsWhyNotCompared, node_in};
+ghost use Rattle.wf_node_command.specs.Start.{IsFileAdmitted, IsFileCause, IsReadyCounted, IsStartAdmitted, IsStartCounted, IsLifeDrawn, IsHeldCause, IsLeftUncounted, IsNodeFault, IsNotCounted, IsProcessStarted, IsStopFault, IsStartCutShort, IsTapeOpened, IsUnopened, IsWhyNotAdmitted, IsWhyNotCompared, node_in};
 ghost use Rattle.wf_store.specs.Call.{OnlyReads, locked};
 
 use crate::addresses::{NodeAddresses, addresses_of};
@@ -60,7 +60,7 @@ pub(crate) fn start<R: Files<File = File> + Clock + Eprint + AllocGlobal, S: Sto
 ) -> Result<ReadyNode<S::Tape>, CommandFault>
     requires { IsNodeInRange line.now }
     ensures ready { IfOk result (λ ready.
-        IsReady S.Tape.Tape line.now ready (locked ∷ S.calls store.old) (S.calls store.new)) }
+        IsNodeReady S.Tape.Tape line.now ready (locked ∷ S.calls store.old) (S.calls store.new)) }
     ensures sound { IfOk result (λ ready. IsNodeFile ready.file) }
     ensures fault { IfErr result (IsNodeFault line.now (S.calls store.old) (S.calls store.new)) }
 {
@@ -89,7 +89,7 @@ fn start_held<R: Files<File = File> + Clock + Eprint + AllocGlobal, S: Store>(
     requires peers { length node_addresses.peers.items ≡ length (words_of line.now.peers.now) }
     requires most { length node_addresses.peers.items ≤ 64 }
     ensures ready { IfOk result (λ ready.
-        IsReady S.Tape.Tape line.now ready (S.calls store.old) (S.calls store.new)) }
+        IsNodeReady S.Tape.Tape line.now ready (S.calls store.old) (S.calls store.new)) }
     ensures sound { IfOk result (λ ready. IsNodeFile ready.file) }
     ensures left { OnErr result (OnlyReads (S.calls store.old) (S.calls store.new)
         ⊎ IsStartCutShort line.now (S.calls store.old) (S.calls store.new)) }
@@ -229,7 +229,7 @@ fn open_node<R: Files + Clock + Eprint + AllocGlobal, S: Store>(
 ) -> Result<(Process<S::Tape>, Known), CommandFault>
     requires range { IsNodeInRange line.now }
     requires file { IsNodeFile file.now }
-    ensures started { IfOk result (λ opened. IsStarted S.Tape.Tape file.now opened.0) }
+    ensures started { IfOk result (λ opened. IsProcessStarted S.Tape.Tape file.now opened.0) }
     ensures read { IfOk result (λ opened.
         StandsForRead (stored_of opened.0.actor.node) (tape_in (S.calls store.new))) }
     ensures known { IfOk result (λ opened. IsKnownOf (stored_of opened.0.actor.node) opened.1) }

@@ -49,7 +49,8 @@ pub(crate) fn read_replacement_files<S: Store>(
 /// The replacements that the file `replaced` says.
 #[tactic(auto, using(crate::proofs::ReplacementFiles::replaced_bad))]
 fn read_replaced<S: Store>(store: &mut S) -> Result<Replacements, CommandFault>
-    ensures found { IfOk result (λ known. IsReplacedFound known (S.calls store.old) (S.calls store.new)) }
+    ensures found { IfOk result (λ known.
+        IsReplacedFound known (S.calls store.old) (S.calls store.new)) }
     ensures reads { OnlyReads (S.calls store.old) (S.calls store.new) }
     ensures fault { IfErr result (IsReplacedFault (S.calls store.new)) }
 {
@@ -86,7 +87,8 @@ fn read_joins<S: Store>(store: &mut S, file: &NodeFile) -> Result<Option<Joiner>
 fn joiner_of(bytes: &[u8], file: &NodeFile) -> Result<Option<Joiner>, ReplacementFault>
     ensures read { IfOk result (λ joining.
         IsJoinsIn (Some bytes.now) (option_map (λ joiner. joiner.joining) joining)) }
-    ensures own { IfOk result (λ joining. IfSome joining (λ joiner. IsOwnJoining file.now joiner.joining)) }
+    ensures own { IfOk result (λ joining.
+        IfSome joining (λ joiner. IsOwnJoining file.now joiner.joining)) }
     ensures fault { IfErr result (IsJoinsTextFault file.now bytes.now) }
 {
     if bytes.is_empty() {

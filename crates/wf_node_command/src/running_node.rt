@@ -186,7 +186,8 @@ impl<S: Store, N: Network + Drop> RunningNode<S, N> {
         ensures learns { IsLearner S.Tape.Tape self.old.hub → IsLearner S.Tape.Tape self.new.hub }
         ensures began { calls_in S.calls self.new.folder.running.began.items ≡
             calls_in S.calls self.old.folder.running.began.items }
-        ensures heard { IsHeardFirst (heard_in (S.calls self.old.folder.running.store)) self.old.hub →
+        ensures heard { IsHeardFirst
+            (heard_in (S.calls self.old.folder.running.store)) self.old.hub →
             IsHeardFirst (heard_in (S.calls self.new.folder.running.store)) self.new.hub }
     {
         let RunningNode { hub, folder } = self;
@@ -222,7 +223,8 @@ impl<S: Store> RunningNode<S> {
         ensures learns { IsLearner S.Tape.Tape self.old.hub → IsLearner S.Tape.Tape self.new.hub }
         ensures began { calls_in S.calls self.new.folder.running.began.items ≡
             calls_in S.calls self.old.folder.running.began.items }
-        ensures heard { IsHeardFirst (heard_in (S.calls self.old.folder.running.store)) self.old.hub →
+        ensures heard { IsHeardFirst
+            (heard_in (S.calls self.old.folder.running.store)) self.old.hub →
             IsHeardFirst (heard_in (S.calls self.new.folder.running.store)) self.new.hub }
     {
         let RunningNode { hub, folder } = self;

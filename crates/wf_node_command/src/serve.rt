@@ -6,7 +6,7 @@ ghost use Rattle.wf_loop.specs.Hub.{HasAnswered, IsHeardFirst, IsOver, membershi
 ghost use Rattle.wf_voter.specs.Lived.{HasLived};
 ghost use Rattle.wf_mesh.specs.Membership.{membership_by};
 ghost use Rattle.wf_mesh.specs.declared.plan.NodePlan.{NodePlan as NodePlanValue};
-ghost use Rattle.wf_node_command.specs.Done.{HasLivedOn, IsServed};
+ghost use Rattle.wf_node_command.specs.Done.{HasLivedOn, IsNodeServed};
 ghost use Rattle.wf_node_command.specs.Folder.{StaysFrom, calls_in, heard_in};
 ghost use Rattle.wf_node_command.specs.Learned.{IsLearner};
 ghost use Rattle.wf_node_command.specs.Ready.{IsJustStarted};
@@ -34,7 +34,7 @@ pub(crate) fn serve<R: Files<File = File> + Clock + Eprint + Net + AllocGlobal, 
 ) -> (Result<(), CommandFault>, S)
     requires file { IsNodeFile ready.file }
     requires fresh { IsJustStarted S.Tape.Tape ready (S.calls store) }
-    ensures { IsServed S.Tape.Tape ready.process ready.plan (S.calls store) (S.calls result.1)
+    ensures { IsNodeServed S.Tape.Tape ready.process ready.plan (S.calls store) (S.calls result.1)
         result.0 }
 {
     let ReadyNode {

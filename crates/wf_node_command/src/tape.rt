@@ -7,7 +7,7 @@ ghost use Rattle.wf_node.specs.OpenedNode.{IsFoldOf};
 ghost use Rattle.wf_node_command.specs.Fault.{IsFromSystem};
 ghost use Rattle.wf_node_command.specs.Folder.{StandsForRead, tape_in};
 ghost use Rattle.wf_node_command.specs.Held.{HasHeld, IsExamined, IsKnownOf, IsOpenedFor, IsWhyNotHeldBy};
-ghost use Rattle.wf_node_command.specs.Start.{IsCompared, IsStarted, IsWhyNotCompared};
+ghost use Rattle.wf_node_command.specs.Start.{IsCompared, IsProcessStarted, IsWhyNotCompared};
 ghost use Rattle.wf_store.specs.Call.{OnlyReads};
 
 use crate::event::TapeZeros;
@@ -171,7 +171,7 @@ pub(crate) fn open_process<R: Files + Clock + Eprint + AllocGlobal, T: Tape + Dr
     requires examined { IsExamined file.now copy.node copy.known }
     requires least { 1 ≤ pictures }
     requires most { pictures ≤ 64 }
-    ensures started { IfOk result (λ opened. IsStarted T.Tape file.now opened.0) }
+    ensures started { IfOk result (λ opened. IsProcessStarted T.Tape file.now opened.0) }
     ensures same { IfOk result (λ opened. stored_of opened.0.actor.node ≡ stored_of copy.node) }
     ensures known { IfOk result (λ opened. IsKnownOf (stored_of opened.0.actor.node) opened.1) }
     ensures fault { IfErr result IsFromSystem }

@@ -9,7 +9,7 @@ use Rattle.wf_codec.specs.Message.{view}
 use Rattle.wf_folder.specs.Reach.{IsNoLower}
 use Rattle.wf_model.specs.Message.{Message, Prepare, Promise, Accept, Accepted, Nack, Chosen, Ask}
 use Rattle.wf_peer.specs.Sender.{heard_of}
-use Rattle.wf_peer.specs.Told.{AreLeft, ArePast, HearAll, IsLeft, IsPast, TellsNoMore, TellsNoMoreOf}
+use Rattle.wf_peer.specs.Told.{AreLeft, ArePast, HearAll, IsHeardLeft, IsPast, TellsNoMore, TellsNoMoreOf}
 use Rattle.wf_peer.specs.declared.heard.Heard.{Heard}
 use Rattle.wf_peer.specs.declared.progress.Progress.{Progress}
 use Rattle.wf_rejoin.specs.Replacements.{latest_of}
@@ -47,7 +47,7 @@ hear_past earlier later past = λ i m told. still_tells_of (heard_of earlier i) 
 
 -- ---- what is left
 
-left_tells : {V : Type 0} (x : Option Heard) (latest : Option Replacement) (left : Option Heard) (m : Message V) → IsLeft x latest left → TellsNoMoreOf left m → TellsNoMoreOf x m
+left_tells : {V : Type 0} (x : Option Heard) (latest : Option Replacement) (left : Option Heard) (m : Message V) → IsHeardLeft x latest left → TellsNoMoreOf left m → TellsNoMoreOf x m
 left_tells None latest left m is told = subst (λ (h : Option Heard). TellsNoMoreOf h m) is told
 left_tells (Some h) None left m is told = subst (λ (g : Option Heard). TellsNoMoreOf g m) is told
 left_tells (Some h) (Some r) left m is told = elim is [
@@ -58,31 +58,31 @@ left_tells (Some h) (Some r) left m is told = elim is [
 pub hear_left : (known : List (Option Heard)) (latest : List (Option Replacement)) (left : List (Option Heard)) → AreLeft known latest left → HearAll left known
 hear_left known latest left are = λ i m told. left_tells (heard_of known i) (latest_of latest i) (heard_of left i) (view m) (are i) told
 
-nothing_left : (x : Option Replacement) → IsLeft None x None
+nothing_left : (x : Option Replacement) → IsHeardLeft None x None
 nothing_left x = refl
 
 -- what was left of each index is so of each node
 pub left_of_all : (known : List (Option Heard)) (latest : List (Option Replacement)) (left : List (Option Heard)) (count : ℕ) → length known ≡ length left → length left ≤ count →
-    ((i : ℕ) → i < count → IsLeft (heard_of known i) (latest_of latest i) (heard_of left i)) → AreLeft known latest left
+    ((i : ℕ) → i < count → IsHeardLeft (heard_of known i) (latest_of latest i) (heard_of left i)) → AreLeft known latest left
 left_of_all known latest left count size whole each = λ i. elim (cases_lt i (length left)) [
   | inl less ↦ each i (omega (arith, less, whole))
   | inr beyond ↦
-      subst (λ (h : Option Heard). IsLeft h (latest_of latest i) (heard_of left i)) (sym (get_or_past known i None (omega (arith, size, beyond))))
-      (subst (λ (h : Option Heard). IsLeft None (latest_of latest i) h) (sym (get_or_past left i None beyond)) (nothing_left (latest_of latest i)))
+      subst (λ (h : Option Heard). IsHeardLeft h (latest_of latest i) (heard_of left i)) (sym (get_or_past known i None (omega (arith, size, beyond))))
+      (subst (λ (h : Option Heard). IsHeardLeft None (latest_of latest i) h) (sym (get_or_past left i None beyond)) (nothing_left (latest_of latest i)))
 ]
 
 -- one more is set
 pub left_one_more : (known : List (Option Heard)) (latest : List (Option Replacement)) (old new : List (Option Heard)) (index : ℕ) (h : Option Heard) → index < length old → new ≡ slice_set old index h →
-    IsLeft (heard_of known index) (latest_of latest index) h → ((i : ℕ) → i < index → IsLeft (heard_of known i) (latest_of latest i) (heard_of old i)) →
-    (i : ℕ) → i < suc index → IsLeft (heard_of known i) (latest_of latest i) (heard_of new i)
+    IsHeardLeft (heard_of known index) (latest_of latest index) h → ((i : ℕ) → i < index → IsHeardLeft (heard_of known i) (latest_of latest i) (heard_of old i)) →
+    (i : ℕ) → i < suc index → IsHeardLeft (heard_of known i) (latest_of latest i) (heard_of new i)
 left_one_more known latest old new index h within is here before i less = elim (cases_lt i index) [
   | inl earlier ↦
       let other : i ≢ index = λ (e : i ≡ index). omega (arith, earlier, e) in
-      subst (λ (l : List (Option Heard)). IsLeft (heard_of known i) (latest_of latest i) (heard_of l i)) (sym is)
-      (subst (λ (g : Option Heard). IsLeft (heard_of known i) (latest_of latest i) g) (sym (get_or-set_other old index i h None other)) (before i earlier))
+      subst (λ (l : List (Option Heard)). IsHeardLeft (heard_of known i) (latest_of latest i) (heard_of l i)) (sym is)
+      (subst (λ (g : Option Heard). IsHeardLeft (heard_of known i) (latest_of latest i) g) (sym (get_or-set_other old index i h None other)) (before i earlier))
   | inr not_earlier ↦
       let same : index ≡ i = omega (arith, less, not_earlier) in
-      subst (λ (k : ℕ). IsLeft (heard_of known k) (latest_of latest k) (heard_of new k)) same
-      (subst (λ (l : List (Option Heard)). IsLeft (heard_of known index) (latest_of latest index) (heard_of l index)) (sym is)
-      (subst (λ (g : Option Heard). IsLeft (heard_of known index) (latest_of latest index) g) (sym (get_or-set_same old index h None within)) here))
+      subst (λ (k : ℕ). IsHeardLeft (heard_of known k) (latest_of latest k) (heard_of new k)) same
+      (subst (λ (l : List (Option Heard)). IsHeardLeft (heard_of known index) (latest_of latest index) (heard_of l index)) (sym is)
+      (subst (λ (g : Option Heard). IsHeardLeft (heard_of known index) (latest_of latest index) g) (sym (get_or-set_same old index h None within)) here))
 ]

@@ -20,9 +20,9 @@ IsFrom node (Nack sender s b promise) = sender ≡ node
 IsFrom node (Chosen s d) = Unit {0}
 IsFrom node (Ask s) = Unit {0}
 
--- ---- what a message tells of its sender: it tried the round of its ballot; it made the promise of its answer, and stored the vote of an
--- Accepted; it published what it says is chosen, and what comes before the sequence that it asks
--- for
+-- ---- what a message tells of its sender: it tried the round of its ballot; it made the promise of
+-- its answer, and stored the vote of an Accepted; it published what it says is chosen, and what
+-- comes before the sequence that it asks for
 abbrev pub tried : Progress → ℕ → Progress
 tried p round = record p { round = max p.round round }
 

@@ -54,11 +54,11 @@ ArePast earlier later = (i : ℕ) → IsPast (heard_of earlier i) (heard_of late
 
 -- What was heard of a node is left where its folder is that of the node's latest replacement, or
 -- the node was never replaced.
-abbrev pub IsLeft : Option Heard → Option Replacement → Option Heard → Type 0
-IsLeft None latest left = left ≡ None
-IsLeft (Some h) None left = left ≡ Some h
-IsLeft (Some h) (Some r) left = ((h.progress.mark ≡ r.mark) × (left ≡ Some h)) ⊎ ((h.progress.mark ≢ r.mark) × (left ≡ None))
+abbrev pub IsHeardLeft : Option Heard → Option Replacement → Option Heard → Type 0
+IsHeardLeft None latest left = left ≡ None
+IsHeardLeft (Some h) None left = left ≡ Some h
+IsHeardLeft (Some h) (Some r) left = ((h.progress.mark ≡ r.mark) × (left ≡ Some h)) ⊎ ((h.progress.mark ≢ r.mark) × (left ≡ None))
 
 -- of each node
 abbrev pub AreLeft : List (Option Heard) → List (Option Replacement) → List (Option Heard) → Type 0
-AreLeft known latest left = (i : ℕ) → IsLeft (heard_of known i) (latest_of latest i) (heard_of left i)
+AreLeft known latest left = (i : ℕ) → IsHeardLeft (heard_of known i) (latest_of latest i) (heard_of left i)

@@ -40,8 +40,10 @@ pub fn admit(
     digest: Option<[u8; 32]>,
     greeting: &Greeting,
 ) -> Result<(), PeerRejection>
-    ensures admitted { IsOk result ↔ IsAdmitted own.now replacements.now index heard digest greeting.now }
-    ensures cause { IfErr result (IsRejectionCause own.now replacements.now index heard digest greeting.now) }
+    ensures admitted { IsOk result ↔
+        IsAdmitted own.now replacements.now index heard digest greeting.now }
+    ensures cause { IfErr result
+        (IsRejectionCause own.now replacements.now index heard digest greeting.now) }
 {
     if greeting.farm != own.farm {
         return Err(PeerRejection::OtherFarm);
@@ -81,7 +83,8 @@ fn is_placed(own: &Own, index: Option<NodeId>, node: NodeId) -> bool
 /// Why the folder that greets isn't taken for the node's, by what is known of replacements.
 fn folder_rejection(replacements: &Replacements, greeting: &Greeting) -> Option<PeerRejection>
     ensures none { IfNone result (IsNodesFolder replacements.now greeting.now) }
-    ensures some { IfSome result (λ why. IsFolderRejection (latest_of replacements.now greeting.now.node) (greeted_folder greeting.now) why) }
+    ensures some { IfSome result (λ why. IsFolderRejection
+        (latest_of replacements.now greeting.now.node) (greeted_folder greeting.now) why) }
     ensures other { IfSome result (λ _. ¬ IsNodesFolder replacements.now greeting.now) }
 {
     match replacements.admit(greeting.node, &greeted_folder(greeting)) {
@@ -119,7 +122,8 @@ fn is_joins(state: NodeState) -> bool
 /// What the folder was accused of before.
 fn accusation_of(heard: &Option<Heard>, claimed: &Progress) -> Option<PeerRejection>
     ensures some { IfSome result (λ why. IsAccusedOf heard.now claimed.now.mark why) }
-    ensures none { IfNone result ((why : RejectionValue) → ¬ IsAccusedOf heard.now claimed.now.mark why) }
+    ensures none { IfNone result ((why : RejectionValue) →
+        ¬ IsAccusedOf heard.now claimed.now.mark why) }
 {
     match heard {
         Some(heard) if claimed.mark == heard.progress.mark => heard.accusation,
@@ -155,7 +159,8 @@ fn is_same_start(known: &Progress, claimed: &Progress) -> bool
 fn forgotten(known: &Progress, claimed: &Progress) -> Option<PeerRejection>
     ensures none { IfNone result (IsNoLess (owed known.now claimed.now.published) claimed.now) }
     ensures some { IfSome result (λ why. IsLess known.now claimed.now why) }
-    ensures less { IfSome result (λ _. ¬ IsNoLess (owed known.now claimed.now.published) claimed.now) }
+    ensures less { IfSome result (λ _.
+        ¬ IsNoLess (owed known.now claimed.now.published) claimed.now) }
 {
     if claimed.mark != known.mark {
         return Some(PeerRejection::OtherMark);

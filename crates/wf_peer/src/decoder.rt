@@ -37,11 +37,15 @@ pub(crate) const PROGRESS: usize = 54;
 pub fn decode(bytes: &[u8]) -> Result<Greeting, GreetingFault>
     ensures greeting { IfOk result IsGreeting }
     ensures front { IfOk result (λ g. (rest : List ℕ) × (bytes.now ≡ greeting_bytes g ++ rest)) }
-    ensures each { (g : GreetingValue) (rest : List ℕ) → IsGreeting g → bytes.now ≡ greeting_bytes g ++ rest → result ≡ Ok g }
-    ensures short { IsErrOf result GreetingFault.Short → length bytes.now < greeting_length bytes.now }
-    ensures mark { IsErrOf result GreetingFault.Short → 8 ≤ length bytes.now → (rest : List ℕ) × (bytes.now ≡ greeting_mark ++ rest) }
+    ensures each { (g : GreetingValue) (rest : List ℕ) → IsGreeting g →
+        bytes.now ≡ greeting_bytes g ++ rest → result ≡ Ok g }
+    ensures short { IsErrOf result GreetingFault.Short →
+        length bytes.now < greeting_length bytes.now }
+    ensures mark { IsErrOf result GreetingFault.Short → 8 ≤ length bytes.now →
+        (rest : List ℕ) × (bytes.now ≡ greeting_mark ++ rest) }
     ensures few { length bytes.now < 8 → result ≡ Err GreetingFault.Short }
-    ensures begins { (g : GreetingValue) (more : List ℕ) → IsGreeting g → 0 < length more → bytes.now ++ more ≡ greeting_bytes g → result ≡ Err GreetingFault.Short }
+    ensures begins { (g : GreetingValue) (more : List ℕ) → IsGreeting g → 0 < length more →
+        bytes.now ++ more ≡ greeting_bytes g → result ≡ Err GreetingFault.Short }
 {
     match after(bytes, GREETING_MARK) {
         Some(rest) => decode_body(after_version(rest)?),
@@ -54,8 +58,11 @@ pub fn decode(bytes: &[u8]) -> Result<Greeting, GreetingFault>
 /// greeting.
 pub fn greeting_length(bytes: &[u8]) -> usize
     ensures value { result ≡ greeting_length bytes.now }
-    ensures within { (g : GreetingValue) (more rest : List ℕ) → IsGreeting g → bytes.now ++ more ≡ greeting_bytes g ++ rest → result ≤ length (greeting_bytes g) }
-    ensures whole { (g : GreetingValue) (more rest : List ℕ) → IsGreeting g → bytes.now ++ more ≡ greeting_bytes g ++ rest → 132 ≤ length bytes.now → result ≡ length (greeting_bytes g) }
+    ensures within { (g : GreetingValue) (more rest : List ℕ) → IsGreeting g →
+        bytes.now ++ more ≡ greeting_bytes g ++ rest → result ≤ length (greeting_bytes g) }
+    ensures whole { (g : GreetingValue) (more rest : List ℕ) → IsGreeting g →
+        bytes.now ++ more ≡ greeting_bytes g ++ rest → 132 ≤ length bytes.now →
+        result ≡ length (greeting_bytes g) }
 {
     match bytes.get(GREETING_BYTES - 1) {
         Some(count) => GREETING_BYTES + told_length(usize::from(*count)),
@@ -77,7 +84,8 @@ pub(crate) fn fault_of_mark(bytes: &[u8]) -> GreetingFault
 /// What follows this version.
 pub(crate) fn after_version(bytes: &[u8]) -> Result<&[u8], GreetingFault>
     ensures ok { IfOk result (λ rest. bytes.now ≡ to_be_bytes w16 peer_version ++ rest.now) }
-    ensures err { IfErr result (λ _. (rest : List ℕ) → bytes.now ≢ to_be_bytes w16 peer_version ++ rest) }
+    ensures err { IfErr result (λ _. (rest : List ℕ) →
+        bytes.now ≢ to_be_bytes w16 peer_version ++ rest) }
     ensures short { IsErrOf result GreetingFault.Short → length bytes.now < 2 }
     ensures begins { length bytes.now < 2 → IsErrOf result GreetingFault.Short }
 {
@@ -101,9 +109,12 @@ fn fault_of_version(bytes: &[u8]) -> GreetingFault
 fn decode_body(bytes: &[u8]) -> Result<Greeting, GreetingFault>
     ensures greeting { IfOk result IsGreeting }
     ensures front { IfOk result (λ g. (rest : List ℕ) × (bytes.now ≡ body_bytes g ++ rest)) }
-    ensures each { (g : GreetingValue) (rest : List ℕ) → IsGreeting g → bytes.now ≡ body_bytes g ++ rest → result ≡ Ok g }
-    ensures short { IsErrOf result GreetingFault.Short → length bytes.now < 122 + told_length (get_or bytes.now 121 0) }
-    ensures begins { (g : GreetingValue) (more : List ℕ) → IsGreeting g → 0 < length more → bytes.now ++ more ≡ body_bytes g → result ≡ Err GreetingFault.Short }
+    ensures each { (g : GreetingValue) (rest : List ℕ) → IsGreeting g →
+        bytes.now ≡ body_bytes g ++ rest → result ≡ Ok g }
+    ensures short { IsErrOf result GreetingFault.Short →
+        length bytes.now < 122 + told_length (get_or bytes.now 121 0) }
+    ensures begins { (g : GreetingValue) (more : List ℕ) → IsGreeting g → 0 < length more →
+        bytes.now ++ more ≡ body_bytes g → result ≡ Err GreetingFault.Short }
 {
     if bytes.len() < BODY {
         return Err(GreetingFault::Short);
@@ -127,7 +138,8 @@ fn fixed_of(bytes: &[u8]) -> Option<Greeting>
     requires { length bytes.now ≡ 121 }
     ensures parts { IfSome result HasFixedParts }
     ensures some { IfSome result (λ g. bytes.now ≡ fixed_bytes g) }
-    ensures each { (g : GreetingValue) → HasFixedParts g → bytes.now ≡ fixed_bytes g → result ≡ Some (plain g) }
+    ensures each { (g : GreetingValue) → HasFixedParts g → bytes.now ≡ fixed_bytes g →
+        result ≡ Some (plain g) }
 {
     let (farm, rest) = bytes.split_at(32);
     let (numbers, rest) = rest.split_at(2);
@@ -154,7 +166,8 @@ pub(crate) fn progress_of(bytes: &[u8]) -> Option<Progress>
     requires { length bytes.now ≡ 54 }
     ensures progress { IfSome result IsProgress }
     ensures some { IfSome result (λ p. bytes.now ≡ progress_bytes p) }
-    ensures each { (p : ProgressValue) → IsProgress p → bytes.now ≡ progress_bytes p → result ≡ Some p }
+    ensures each { (p : ProgressValue) → IsProgress p → bytes.now ≡ progress_bytes p →
+        result ≡ Some p }
 {
     let (mark, rest) = bytes.split_at(16);
     let (starts, rest) = rest.split_at(4);
@@ -182,7 +195,8 @@ pub(crate) fn progress_of(bytes: &[u8]) -> Option<Progress>
 fn promise_of(bytes: &[u8]) -> Option<Option<Ballot>>
     ensures promise { IfSome result IsPromise }
     ensures some { IfSome result (λ p. bytes.now ≡ promise_bytes p) }
-    ensures each { (p : Option BallotValue) → IsPromise p → bytes.now ≡ promise_bytes p → result ≡ Some p }
+    ensures each { (p : Option BallotValue) → IsPromise p → bytes.now ≡ promise_bytes p →
+        result ≡ Some p }
 {
     match bytes {
         [0, 0, 0, 0, 0] => Some(None),
@@ -198,7 +212,8 @@ fn vote_of(bytes: &[u8]) -> Option<Option<HighestVote>>
     requires { length bytes.now ≡ 7 }
     ensures vote { IfSome result IsVoteOrNone }
     ensures some { IfSome result (λ v. bytes.now ≡ vote_bytes v) }
-    ensures each { (v : Option VoteValue) → IsVoteOrNone v → bytes.now ≡ vote_bytes v → result ≡ Some v }
+    ensures each { (v : Option VoteValue) → IsVoteOrNone v → bytes.now ≡ vote_bytes v →
+        result ≡ Some v }
 {
     match bytes {
         [0, 0, 0, 0, 0, 0, 0] => Some(None),

@@ -46,7 +46,8 @@ pub(crate) fn told_length(count: usize) -> usize
 #[tactic(auto, unfolding(crate::specs::Greeting::fixed_bytes))]
 fn put_front(out: &mut Vec<u8>, greeting: &Greeting)
     requires { vec_len out.old + 131 ≤ vec_capacity out.old }
-    ensures items { out.new.items ≡ out.old.items ++ (greeting_mark ++ (to_be_bytes w16 peer_version ++ fixed_bytes greeting.now)) }
+    ensures items { out.new.items ≡ out.old.items
+        ++ (greeting_mark ++ (to_be_bytes w16 peer_version ++ fixed_bytes greeting.now)) }
     ensures len { vec_len out.new ≡ vec_len out.old + 131 }
     ensures capacity { vec_capacity out.old ≤ vec_capacity out.new }
 {
@@ -65,7 +66,8 @@ fn put_told(out: &mut Vec<u8>, greeting: &Greeting, count: usize)
     requires count { count ≡ known_count greeting.now.replacements }
     requires most { count ≤ 64 }
     requires room { vec_len out.old + 1 + told_length count ≤ vec_capacity out.old }
-    ensures { out.new.items ≡ out.old.items ++ told_bytes greeting.now.replacements greeting.now.voted }
+    ensures { out.new.items ≡
+        out.old.items ++ told_bytes greeting.now.replacements greeting.now.voted }
 {
     put(out, &[count as u8]);
     if 0 < count {
@@ -79,7 +81,8 @@ fn put_told(out: &mut Vec<u8>, greeting: &Greeting, count: usize)
 fn put_entries(out: &mut Vec<u8>, nodes: &[Option<Replacement>])
     requires nodes { length nodes.now ≤ 64 }
     requires room { vec_len out.old + 21 * known_count nodes.now ≤ vec_capacity out.old }
-    ensures items { out.new.items ≡ out.old.items ++ entries_from (64 - length nodes.now) nodes.now }
+    ensures items { out.new.items ≡
+        out.old.items ++ entries_from (64 - length nodes.now) nodes.now }
     ensures len { vec_len out.new ≡ vec_len out.old + 21 * known_count nodes.now }
     ensures capacity { vec_capacity out.old ≤ vec_capacity out.new }
 {

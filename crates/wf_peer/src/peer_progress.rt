@@ -62,7 +62,8 @@ impl PeerProgress {
     /// is kept.
     pub fn greet(&mut self, node: NodeId, progress: Progress)
         requires { HasKept (progress_in (heard_of self.old node)) progress }
-        ensures value { self.new ≡ slice_set self.old node (Some (greeted (heard_of self.old node) progress)) }
+        ensures value { self.new ≡ slice_set self.old node
+            (Some (greeted (heard_of self.old node) progress)) }
         ensures falls { NeverFalls self.old self.new }
     {
         let heard = greeted(&self.heard(node), &progress);
@@ -80,7 +81,8 @@ impl PeerProgress {
     /// another one nothing is.
     #[tactic(auto, using(crate::proofs::Kept::nothing_falls))]
     pub fn receive(&mut self, node: NodeId, message: &Message)
-        ensures value { self.new ≡ with_reported self.old node (heard_of self.old node) (view message.now) }
+        ensures value { self.new ≡ with_reported self.old node (heard_of self.old node)
+            (view message.now) }
         ensures falls { NeverFalls self.old self.new }
     {
         let Some(heard) = self.heard(node) else {
@@ -150,7 +152,8 @@ fn first_accusation(earlier: Option<PeerRejection>, why: PeerRejection) -> Optio
 
 /// What was heard of a node, once this message came from it.
 fn reported(heard: &Heard, message: &Message) -> Heard
-    ensures { result ≡ record heard.now { progress = advance_by heard.now.progress (view message.now) } }
+    ensures { result ≡
+        record heard.now { progress = advance_by heard.now.progress (view message.now) } }
 {
     Heard {
         progress: advance_by(&heard.progress, message),

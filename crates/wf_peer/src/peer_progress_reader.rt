@@ -27,7 +27,8 @@ impl PeerProgress {
     pub fn read(bytes: &[u8]) -> Result<PeerProgress, PeerProgressFault>
         ensures known { IfOk result (λ known. (length known ≡ 64) × ArePeerProgress known) }
         ensures text { IfOk result (IsProgressTextOf bytes.now) }
-        ensures each { (known : List (Option HeardValue)) → length known ≡ 64 → ArePeerProgress known → IsProgressTextOf bytes.now known → result ≡ Ok known }
+        ensures each { (known : List (Option HeardValue)) → length known ≡ 64 →
+            ArePeerProgress known → IsProgressTextOf bytes.now known → result ≡ Ok known }
     {
         let mut nodes = [None; 64];
         if let Some(rest) = after(bytes, FIRST_LINE) {
@@ -72,7 +73,8 @@ fn read_lines(bytes: &[u8], nodes: &mut [Option<Heard>]) -> Result<(), PeerProgr
 fn split_line(bytes: &[u8]) -> Option<(Option<Heard>, &[u8])>
     ensures known { IfSome result (λ x. IsPeerProgress x.0) }
     ensures some { IfSome result (λ x. bytes.now ≡ line_then x.0 x.1.now) }
-    ensures none { IfNone result ((node : Option HeardValue) (rest : List ℕ) → IsPeerProgress node → bytes.now ≢ line_then node rest) }
+    ensures none { IfNone result ((node : Option HeardValue) (rest : List ℕ) → IsPeerProgress node →
+        bytes.now ≢ line_then node rest) }
 {
     match after(bytes, NOTHING_LINE) {
         Some(rest) => Some((None, rest)),
@@ -87,7 +89,8 @@ fn split_line(bytes: &[u8]) -> Option<(Option<Heard>, &[u8])>
 fn split_heard(bytes: &[u8]) -> Option<(Heard, &[u8])>
     ensures heard { IfSome result (λ x. IsPeerProgress (Some x.0)) }
     ensures some { IfSome result (λ x. bytes.now ≡ line_then (Some x.0) x.1.now) }
-    ensures none { IfNone result ((h : HeardValue) (rest : List ℕ) → IsPeerProgress (Some h) → bytes.now ≢ line_then (Some h) rest) }
+    ensures none { IfNone result ((h : HeardValue) (rest : List ℕ) → IsPeerProgress (Some h) →
+        bytes.now ≢ line_then (Some h) rest) }
 {
     let (mark, rest) = split_named(bytes, b"mark ")?;
     let (starts, rest) = split_word(rest, b" starts ")?;
@@ -110,7 +113,8 @@ fn split_heard(bytes: &[u8]) -> Option<(Heard, &[u8])>
 #[tactic(auto, unfolding(crate::specs::PeerProgressText::accusation_then))]
 fn split_accusation(bytes: &[u8]) -> Option<(Option<PeerRejection>, &[u8])>
     ensures some { IfSome result (λ x. bytes.now ≡ accusation_then x.0 x.1.now) }
-    ensures none { IfNone result ((accusation : Option RejectionValue) (rest : List ℕ) → bytes.now ≢ accusation_then accusation rest) }
+    ensures none { IfNone result ((accusation : Option RejectionValue) (rest : List ℕ) →
+        bytes.now ≢ accusation_then accusation rest) }
 {
     match after(bytes, b"\n") {
         Some(rest) => Some((None, rest)),
@@ -124,7 +128,8 @@ fn split_accusation(bytes: &[u8]) -> Option<(Option<PeerRejection>, &[u8])>
 /// The accusation that bytes begin with, the end of the line, and what follows it.
 fn split_accused(bytes: &[u8]) -> Option<(PeerRejection, &[u8])>
     ensures some { IfSome result (λ x. bytes.now ≡ accusation_then (Some x.0) x.1.now) }
-    ensures none { IfNone result ((why : RejectionValue) (rest : List ℕ) → bytes.now ≢ accusation_then (Some why) rest) }
+    ensures none { IfNone result ((why : RejectionValue) (rest : List ℕ) →
+        bytes.now ≢ accusation_then (Some why) rest) }
 {
     let (number, rest) = split_word(bytes, b" accused ")?;
     let rest = after(rest, b"\n")?;

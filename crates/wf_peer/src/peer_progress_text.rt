@@ -27,9 +27,11 @@ impl PeerProgress {
     /// ```text
     /// wfarm heard 2
     /// nothing
-    /// mark 0123456789abcdef0123456789abcdef starts 00000003 life 8899aabbccddeeff0011223344556677 tried 00000007 promised 00000007
-    ///  of 00000001 voted 00000007 of 00000001 at 0000000d published 0000000c accused 00000008 (on one line)
-    /// mark 00112233445566778899aabbccddeeff starts 00000001 life ffeeddccbbaa99887766554433221100 tried 00000000 nothing promised published 0000000b
+    /// mark 0123456789abcdef0123456789abcdef starts 00000003 life 8899aabbccddeeff0011223344556677
+    ///  tried 00000007 promised 00000007 of 00000001 voted 00000007 of 00000001 at 0000000d
+    ///  published 0000000c accused 00000008 (on one line)
+    /// mark 00112233445566778899aabbccddeeff starts 00000001 life ffeeddccbbaa99887766554433221100
+    ///  tried 00000000 nothing promised published 0000000b (on one line)
     /// ```
     pub fn text(&self, alloc: Global) -> Result<Vec<u8>, AllocError>
         ensures text { IfOk result (λ text. text.items ≡ peer_progress_text self.now) }

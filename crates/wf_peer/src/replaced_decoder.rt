@@ -17,9 +17,14 @@ use wf_rejoin::{Replacement, Replacements};
 pub(crate) fn decode_told(bytes: &[u8]) -> Result<(Replacements, Seq), GreetingFault>
     ensures told { IfOk result (λ x. AreTold x.0 x.1) }
     ensures front { IfOk result (λ x. (rest : List ℕ) × (bytes.now ≡ told_bytes x.0 x.1 ++ rest)) }
-    ensures each { (known : List (Option ReplacementValue)) (voted : ℕ) (rest : List ℕ) → AreTold known voted → bytes.now ≡ told_bytes known voted ++ rest → result ≡ Ok (known, voted) }
-    ensures short { IsErrOf result GreetingFault.Short → length bytes.now < 1 + told_length (get_or bytes.now 0 0) }
-    ensures begins { (known : List (Option ReplacementValue)) (voted : ℕ) (more : List ℕ) → AreTold known voted → 0 < length more → bytes.now ++ more ≡ told_bytes known voted → result ≡ Err GreetingFault.Short }
+    ensures each { (known : List (Option ReplacementValue)) (voted : ℕ) (rest : List ℕ) →
+        AreTold known voted → bytes.now ≡ told_bytes known voted ++ rest →
+        result ≡ Ok (known, voted) }
+    ensures short { IsErrOf result GreetingFault.Short →
+        length bytes.now < 1 + told_length (get_or bytes.now 0 0) }
+    ensures begins { (known : List (Option ReplacementValue)) (voted : ℕ) (more : List ℕ) →
+        AreTold known voted → 0 < length more → bytes.now ++ more ≡ told_bytes known voted →
+        result ≡ Err GreetingFault.Short }
 {
     match bytes.split_first() {
         None => Err(GreetingFault::Short),
@@ -35,10 +40,15 @@ pub(crate) fn decode_told(bytes: &[u8]) -> Result<(Replacements, Seq), GreetingF
 fn decode_counted(count: u8, bytes: &[u8]) -> Result<(Replacements, Seq), GreetingFault>
     ensures told { IfOk result (λ x. AreTold x.0 x.1) }
     ensures count { IfOk result (λ x. known_count x.0 ≡ count) }
-    ensures front { IfOk result (λ x. (rest : List ℕ) × (bytes.now ≡ told_after count x.0 x.1 ++ rest)) }
-    ensures each { (known : List (Option ReplacementValue)) (voted : ℕ) (rest : List ℕ) → AreTold known voted → known_count known ≡ count → bytes.now ≡ told_after count known voted ++ rest → result ≡ Ok (known, voted) }
+    ensures front { IfOk result (λ x. (rest : List ℕ)
+        × (bytes.now ≡ told_after count x.0 x.1 ++ rest)) }
+    ensures each { (known : List (Option ReplacementValue)) (voted : ℕ) (rest : List ℕ) →
+        AreTold known voted → known_count known ≡ count →
+        bytes.now ≡ told_after count known voted ++ rest → result ≡ Ok (known, voted) }
     ensures short { IsErrOf result GreetingFault.Short → length bytes.now < told_length count }
-    ensures begins { (known : List (Option ReplacementValue)) (voted : ℕ) (more : List ℕ) → AreTold known voted → known_count known ≡ count → 0 < length more → bytes.now ++ more ≡ told_after count known voted → result ≡ Err GreetingFault.Short }
+    ensures begins { (known : List (Option ReplacementValue)) (voted : ℕ) (more : List ℕ) →
+        AreTold known voted → known_count known ≡ count → 0 < length more →
+        bytes.now ++ more ≡ told_after count known voted → result ≡ Err GreetingFault.Short }
 {
     if count == 0 {
         return Ok((Replacements::new(), Seq::new(0).unwrap()));
@@ -62,8 +72,12 @@ fn told_of(size: usize, bytes: &[u8]) -> Option<(Replacements, Seq)>
     ensures size { IfSome result (λ x. 21 * known_count x.0 ≡ size) }
     ensures replacements { IfSome result (λ x. (length x.0 ≡ 64) × AreToldOrNone x.0) }
     ensures sequence { IfSome result (λ x. IsSequence x.1) }
-    ensures front { IfSome result (λ x. (rest : List ℕ) × (bytes.now ≡ (entries_from 0 x.0 ++ seq_bytes x.1) ++ rest)) }
-    ensures each { (known : List (Option ReplacementValue)) (voted : ℕ) (rest : List ℕ) → length known ≡ 64 → AreToldOrNone known → IsSequence voted → 21 * known_count known ≡ size → bytes.now ≡ (entries_from 0 known ++ seq_bytes voted) ++ rest → result ≡ Some (known, voted) }
+    ensures front { IfSome result (λ x. (rest : List ℕ)
+        × (bytes.now ≡ (entries_from 0 x.0 ++ seq_bytes x.1) ++ rest)) }
+    ensures each { (known : List (Option ReplacementValue)) (voted : ℕ) (rest : List ℕ) →
+        length known ≡ 64 → AreToldOrNone known → IsSequence voted → 21 * known_count known ≡ size →
+        bytes.now ≡ (entries_from 0 known ++ seq_bytes voted) ++ rest →
+        result ≡ Some (known, voted) }
 {
     let (entries, rest) = bytes.split_at(size);
     let (voted, _) = rest.split_at(2);
@@ -80,7 +94,8 @@ fn told_of(size: usize, bytes: &[u8]) -> Option<(Replacements, Seq)>
 fn replacements_of(bytes: &[u8]) -> Option<Replacements>
     ensures told { IfSome result (λ known. (length known ≡ 64) × AreToldOrNone known) }
     ensures some { IfSome result (λ known. bytes.now ≡ entries_from 0 known) }
-    ensures each { (known : List (Option ReplacementValue)) → length known ≡ 64 → AreToldOrNone known → bytes.now ≡ entries_from 0 known → result ≡ Some known }
+    ensures each { (known : List (Option ReplacementValue)) → length known ≡ 64 →
+        AreToldOrNone known → bytes.now ≡ entries_from 0 known → result ≡ Some known }
 {
     let mut nodes = [None; 64];
     if read_entries(bytes, &mut nodes) {
@@ -114,7 +129,8 @@ fn split_entry(node: u8, bytes: &[u8]) -> Option<(Option<Replacement>, &[u8])>
     ensures told { IfSome result (λ x. IsToldOrNone x.0) }
     ensures some { IfSome result (λ x. bytes.now ≡ entry_then node x.0 x.1.now) }
     ensures other { IfSome result (λ x. x.0 ≡ None → ¬ StartsWith node bytes.now) }
-    ensures none { IfNone result ((x : Option ReplacementValue) (rest : List ℕ) → IsToldOrNone x → ¬ StartsWith node rest → bytes.now ≢ entry_then node x rest) }
+    ensures none { IfNone result ((x : Option ReplacementValue) (rest : List ℕ) → IsToldOrNone x →
+        ¬ StartsWith node rest → bytes.now ≢ entry_then node x rest) }
 {
     match bytes.split_first() {
         Some((first, rest)) if *first == node => match split_replacement(rest) {
@@ -128,8 +144,10 @@ fn split_entry(node: u8, bytes: &[u8]) -> Option<(Option<Replacement>, &[u8])>
 /// The replacement that bytes begin with, and what follows it.
 fn split_replacement(bytes: &[u8]) -> Option<(Replacement, &[u8])>
     ensures told { IfSome result (λ x. IsToldReplacement x.0) }
-    ensures some { IfSome result (λ x. bytes.now ≡ to_be_bytes w32 x.0.count ++ (x.0.mark ++ x.1.now)) }
-    ensures none { IfNone result ((r : ReplacementValue) (rest : List ℕ) → IsToldReplacement r → bytes.now ≢ to_be_bytes w32 r.count ++ (r.mark ++ rest)) }
+    ensures some { IfSome result (λ x. bytes.now ≡
+        to_be_bytes w32 x.0.count ++ (x.0.mark ++ x.1.now)) }
+    ensures none { IfNone result ((r : ReplacementValue) (rest : List ℕ) → IsToldReplacement r →
+        bytes.now ≢ to_be_bytes w32 r.count ++ (r.mark ++ rest)) }
 {
     if bytes.len() < ENTRY - 1 {
         return None;

@@ -102,10 +102,13 @@ fn put_remembered(remembered: &Option<Progress>, out: &mut Vec<u8>)
 #[tactic(auto, unfolding(crate::specs::GreetingReply::rejection_bytes, crate::specs::Greeting::greeting_bytes))]
 pub fn decode_reply(bytes: &[u8]) -> Result<GreetingReply, GreetingFault>
     ensures reply { IfOk result IsGreetingReply }
-    ensures front { IfOk result (λ reply. (rest : List ℕ) × (bytes.now ≡ reply_bytes reply ++ rest)) }
-    ensures each { (reply : ReplyValue) (rest : List ℕ) → IsGreetingReply reply → bytes.now ≡ reply_bytes reply ++ rest → result ≡ Ok reply }
+    ensures front { IfOk result (λ reply. (rest : List ℕ)
+        × (bytes.now ≡ reply_bytes reply ++ rest)) }
+    ensures each { (reply : ReplyValue) (rest : List ℕ) → IsGreetingReply reply →
+        bytes.now ≡ reply_bytes reply ++ rest → result ≡ Ok reply }
     ensures short { IsErrOf result GreetingFault.Short → length bytes.now < reply_length bytes.now }
-    ensures begins { (reply : ReplyValue) (more : List ℕ) → IsGreetingReply reply → 0 < length more → bytes.now ++ more ≡ reply_bytes reply → result ≡ Err GreetingFault.Short }
+    ensures begins { (reply : ReplyValue) (more : List ℕ) → IsGreetingReply reply →
+        0 < length more → bytes.now ++ more ≡ reply_bytes reply → result ≡ Err GreetingFault.Short }
 {
     match after(bytes, REJECTION_MARK) {
         Some(rest) => match decode_rejection(after_version(rest)?) {
@@ -124,7 +127,8 @@ pub fn decode_reply(bytes: &[u8]) -> Result<GreetingReply, GreetingFault>
 /// reads nothing of what follows a reply.
 pub fn reply_length(bytes: &[u8]) -> usize
     ensures value { result ≡ reply_length bytes.now }
-    ensures within { (reply : ReplyValue) (more rest : List ℕ) → IsGreetingReply reply → bytes.now ++ more ≡ reply_bytes reply ++ rest → result ≤ length (reply_bytes reply) }
+    ensures within { (reply : ReplyValue) (more rest : List ℕ) → IsGreetingReply reply →
+        bytes.now ++ more ≡ reply_bytes reply ++ rest → result ≤ length (reply_bytes reply) }
 {
     if bytes.len() < CAUSE_BYTES + 1 {
         return CAUSE_BYTES + 1;
@@ -143,10 +147,17 @@ pub fn reply_length(bytes: &[u8]) -> usize
 /// The cause that bytes begin with, and what is remembered.
 fn decode_rejection(bytes: &[u8]) -> Result<(PeerRejection, Option<Progress>), GreetingFault>
     ensures remembered { IfOk result (λ x. IsProgressOrNone x.1) }
-    ensures front { IfOk result (λ x. (rest : List ℕ) × (bytes.now ≡ rejection_byte x.0 ∷ (remembered_bytes x.1 ++ rest))) }
-    ensures each { (why : RejectionValue) (p : Option ProgressValue) (rest : List ℕ) → IsProgressOrNone p → bytes.now ≡ rejection_byte why ∷ (remembered_bytes p ++ rest) → result ≡ Ok (why, p) }
-    ensures short { IsErrOf result GreetingFault.Short → length bytes.now < 1 + remembered_length (get_or bytes.now 1 0) }
-    ensures begins { (why : RejectionValue) (p : Option ProgressValue) (more : List ℕ) → IsProgressOrNone p → 0 < length more → bytes.now ++ more ≡ rejection_byte why ∷ remembered_bytes p → result ≡ Err GreetingFault.Short }
+    ensures front { IfOk result (λ x. (rest : List ℕ)
+        × (bytes.now ≡ rejection_byte x.0 ∷ (remembered_bytes x.1 ++ rest))) }
+    ensures each { (why : RejectionValue) (p : Option ProgressValue) (rest : List ℕ) →
+        IsProgressOrNone p → bytes.now ≡ rejection_byte why ∷ (remembered_bytes p ++ rest) →
+        result ≡ Ok (why, p) }
+    ensures short { IsErrOf result GreetingFault.Short →
+        length bytes.now < 1 + remembered_length (get_or bytes.now 1 0) }
+    ensures begins { (why : RejectionValue) (p : Option ProgressValue) (more : List ℕ) →
+        IsProgressOrNone p → 0 < length more →
+        bytes.now ++ more ≡ rejection_byte why ∷ remembered_bytes p →
+        result ≡ Err GreetingFault.Short }
 {
     match bytes {
         [] => Err(GreetingFault::Short),
@@ -164,9 +175,13 @@ fn decode_rejection(bytes: &[u8]) -> Result<(PeerRejection, Option<Progress>), G
 fn decode_remembered(bytes: &[u8]) -> Result<Option<Progress>, GreetingFault>
     ensures remembered { IfOk result IsProgressOrNone }
     ensures front { IfOk result (λ p. (rest : List ℕ) × (bytes.now ≡ remembered_bytes p ++ rest)) }
-    ensures each { (p : Option ProgressValue) (rest : List ℕ) → IsProgressOrNone p → bytes.now ≡ remembered_bytes p ++ rest → result ≡ Ok p }
-    ensures short { IsErrOf result GreetingFault.Short → length bytes.now < remembered_length (get_or bytes.now 0 0) }
-    ensures begins { (p : Option ProgressValue) (more : List ℕ) → IsProgressOrNone p → 0 < length more → bytes.now ++ more ≡ remembered_bytes p → result ≡ Err GreetingFault.Short }
+    ensures each { (p : Option ProgressValue) (rest : List ℕ) → IsProgressOrNone p →
+        bytes.now ≡ remembered_bytes p ++ rest → result ≡ Ok p }
+    ensures short { IsErrOf result GreetingFault.Short →
+        length bytes.now < remembered_length (get_or bytes.now 0 0) }
+    ensures begins { (p : Option ProgressValue) (more : List ℕ) → IsProgressOrNone p →
+        0 < length more → bytes.now ++ more ≡ remembered_bytes p →
+        result ≡ Err GreetingFault.Short }
 {
     match bytes {
         [] => Err(GreetingFault::Short),
@@ -180,10 +195,15 @@ fn decode_remembered(bytes: &[u8]) -> Result<Option<Progress>, GreetingFault>
 /// What is remembered, by its first byte and those after it.
 fn decode_tagged(tag: u8, bytes: &[u8]) -> Result<Option<Progress>, GreetingFault>
     ensures remembered { IfOk result IsProgressOrNone }
-    ensures front { IfOk result (λ p. (rest : List ℕ) × (tag ∷ bytes.now ≡ remembered_bytes p ++ rest)) }
-    ensures each { (p : Option ProgressValue) (rest : List ℕ) → IsProgressOrNone p → tag ∷ bytes.now ≡ remembered_bytes p ++ rest → result ≡ Ok p }
-    ensures short { IsErrOf result GreetingFault.Short → 1 + length bytes.now < remembered_length tag }
-    ensures begins { (p : Option ProgressValue) (more : List ℕ) → IsProgressOrNone p → 0 < length more → tag ∷ (bytes.now ++ more) ≡ remembered_bytes p → result ≡ Err GreetingFault.Short }
+    ensures front { IfOk result (λ p. (rest : List ℕ)
+        × (tag ∷ bytes.now ≡ remembered_bytes p ++ rest)) }
+    ensures each { (p : Option ProgressValue) (rest : List ℕ) → IsProgressOrNone p →
+        tag ∷ bytes.now ≡ remembered_bytes p ++ rest → result ≡ Ok p }
+    ensures short { IsErrOf result GreetingFault.Short →
+        1 + length bytes.now < remembered_length tag }
+    ensures begins { (p : Option ProgressValue) (more : List ℕ) → IsProgressOrNone p →
+        0 < length more → tag ∷ (bytes.now ++ more) ≡ remembered_bytes p →
+        result ≡ Err GreetingFault.Short }
 {
     match tag {
         0 => Ok(None),
@@ -199,7 +219,8 @@ fn decode_tagged(tag: u8, bytes: &[u8]) -> Result<Option<Progress>, GreetingFaul
 fn decode_progress(bytes: &[u8]) -> Result<Progress, GreetingFault>
     ensures progress { IfOk result IsProgress }
     ensures front { IfOk result (λ p. (rest : List ℕ) × (bytes.now ≡ progress_bytes p ++ rest)) }
-    ensures each { (p : ProgressValue) (rest : List ℕ) → IsProgress p → bytes.now ≡ progress_bytes p ++ rest → result ≡ Ok p }
+    ensures each { (p : ProgressValue) (rest : List ℕ) → IsProgress p →
+        bytes.now ≡ progress_bytes p ++ rest → result ≡ Ok p }
     ensures short { IsErrOf result GreetingFault.Short → length bytes.now < 54 }
     ensures begins { length bytes.now < 54 → result ≡ Err GreetingFault.Short }
 {

@@ -2,7 +2,7 @@
 ghost use Rattle.std.specs.Prelude.{◌↔◌, ◌≡◌, IsTrue, length};
 ghost use Rattle.wf_codec.specs.Message.{view};
 ghost use Rattle.wf_peer.specs.Sender.{heard_of};
-ghost use Rattle.wf_peer.specs.Told.{AreLeft, ArePast, HearAll, IsHeardOf, IsLeft, IsPast, TellsNoMore, TellsNoMoreOf};
+ghost use Rattle.wf_peer.specs.Told.{AreLeft, ArePast, HearAll, IsHeardOf, IsHeardLeft, IsPast, TellsNoMore, TellsNoMoreOf};
 ghost use Rattle.wf_rejoin.specs.Replacements.{latest_of};
 
 use crate::heard::Heard;
@@ -57,7 +57,7 @@ fn leave(heard: &[Option<Heard>], latest: &[Option<Replacement>], left: &mut [Op
 
 /// What is left of what was heard of the node of this number.
 fn left_at(heard: &[Option<Heard>], latest: &[Option<Replacement>], index: usize) -> Option<Heard>
-    ensures { IsLeft (heard_of heard.now index) (latest_of latest.now index) result }
+    ensures { IsHeardLeft (heard_of heard.now index) (latest_of latest.now index) result }
 {
     match latest.get(index) {
         Some(latest) => left_of(&heard_at(heard, index), latest),
@@ -67,7 +67,7 @@ fn left_at(heard: &[Option<Heard>], latest: &[Option<Replacement>], index: usize
 
 /// What is left of what was heard of a node.
 fn left_of(heard: &Option<Heard>, latest: &Option<Replacement>) -> Option<Heard>
-    ensures { IsLeft heard.now latest.now result }
+    ensures { IsHeardLeft heard.now latest.now result }
 {
     match (heard, latest) {
         (Some(heard), Some(latest)) if !is_folder_of(heard, latest) => None,

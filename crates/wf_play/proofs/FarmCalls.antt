@@ -18,7 +18,7 @@ use Rattle.wf_farm.specs.Pump.{IsPumped, IsPumpedPart}
 use Rattle.wf_farm.specs.declared.cluster.NodeHost.TheVariants.{Running, Stopped}
 use Rattle.wf_farm.specs.declared.fault.FarmFault.{FarmFault}
 use Rattle.wf_farm.specs.declared.fault.FarmFault.TheVariants.{Memory, NoNode, Carried}
-use Rattle.wf_play.specs.Session.{Plays, IsPublished}
+use Rattle.wf_play.specs.Session.{Plays, IsPublishedInFarm}
 
 -- nothing
 pub nothing_played : (farm : MemoryFarm) → Plays farm farm
@@ -53,7 +53,7 @@ pump_part_played names before after NoNode part same grows = absurd part
 pump_part_played names before after (Carried done) part same grows = record { events = _; runs = part.0.runs; size = same; grows = inr grows }
 
 -- what is published under one sequence is one definition
-pub published_once : (farm : MemoryFarm) (s : ℕ) (c d : Definition) → HasNoTwoDefinitions farm → IsPublished farm s c → IsPublished farm s d → c ≡ d
+pub published_once : (farm : MemoryFarm) (s : ℕ) (c d : Definition) → HasNoTwoDefinitions farm → IsPublishedInFarm farm s c → IsPublishedInFarm farm s d → c ≡ d
 unfolding HasNoTwoDefinitions
 published_once farm s c d one this that = one this.0 that.0 s c d this.1 that.1
 
@@ -65,7 +65,7 @@ stored_there node (Some (Stopped tape)) runs = absurd (none-some node (sym runs)
 
 -- What a running node's list has at a sequence, it publishes there.
 pub published_there : (farm : MemoryFarm) (i s : ℕ) (node : Node TapeValue) (found : Option (Bor Definition)) → Some node ≡ running_in (slice_get farm.hosts i) →
-    option_copied found ≡ definition_at (stored_of node).history s → IfSome found (λ canon. IsPublished farm s canon.now)
+    option_copied found ≡ definition_at (stored_of node).history s → IfSome found (λ canon. IsPublishedInFarm farm s canon.now)
 published_there farm i s node None runs at = tt
 published_there farm i s node (Some canon) runs at = (i, record { stored = stored_of node; has = stored_there node (slice_get farm.hosts i) runs; entry = sym at })
 

@@ -8,7 +8,7 @@ use Rattle.wf_farm.specs.Pump.{IsPumped}
 use Rattle.std.proofs.lemmas.Option.{same_Some}
 use Rattle.wf_script.specs.declared.fault.ScriptFault.{ScriptFault}
 use Rattle.wf_script.specs.declared.fault.ScriptFault.TheVariants.{Memory}
-use Rattle.wf_script.specs.Fault.{IsMemory}
+use Rattle.wf_script.specs.Fault.{IsScriptMemory}
 use Rattle.wf_play.specs.OrderEffect.{ArePumped, HaveHappened, HappensIf, Performs, PerformsAt, fault_at, may_use, may_use_at}
 use Rattle.wf_script.specs.Script.{Numbered}
 
@@ -44,9 +44,9 @@ on_ok (Ok x) done = done
 on_ok (Err e) done = tt
 
 -- an order's error is allocation failure
-pub fault_is_memory : (there : Option Numbered) (fault : ScriptFault) → fault_at there ≡ Some fault → IsMemory fault
+pub fault_is_memory : (there : Option Numbered) (fault : ScriptFault) → fault_at there ≡ Some fault → IsScriptMemory fault
 fault_is_memory None fault is = absurd (cc)
-fault_is_memory (Some n) fault is = subst IsMemory (same_Some (Memory n.line) fault is) refl
+fault_is_memory (Some n) fault is = subst IsScriptMemory (same_Some (Memory n.line) fault is) refl
 
 -- whether the order at an index may use the carrier
 pub used_there : (there : Option Numbered) (n : Numbered) (before : MemoryFarm) → Some n ≡ there → may_use_at there before ≡ false → may_use n.order before ≡ false

@@ -3,8 +3,8 @@ use Rattle.std.proofs.Common.{◌≡◌, ◌∙◌, ◌+◌, ◌<◌, ◌≤◌,
 use Rattle.std.specs.Io.KnownBytes.{IsAtEnd}
 use Rattle.std.specs.Prelude.{Option, Some, None, Result, Ok, Err, IfErr, IfSome}
 use Rattle.std.proofs.lemmas.List.{length-take, take_all}
-use Rattle.wf_play.specs.Fault.{IsInputFault, IsPlayingFault}
-use Rattle.wf_script.specs.Fault.{IsMemory, is_memory}
+use Rattle.wf_play.specs.Fault.{IsPlayInputFault, IsPlayingFault}
+use Rattle.wf_script.specs.Fault.{IsScriptMemory, is_memory}
 use Rattle.wf_script.specs.Lines.{examined, line_feeds, most_lines, most_script_bytes}
 use Rattle.wf_play.specs.ScriptRun.{IsFaultOf, IsStepRejectionOf, IsScriptText, ReadsWhole}
 use Rattle.wf_script.specs.Script.{Script}
@@ -37,10 +37,10 @@ pub whole_fault : ExaminedAlike → (left : Option (List ℕ)) (bytes : List ℕ
 whole_fault alike None bytes fault first why = λ isnt. tt
 whole_fault alike (Some known) bytes fault first why = λ isnt. sym (alike known) ∙ sym (ap script_of first) ∙ why isnt
 
-memory_is_none : (left : Option (List ℕ)) (fault : ScriptFault) → IsMemory fault → IsFaultOf left fault
+memory_is_none : (left : Option (List ℕ)) (fault : ScriptFault) → IsScriptMemory fault → IsFaultOf left fault
 memory_is_none left fault is = λ isnt. let clash : true ≡ false = sym is ∙ isnt in cc
 
-pub no_input : (left : Option (List ℕ)) (fault : PlayFault) → IsInputFault fault → IsStepRejectionOf left fault
+pub no_input : (left : Option (List ℕ)) (fault : PlayFault) → IsPlayInputFault fault → IsStepRejectionOf left fault
 no_input left (play.Script fault) why = memory_is_none left fault why
 no_input left play.Read why = tt
 no_input left play.Write why = why

@@ -3,7 +3,7 @@ use Rattle.std.specs.Prelude.{◌≡◌, ℕ, ⊤, true, false, Option, Some, Li
 use Rattle.std.specs.Io.KnownBytes.{Keeps}
 use Rattle.wf_stream.specs.Effects.{EndsByFailing, Rises}
 use Rattle.wf_stream.specs.declared.stream.Sink.{Ghosts as Sink}
-use Rattle.wf_script.specs.Fault.{IsMemory, is_memory}
+use Rattle.wf_script.specs.Fault.{IsScriptMemory, is_memory}
 use Rattle.wf_script.specs.Order.{Order}
 use Rattle.wf_script.specs.Script.{Numbered}
 use Rattle.wf_script.specs.declared.fault.ScriptFault.TheVariants as script
@@ -15,16 +15,16 @@ use Rattle.wf_play.specs.declared.fault.PlayFault.{PlayFault}
 use Rattle.wf_play.specs.declared.fault.PlayFault.TheVariants as play
 
 -- why an input can't be read: an allocation or a read failed
-abbrev pub IsInputFault : PlayFault → Type 0
-IsInputFault (play.Script fault) = IsMemory fault
-IsInputFault play.Read = ⊤
-IsInputFault play.Write = ⊥
-IsInputFault play.Wire = ⊥
+abbrev pub IsPlayInputFault : PlayFault → Type 0
+IsPlayInputFault (play.Script fault) = IsScriptMemory fault
+IsPlayInputFault play.Read = ⊤
+IsPlayInputFault play.Write = ⊥
+IsPlayInputFault play.Wire = ⊥
 
 -- why a script that was read isn't played to its end: an allocation, a write or the carrying of a
 -- message failed
 abbrev pub IsPlayingFault : PlayFault → Type 0
-IsPlayingFault (play.Script fault) = IsMemory fault
+IsPlayingFault (play.Script fault) = IsScriptMemory fault
 IsPlayingFault play.Read = ⊥
 IsPlayingFault play.Write = ⊤
 IsPlayingFault play.Wire = ⊤

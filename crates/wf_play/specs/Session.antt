@@ -26,5 +26,5 @@ abbrev pub node_at : MemoryFarm → ℕ → Option (Node TapeValue)
 node_at farm i = running_in (slice_get farm.hosts i)
 
 -- some node publishes this definition under sequence s
-abbrev pub IsPublished : MemoryFarm → ℕ → Definition → Type 0
-IsPublished farm s d = (i : ℕ) × Publishes farm i s d
+abbrev pub IsPublishedInFarm : MemoryFarm → ℕ → Definition → Type 0
+IsPublishedInFarm farm s d = (i : ℕ) × Publishes farm i s d

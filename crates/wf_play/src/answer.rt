@@ -21,7 +21,7 @@ use wf_tape::MemoryTape;
 impl<'s> Session<'s> {
     ghost use Rattle.std.specs.Prelude.{◌≤◌, false, None, IfSome};
     ghost use Rattle.wf_ballot.specs.Sequence.{last_sequence};
-    ghost use Rattle.wf_play.specs.Session.{IsPublished};
+    ghost use Rattle.wf_play.specs.Session.{IsPublishedInFarm};
     ghost use Rattle.wf_play.specs.Report.{answer_text};
 
     /// Appends the answer, one line.
@@ -92,7 +92,7 @@ impl<'s> Session<'s> {
 
     /// The map at this slot on the first running node that has published it.
     fn first_published(&self, slot: Slot) -> Option<&Canon>
-        ensures { IfSome result (λ canon. IsPublished self.now.farm slot canon.now) }
+        ensures { IfSome result (λ canon. IsPublishedInFarm self.now.farm slot canon.now) }
     {
         for number in 0..self.farm.size() {
             if let Some(canon) = self.published_by(number, slot) {
@@ -105,7 +105,7 @@ impl<'s> Session<'s> {
     /// Does a running node publish a map at this slot that differs from this one, which some node
     /// publishes?
     fn some_publish_another(&self, slot: Slot, known: &Canon) -> bool
-        requires { IsPublished self.now.farm slot known.now }
+        requires { IsPublishedInFarm self.now.farm slot known.now }
         ensures { result ≡ false }
     {
         for number in 0..self.farm.size() {
@@ -120,8 +120,8 @@ impl<'s> Session<'s> {
 
     /// Are these two maps, both published at this slot, different?
     fn are_unequal(&self, slot: Slot, known: &Canon, canon: &Canon) -> bool
-        requires known { IsPublished self.now.farm slot known.now }
-        requires canon { IsPublished self.now.farm slot canon.now }
+        requires known { IsPublishedInFarm self.now.farm slot known.now }
+        requires canon { IsPublishedInFarm self.now.farm slot canon.now }
         ensures { result ≡ false }
     {
         // Theorem: only one map is published under one sequence.
@@ -131,7 +131,7 @@ impl<'s> Session<'s> {
 
     /// The map that the node publishes at this slot, if it runs.
     fn published_by(&self, number: usize, slot: Slot) -> Option<&Canon>
-        ensures { IfSome result (λ canon. IsPublished self.now.farm slot canon.now) }
+        ensures { IfSome result (λ canon. IsPublishedInFarm self.now.farm slot canon.now) }
     {
         match self.farm.node(number) {
             Some(node) => node.history().canon(slot),

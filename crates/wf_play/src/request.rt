@@ -124,7 +124,8 @@ fn compare(
     another: &Answer,
 ) -> bool
     requires first { NodeAnswers farm.now first (sequence_at farm.now first) query.now answer.now }
-    requires second { NodeAnswers farm.now second (sequence_at farm.now second) query.now another.now }
+    requires second { NodeAnswers farm.now second
+        (sequence_at farm.now second) query.now another.now }
     ensures test { Compares farm.now first second query.now result }
     ensures theorem { IsTrueWhereOne farm.now first second query.now result }
 {
@@ -159,7 +160,8 @@ fn write_answer(
     query: &[u8],
     out: &mut String,
 ) -> Result<(), AllocError>
-    ensures { OnOk result (IsOneAppended (ReportsAnswer farm.now number query.now) out.old out.new) }
+    ensures { OnOk result (IsOneAppended
+        (ReportsAnswer farm.now number query.now) out.old out.new) }
 {
     match farm.answer(alloc, number, query) {
         Ok(answer) => {

@@ -5,7 +5,7 @@ ghost use Rattle.std.specs.Io.KnownBytes.{IsAtEnd};
 ghost use Rattle.wf_stream.specs.Effects.{TakesUpTo};
 ghost use Rattle.wf_script.specs.Lines.{examined, most_script_bytes};
 ghost use Rattle.wf_play.specs.PlayEnd.{IsPlayEnded, MayBeBegun, WritesBeginning};
-ghost use Rattle.wf_play.specs.Fault.{CountsReads, CountsWrites, EndsWriting, IsInputFault, IsPlayingFault, KeepsQuiet, LosesNone};
+ghost use Rattle.wf_play.specs.Fault.{CountsReads, CountsWrites, EndsWriting, IsPlayInputFault, IsPlayingFault, KeepsQuiet, LosesNone};
 ghost use Rattle.wf_play.specs.ScriptRun.{HavePlayed, IsStepRejectionOf, IsScriptText, PlaysInput, ReadsWhole, WritesPlay};
 ghost use Rattle.wf_script.specs.Text.{script_of};
 
@@ -60,7 +60,7 @@ fn input<S: Source>(alloc: Global, source: &mut S) -> Result<Vec<u8>, PlayFault>
         (λ bytes. IfSome (S.left source.old) (λ known. bytes.items ≡ examined known)) }
     ensures end { IfOk result
         (λ bytes. length bytes.items < most_script_bytes + 1 → IsAtEnd (S.left source.new)) }
-    ensures err { IfErr result IsInputFault }
+    ensures err { IfErr result IsPlayInputFault }
     ensures most { TakesUpTo (most_script_bytes + 1) (S.left source.old) (S.left source.new) }
     ensures reads { CountsReads result (S.failures source.old) (S.failures source.new) }
 {

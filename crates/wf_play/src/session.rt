@@ -157,7 +157,8 @@ impl<'s> Session<'s> {
     ) -> Result<(), CarrierFault>
         ensures script { self.new.script ≡ self.old.script }
         ensures does { OnOk result (Acts (view order.now) self.old self.new) }
-        ensures reports { OnOk result (WritesReport (view order.now) self.old self.new out.old out.new) }
+        ensures reports { OnOk result (WritesReport
+            (view order.now) self.old self.new out.old out.new) }
         ensures lost { IfErr result (LosesOnlyOf (view order.now) self.old.farm) }
         ensures faithful { C.faithful → IfErr result (λ fault. fault ≡ faults.Memory) }
         ensures unused { may_use (view order.now) self.old.farm ≡ false →
@@ -189,7 +190,8 @@ impl<'s> Session<'s> {
         requires { carries (view order.now) ≡ false }
         ensures script { self.new.script ≡ self.old.script }
         ensures does { OnOk result (Acts (view order.now) self.old self.new) }
-        ensures reports { OnOk result (WritesReport (view order.now) self.old self.new out.old out.new) }
+        ensures reports { OnOk result (WritesReport
+            (view order.now) self.old self.new out.old out.new) }
         ensures memory { IfErr result (λ fault. fault ≡ faults.Memory) }
         ensures plays { Plays self.old.farm self.new.farm }
     {
@@ -204,7 +206,8 @@ impl<'s> Session<'s> {
         requires { carries (view order.now) ≡ false }
         ensures script { self.new.script ≡ self.old.script }
         ensures does { OnOk result (Acts (view order.now) self.old self.new) }
-        ensures reports { OnOk result (WritesReport (view order.now) self.old self.new out.old out.new) }
+        ensures reports { OnOk result (WritesReport
+            (view order.now) self.old self.new out.old out.new) }
         ensures plays { Plays self.old.farm self.new.farm }
     {
         match order {
@@ -260,7 +263,8 @@ impl<'s> Session<'s> {
     /// Makes the event, and appends its rejection, if it was rejected.
     fn happen(&mut self, alloc: Global, event: Event, out: &mut String) -> Result<(), AllocError>
         ensures script { self.new.script ≡ self.old.script }
-        ensures does { OnOk result (HaveHappened (event_view event ∷ []) self.old.farm self.new.farm) }
+        ensures does { OnOk result (HaveHappened
+            (event_view event ∷ []) self.old.farm self.new.farm) }
         ensures reports { OnOk result
             (IsAppended (step_rejection_line self.new.farm.refused) out.old out.new) }
         ensures plays { Plays self.old.farm self.new.farm }

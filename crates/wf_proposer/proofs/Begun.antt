@@ -10,7 +10,7 @@ use Rattle.wf_model.specs.Table.{Transition, StepRejection, begin_at, stores, on
 use Rattle.wf_model.specs.VolatileState as model
 use Rattle.wf_model.specs.VolatileState.{leading_at, is_in_window, nobody, proposed, carried}
 use Rattle.wf_proposer.specs.Next.{Next, begun, led, transition_at}
-use Rattle.wf_proposer.specs.StepRejection.{rejected_by, IsWhyNot}
+use Rattle.wf_proposer.specs.StepRejection.{rejected_by, IsWhyStepRejected}
 use Rattle.wf_proposer.specs.VolatileState.{leadership_of, leading_of, proposing_of, volatile_from}
 use Rattle.wf_proposer.specs.declared.proposal.Proposal.{Proposal}
 use Rattle.wf_proposer.specs.declared.step_rejection.StepRejection as held
@@ -146,18 +146,18 @@ first_rejected r o slot tried sequence stored has after leads_not full =
 
 -- why a proposal would be rejected where none runs
 pub led_allowed : (o : Leading) (l : model.Leadership Definition) (slot tried sequence : ℕ) (stored : DurableState Definition) →
-    HasStored stored tried sequence → slot ≡ sequence + 1 → Some l ≡ leading_at o slot → IsWhyNot (reject_round stored (leading_at o (next_sequence stored))) None
+    HasStored stored tried sequence → slot ≡ sequence + 1 → Some l ≡ leading_at o slot → IsWhyStepRejected (reject_round stored (leading_at o (next_sequence stored))) None
 unfolding reject_round
 led_allowed o l slot tried sequence stored has after leads =
     sym (ap (reject_round stored) (leads ∙ ap (leading_at o) (after_published slot tried sequence stored has after)))
 
 pub first_why : (why : Option held.StepRejection) (o : Leading) (slot tried sequence : ℕ) (stored : DurableState Definition) →
-    HasStored stored tried sequence → slot ≡ sequence + 1 → None ≡ leading_at o slot → IsWhyNot (rounds_full tried) why → IsWhyNot (reject_round stored (leading_at o (next_sequence stored))) why
+    HasStored stored tried sequence → slot ≡ sequence + 1 → None ≡ leading_at o slot → IsWhyStepRejected (rounds_full tried) why → IsWhyStepRejected (reject_round stored (leading_at o (next_sequence stored))) why
 unfolding reject_round
 first_why why o slot tried sequence stored has after leads_not is =
     let full : rounds_full tried ≡ reject_round stored (leading_at o (next_sequence stored)) =
     ap rounds_full (sym has.tried) ∙ ap (reject_round stored) (leads_not ∙ ap (leading_at o) (after_published slot tried sequence stored has after)) in
-    subst (λ (x : Option StepRejection). IsWhyNot x why) full is
+    subst (λ (x : Option StepRejection). IsWhyStepRejected x why) full is
 
 -- ---- a retry
 

@@ -18,9 +18,9 @@ rejected_by (Ok next) = None
 rejected_by (Err step_rejection) = step_rejection_of step_rejection
 
 -- this is the table's rejection, or none is
-abbrev pub IsWhyNot : Option table.StepRejection → Option StepRejection → Type 0
-IsWhyNot why None = why ≡ None
-IsWhyNot why (Some step_rejection) = (step_rejection_of step_rejection ≡ why) × (why ≡ None → ⊥)
+abbrev pub IsWhyStepRejected : Option table.StepRejection → Option StepRejection → Type 0
+IsWhyStepRejected why None = why ≡ None
+IsWhyStepRejected why (Some step_rejection) = (step_rejection_of step_rejection ≡ why) × (why ≡ None → ⊥)
 
 -- the text of a rejection
 abbrev pub words_of : StepRejection → List ℕ

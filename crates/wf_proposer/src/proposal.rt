@@ -40,7 +40,8 @@ impl Proposal {
 
     /// A proposal of `own`, of which no answer is counted yet.
     pub fn new(slot: Slot, ballot: Ballot, own: Canon) -> Proposal
-        ensures { result ≡ record { slot = slot; ballot = ballot; own = own; responders = 0; seen = 0 } }
+        ensures { result ≡
+            record { slot = slot; ballot = ballot; own = own; responders = 0; seen = 0 } }
     {
         Proposal {
             slot,
@@ -172,7 +173,8 @@ impl Proposal {
     ) -> Result<Next, StepRejection>
         ensures memory { IsErr result →
             (are_majority n responders ≡ true) × (result ≡ Err StepRejection.Memory) }
-        ensures next { IfOk result (λ next. next ≡ promised_by n self.now best.now responders report) }
+        ensures next { IfOk result (λ next. next ≡
+            promised_by n self.now best.now responders report) }
     {
         if !responders.is_majority(n) {
             return Ok(Next::quiet(alloc, Change::CountsPromise(responders, report)));

@@ -1,7 +1,7 @@
 ghost use Rattle.std.specs.Prelude.{◌≡◌, ◌+◌, ◌<◌};
 ghost use Rattle.wf_ballot.specs.Sequence.{last_sequence};
 ghost use Rattle.wf_model.specs.Table as table;
-ghost use Rattle.wf_proposer.specs.StepRejection.{IsWhyNot};
+ghost use Rattle.wf_proposer.specs.StepRejection.{IsWhyStepRejected};
 
 use crate::change::Change;
 use crate::next::Next;
@@ -53,7 +53,7 @@ impl Proposer {
     ghost use Rattle.wf_model.specs.VolatileState as model;
     ghost use Rattle.wf_proposer.specs.Next.{accepted_transition, promise_transition, AllocatesOnlyToSend, Returns};
     ghost use Rattle.wf_proposer.specs.Proposer.{begin_step_rejection, propose_transition, retry_step_rejection, retry_transition, transition_of, runs_for, start_step_rejection, volatile_of, ForStored, ForTried};
-    ghost use Rattle.wf_proposer.specs.StepRejection.{rejected_by, IsWhyNot};
+    ghost use Rattle.wf_proposer.specs.StepRejection.{rejected_by, IsWhyStepRejected};
     ghost use Rattle.wf_proposer.specs.ProposalState.{proposal_state_of};
     ghost use Rattle.wf_proposer.specs.VolatileState.{leading_of};
 
@@ -173,7 +173,8 @@ impl Proposer {
     pub fn retry(&self, alloc: Global, tried: u32) -> Result<Next, StepRejection>
         ensures refused { ForTried tried (λ stored.
             rejected_by result ≡ retry_step_rejection self.now stored) }
-        ensures transition { ForTried tried (λ stored. IsForNext stored (volatile_of self.now).proposing →
+        ensures transition { ForTried tried (λ stored.
+            IsForNext stored (volatile_of self.now).proposing →
             Returns self.now.volatile (retry_transition self.now stored) result) }
     {
         match &self.volatile.proposing {
@@ -188,7 +189,7 @@ impl Proposer {
     pub fn start_step_rejection(&self, tried: u32, published: Seq) -> Option<StepRejection>
         requires { published < last_sequence }
         ensures { ForStored tried published (λ stored.
-            IsWhyNot (start_step_rejection self.now stored) result) }
+            IsWhyStepRejected (start_step_rejection self.now stored) result) }
     {
         match &self.volatile.proposing {
             Proposing::Running(_, _) => Some(StepRejection::Busy),
@@ -201,7 +202,7 @@ impl Proposer {
     fn begin_step_rejection(&self, tried: u32, published: Seq) -> Option<StepRejection>
         requires { published < last_sequence }
         ensures { ForStored tried published (λ stored.
-            IsWhyNot (begin_step_rejection self.now stored) result) }
+            IsWhyStepRejected (begin_step_rejection self.now stored) result) }
     {
         match self.leadership_at(slot_after(published)) {
             Some(_) => None,
@@ -213,7 +214,8 @@ impl Proposer {
     /// begin.
     #[tactic(auto, unfolding(wf_model::specs::Table::reject_retry, wf_model::specs::Table::round_known))]
     pub fn retry_step_rejection(&self, tried: u32) -> Option<StepRejection>
-        ensures { ForTried tried (λ stored. IsWhyNot (retry_step_rejection self.now stored) result) }
+        ensures { ForTried tried (λ stored.
+            IsWhyStepRejected (retry_step_rejection self.now stored) result) }
     {
         match &self.volatile.proposing {
             Proposing::Running(proposal, _) => rounds_step_rejection(tried.max(proposal.seen)),
@@ -330,7 +332,7 @@ fn slot_after(published: Seq) -> Slot
 /// RoundsFull if this round is the last one.
 #[tactic(auto, unfolding(wf_model::specs::Table::rounds_full))]
 fn rounds_step_rejection(round: u32) -> Option<StepRejection>
-    ensures { IsWhyNot (table.rounds_full round) result }
+    ensures { IsWhyStepRejected (table.rounds_full round) result }
 {
     if round == ROUNDS {
         Some(StepRejection::RoundsFull)

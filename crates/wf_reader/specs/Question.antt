@@ -13,7 +13,8 @@ pub record IsQuestion (q : Question) : Type 0 where
   pub published : IsSequence q.published
   pub digest : length q.digest ≡ 32
 
--- ---- its bytes: what each question begins with, the version (2 bytes), the farm's name (32), the sequence (2) and the digest (32)
+-- ---- its bytes: what each question begins with, the version (2 bytes), the farm's name (32), the
+-- sequence (2) and the digest (32)
 abbrev pub question_mark : List ℕ
 question_mark = codes "wf-read\n"
 

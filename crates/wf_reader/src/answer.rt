@@ -50,7 +50,12 @@ impl ReaderAnswer {
     ) -> ReaderAnswer
         requires near { distance ≤ most_distance }
         requires few { length definitions.items ≤ most_reports }
-        ensures { result ≡ record { distance = distance; published = published; digest = digest; definitions = definitions.items } }
+        ensures { result ≡ record {
+          distance = distance;
+          published = published;
+          digest = digest;
+          definitions = definitions.items;
+        } }
     {
         ReaderAnswer {
             distance,

@@ -34,8 +34,10 @@ pub fn reply_to(
     digests: &Digests,
     question: &Question,
 ) -> Result<Reply, AllocError>
-    ensures reply { AreDigestsOf history.now.definitions digests.now → IfOk result (IsReplyTo own.now history.now.definitions question.now) }
-    ensures memory { AreDigestsOf history.now.definitions digests.now → OnErr result (question.now.published < length history.now.definitions) }
+    ensures reply { AreDigestsOf history.now.definitions digests.now →
+        IfOk result (IsReplyTo own.now history.now.definitions question.now) }
+    ensures memory { AreDigestsOf history.now.definitions digests.now →
+        OnErr result (question.now.published < length history.now.definitions) }
 {
     if question.farm != own.farm {
         return Ok(Reply::Rejected(QuestionRejection::OtherFarm));
@@ -56,7 +58,8 @@ pub fn reply_to(
 
 /// Whether the digests differ at the reader's last published sequence.
 fn differ(digests: &Digests, question: &Question) -> bool
-    ensures { (history : List _) → AreDigestsOf history digests.now → IsTrue result ↔ Differ history question.now }
+    ensures { (history : List _) → AreDigestsOf history digests.now →
+        IsTrue result ↔ Differ history question.now }
 {
     match digests.at(question.published) {
         Some(digest) => digest != question.digest,
@@ -83,7 +86,8 @@ fn definitions_after(alloc: Global, history: &History, seq: Seq) -> Result<Vec<C
 #[tactic(auto, using(crate::proofs::Next::no_definition, crate::proofs::Next::is_published))]
 fn push_at(history: &History, number: u16, found: &mut Vec<Canon>) -> Result<(), AllocError>
     requires { 1 ≤ number }
-    ensures ok { OnOk result (found.new.items ≡ found.old.items ++ option_to_list (definition_at history.now.definitions number)) }
+    ensures ok { OnOk result (found.new.items ≡
+        found.old.items ++ option_to_list (definition_at history.now.definitions number)) }
     ensures memory { OnErr result (number ≤ length history.now.definitions) }
 {
     // The list is no longer than there are slots: a number that isn't a slot's has no definition.

@@ -54,7 +54,8 @@ fn put_question(out: &mut Vec<u8>, question: &Question)
 pub fn decode_question(bytes: &[u8]) -> Result<Question, QuestionFault>
     ensures question { IfOk result IsQuestion }
     ensures front { IfOk result (λ q. (rest : List ℕ) × (bytes.now ≡ question_bytes q ++ rest)) }
-    ensures each { (q : QuestionValue) (rest : List ℕ) → IsQuestion q → bytes.now ≡ question_bytes q ++ rest → result ≡ Ok q }
+    ensures each { (q : QuestionValue) (rest : List ℕ) → IsQuestion q →
+        bytes.now ≡ question_bytes q ++ rest → result ≡ Ok q }
     ensures short { IsErrOf result QuestionFault.Short → length bytes.now < question_length }
     ensures version { IfErr result (IfOtherVersion (IsOfOtherVersion bytes.now)) }
 {
@@ -79,7 +80,8 @@ fn fault_of_mark(bytes: &[u8]) -> QuestionFault
 /// What follows this version.
 fn after_version(bytes: &[u8]) -> Result<&[u8], QuestionFault>
     ensures ok { IfOk result (λ rest. bytes.now ≡ to_be_bytes w16 reader_version ++ rest.now) }
-    ensures err { IfErr result (λ _. (rest : List ℕ) → bytes.now ≢ to_be_bytes w16 reader_version ++ rest) }
+    ensures err { IfErr result (λ _. (rest : List ℕ) →
+        bytes.now ≢ to_be_bytes w16 reader_version ++ rest) }
     ensures short { IsErrOf result QuestionFault.Short → length bytes.now < 2 }
     ensures version { IfErr result (IfOtherVersion (BeginsWithOther bytes.now)) }
 {
@@ -105,7 +107,8 @@ fn fault_of_version(bytes: &[u8]) -> QuestionFault
 fn decode_body(bytes: &[u8]) -> Result<Question, QuestionFault>
     ensures question { IfOk result IsQuestion }
     ensures front { IfOk result (λ q. (rest : List ℕ) × (bytes.now ≡ question_body q ++ rest)) }
-    ensures each { (q : QuestionValue) (rest : List ℕ) → IsQuestion q → bytes.now ≡ question_body q ++ rest → result ≡ Ok q }
+    ensures each { (q : QuestionValue) (rest : List ℕ) → IsQuestion q →
+        bytes.now ≡ question_body q ++ rest → result ≡ Ok q }
     ensures short { IsErrOf result QuestionFault.Short → length bytes.now < 66 }
     ensures version { IfErr result (IfOtherVersion ⊥) }
 {
@@ -124,7 +127,8 @@ fn body_of(bytes: &[u8]) -> Option<Question>
     requires { length bytes.now ≡ 66 }
     ensures question { IfSome result IsQuestion }
     ensures some { IfSome result (λ q. bytes.now ≡ question_body q) }
-    ensures each { (q : QuestionValue) → IsQuestion q → bytes.now ≡ question_body q → result ≡ Some q }
+    ensures each { (q : QuestionValue) → IsQuestion q → bytes.now ≡ question_body q →
+        result ≡ Some q }
 {
     let (farm, rest) = bytes.split_at(32);
     let (published, digest) = rest.split_at(2);

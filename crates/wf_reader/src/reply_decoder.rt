@@ -31,9 +31,12 @@ const ANSWER_FIELDS: usize = 34;
 pub fn reply_length(bytes: &[u8]) -> Result<usize, ReplyFault>
     ensures value { IfOk result (λ n. n ≡ 4 + from_be_bytes w32 (take 4 bytes.now)) }
     ensures most { IfOk result (λ n. n ≤ most_reply_bytes) }
-    ensures each { (reply : ReplyValue) (rest : List ℕ) → IsReply reply → bytes.now ++ rest ≡ reply_bytes reply → 4 ≤ length bytes.now → result ≡ Ok (length (reply_bytes reply)) }
+    ensures each { (reply : ReplyValue) (rest : List ℕ) → IsReply reply →
+        bytes.now ++ rest ≡ reply_bytes reply → 4 ≤ length bytes.now →
+        result ≡ Ok (length (reply_bytes reply)) }
     ensures short { IsErrOf result ReplyFault.Short ↔ (length bytes.now < 4) }
-    ensures errors { IfErr result (λ fault. (fault ≢ ReplyFault.Malformed) × (fault ≢ ReplyFault.Memory)) }
+    ensures errors { IfErr result (λ fault. (fault ≢ ReplyFault.Malformed)
+        × (fault ≢ ReplyFault.Memory)) }
 {
     if bytes.len() < 4 {
         return Err(ReplyFault::Short);
@@ -70,7 +73,8 @@ fn stated_length(bytes: &[u8]) -> usize
 pub fn decode_reply(alloc: Global, bytes: &[u8]) -> Result<Reply, ReplyFault>
     ensures reply { IfOk result IsReply }
     ensures bytes { IfOk result (λ reply. bytes.now ≡ reply_bytes reply) }
-    ensures each { (reply : ReplyValue) → IsReply reply → bytes.now ≡ reply_bytes reply → IsReplyRead result reply }
+    ensures each { (reply : ReplyValue) → IsReply reply → bytes.now ≡ reply_bytes reply →
+        IsReplyRead result reply }
 {
     if bytes.len() < 4 {
         return Err(ReplyFault::Short);
@@ -87,7 +91,8 @@ pub fn decode_reply(alloc: Global, bytes: &[u8]) -> Result<Reply, ReplyFault>
 fn decode_body(alloc: Global, body: &[u8]) -> Result<Reply, ReplyFault>
     ensures reply { IfOk result IsReply }
     ensures bytes { IfOk result (λ reply. body.now ≡ body_bytes reply) }
-    ensures each { (reply : ReplyValue) → IsReply reply → body.now ≡ body_bytes reply → IsReplyRead result reply }
+    ensures each { (reply : ReplyValue) → IsReply reply → body.now ≡ body_bytes reply →
+        IsReplyRead result reply }
 {
     match body {
         [1, distance, rest @ ..] => match answer_of(alloc, *distance, rest) {
@@ -107,7 +112,8 @@ fn answer_of(alloc: Global, distance: u8, bytes: &[u8]) -> Result<ReaderAnswer, 
     ensures answer { IfOk result IsAnswer }
     ensures distance { IfOk result (λ a. a.distance ≡ distance) }
     ensures bytes { IfOk result (λ a. bytes.now ≡ answer_fields a) }
-    ensures each { (a : AnswerValue) → IsAnswer a → a.distance ≡ distance → bytes.now ≡ answer_fields a → IsReplyRead result a }
+    ensures each { (a : AnswerValue) → IsAnswer a → a.distance ≡ distance →
+        bytes.now ≡ answer_fields a → IsReplyRead result a }
 {
     if MOST_DISTANCE < distance {
         return Err(ReplyFault::Malformed);
@@ -131,7 +137,8 @@ fn read_texts(alloc: Global, bytes: &[u8]) -> Result<Vec<Canon>, ReplyFault>
     ensures bytes { IfOk result (λ found. bytes.now ≡ texts_bytes found.items) }
     ensures texts { IfOk result (λ found. AreTexts found.items) }
     ensures few { IfOk result (λ found. length found.items ≤ most_reports) }
-    ensures each { (definitions : List Definition) → AreTexts definitions → length definitions ≤ most_reports → bytes.now ≡ texts_bytes definitions →
+    ensures each { (definitions : List Definition) → AreTexts definitions →
+        length definitions ≤ most_reports → bytes.now ≡ texts_bytes definitions →
         MatchResult result (λ found. found.items ≡ definitions) (λ fault. fault ≡ ReplyFault.Memory) }
 {
     let mut definitions = Vec::new(alloc);
@@ -150,8 +157,10 @@ fn push_texts(
     bytes: &[u8],
     definitions: &mut Vec<Canon>,
 ) -> Result<(), ReplyFault>
-    ensures ok { OnOk result (ReadsTexts bytes.now most definitions.old.items definitions.new.items) }
-    ensures each { (found : List Definition) → AreTexts found → length found ≤ most → bytes.now ≡ texts_bytes found →
+    ensures ok { OnOk result
+        (ReadsTexts bytes.now most definitions.old.items definitions.new.items) }
+    ensures each { (found : List Definition) → AreTexts found → length found ≤ most →
+        bytes.now ≡ texts_bytes found →
         MatchResult result (λ _. definitions.new.items ≡ definitions.old.items ++ found) (λ fault. fault ≡ ReplyFault.Memory) }
 {
     if bytes.is_empty() {
@@ -177,7 +186,8 @@ fn push_texts(
 #[tactic(auto, using(crate::proofs::Sizes::text_front, crate::proofs::Sizes::text_whole))]
 fn cut_text(bytes: &[u8]) -> Option<(&[u8], &[u8])>
     ensures some { IfSome result (λ x. bytes.now ≡ text_bytes x.0.now ++ x.1.now) }
-    ensures each { (text rest : List ℕ) → length text < 2 ^ 32 → bytes.now ≡ text_bytes text ++ rest →
+    ensures each { (text rest : List ℕ) → length text < 2 ^ 32 →
+        bytes.now ≡ text_bytes text ++ rest →
         MatchOption result ⊥ (λ x. (x.0.now ≡ text) × (x.1.now ≡ rest)) }
 {
     if bytes.len() < 4 {
@@ -196,7 +206,8 @@ fn cut_text(bytes: &[u8]) -> Option<(&[u8], &[u8])>
 fn definition_of(alloc: Global, text: &[u8]) -> Result<Canon, ReplyFault>
     ensures text { IfOk result (λ definition. text.now ≡ canon definition) }
     ensures has_text { IfOk result HasText }
-    ensures each { (definition : Definition) → HasText definition → text.now ≡ canon definition → IsReplyRead result definition }
+    ensures each { (definition : Definition) → HasText definition → text.now ≡ canon definition →
+        IsReplyRead result definition }
 {
     // The theorem: maps with equal texts are equal.
     one_text_one_map();
@@ -212,7 +223,8 @@ fn rejection_of(cause: u8, bytes: &[u8]) -> Option<QuestionRejection>
     ensures rejection { IfSome result IsRejection }
     ensures cause { IfSome result (λ why. cause ≡ cause_byte why) }
     ensures bytes { IfSome result (λ why. bytes.now ≡ seq_bytes (cause_sequence why)) }
-    ensures each { (why : RejectionValue) → IsRejection why → cause ≡ cause_byte why → bytes.now ≡ seq_bytes (cause_sequence why) → result ≡ Some why }
+    ensures each { (why : RejectionValue) → IsRejection why → cause ≡ cause_byte why →
+        bytes.now ≡ seq_bytes (cause_sequence why) → result ≡ Some why }
 {
     let seq = Seq::from_bytes(bytes)?;
     if cause == 3 {

@@ -2,7 +2,7 @@
 use Rattle.std.proofs.Common.{◌≡◌, ℕ, List, [], ◌∷◌, ◌++◌, length, take, drop, refl, sym, ap, ◌∙◌, arith, Vec}
 use Rattle.std.proofs.lemmas.List.{append-nil, append_assoc, drop-drop, take-append-drop}
 use Rattle.std.specs.declared.alloc.Global.{Global}
-use Rattle.wf_client.specs.ResponseBuffer.{Outgoing, IsAdvanced, rest_of}
+use Rattle.wf_client.specs.ResponseBuffer.{Outgoing, IsTakenUp, rest_of}
 use Rattle.wf_def.specs.Definition.{Definition}
 use Rattle.wf_digest.specs.Digest.{AreDigestsOf}
 use Rattle.wf_reader.specs.Question.{question_length}
@@ -55,7 +55,7 @@ replied_one sent asked bytes reply reply' exchanges exchanges' one taken whole i
     ap (λ (s : List ℕ). sent ++ s) whole ∙ ap (λ (s : List ℕ). s ++ bytes.items) before ∙ sym e
 
 -- the reader took the next bytes
-pub given : (sent sent' all : List ℕ) (count : ℕ) (reply reply' : Outgoing) → IsAdvanced count reply reply' → sent' ≡ sent ++ take count (rest_of reply)
+pub given : (sent sent' all : List ℕ) (count : ℕ) (reply reply' : Outgoing) → IsTakenUp count reply reply' → sent' ≡ sent ++ take count (rest_of reply)
     → sent ++ rest_of reply ≡ all → sent' ++ rest_of reply' ≡ all
 given sent sent' all count reply reply' advanced more is =
     let rest : List ℕ = rest_of reply in

@@ -78,7 +78,8 @@ fn reply_by_history(
 
 /// Says that a question is of another version.
 fn reject_version(out: &mut Vec<u8>) -> QuestionOutcome
-    ensures { IfReplied result (out.new.items ≡ out.old.items ++ reply_bytes (replies.Rejected cause.OtherVersion)) }
+    ensures { IfReplied result (out.new.items ≡
+        out.old.items ++ reply_bytes (replies.Rejected cause.OtherVersion)) }
 {
     let reply = Reply::Rejected(QuestionRejection::OtherVersion);
     let is_put = put(&reply, out);

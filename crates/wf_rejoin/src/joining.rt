@@ -80,7 +80,8 @@ impl Joining {
     /// count, and changes nothing.
     pub fn agree(&self, node: NodeId, replacement: &Replacement) -> Option<Joining>
         requires { IsJoining self.now }
-        ensures value { SomeIff result (AgreementCounts self.now node replacement.now) (with_stage self.now node Agreed) }
+        ensures value { SomeIff result (AgreementCounts self.now node replacement.now)
+            (with_stage self.now node Agreed) }
         ensures joins { IfSome result IsJoining }
     {
         if self.is_open_to(node) && self.replacement == *replacement && !self.has_half() {
@@ -94,7 +95,8 @@ impl Joining {
     /// count, and changes nothing.
     pub fn answer(&self, node: NodeId, replacement: &Replacement, answer: Answer) -> Option<Joining>
         requires { IsJoining self.now }
-        ensures value { SomeIff result (AnswerCounts self.now node replacement.now) (with_stage self.now node (Answered answer)) }
+        ensures value { SomeIff result (AnswerCounts self.now node replacement.now)
+            (with_stage self.now node (Answered answer)) }
         ensures joins { IfSome result IsJoining }
     {
         if self.is_owed_by(node) && self.replacement == *replacement && self.has_half() {
@@ -141,7 +143,8 @@ impl Joining {
     /// None: half of all haven't agreed, or one of these hasn't answered.
     pub fn highest(&self) -> Option<u16>
         requires { IsJoining self.now }
-        ensures { SomeIff result (HasHalf self.now × AllAnswered self.now) (highest_answer self.now) }
+        ensures { SomeIff result (HasHalf self.now × AllAnswered self.now)
+            (highest_answer self.now) }
     {
         if self.has_half() && owe_nothing(&self.stages) {
             Some(highest_answer(self))

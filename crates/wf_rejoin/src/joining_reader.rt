@@ -67,7 +67,9 @@ fn split_own(bytes: &[u8]) -> Option<(u8, u8, Replacement, &[u8])>
     ensures node { IfSome result (λ x. x.0 < x.1) }
     ensures replacement { IfSome result (λ x. IsReplacementInRange x.2) }
     ensures some { IfSome result (λ x. bytes.now ≡ own_line x.0 x.1 x.2 x.3.now) }
-    ensures none { IfNone result ((node nodes : ℕ) (r : ReplacementValue) (rest : List ℕ) → IsNumberOfNodes nodes → node < nodes → IsReplacementInRange r → bytes.now ≢ own_line node nodes r rest) }
+    ensures none { IfNone result ((node nodes : ℕ) (r : ReplacementValue) (rest : List ℕ) →
+        IsNumberOfNodes nodes → node < nodes → IsReplacementInRange r →
+        bytes.now ≢ own_line node nodes r rest) }
 {
     let (node, rest) = split_word(bytes, b"node ")?;
     let (nodes, rest) = split_word(rest, b" of ")?;
@@ -124,7 +126,8 @@ fn read_stages(bytes: &[u8], stages: &mut [Stage]) -> Result<(), JoiningFault>
 fn split_stage(bytes: &[u8]) -> Option<(Stage, &[u8])>
     ensures known { IfSome result (λ x. IsStage x.0) }
     ensures some { IfSome result (λ x. bytes.now ≡ stage_line x.0 x.1.now) }
-    ensures none { IfNone result ((stage : StageValue) (rest : List ℕ) → IsStage stage → bytes.now ≢ stage_line stage rest) }
+    ensures none { IfNone result ((stage : StageValue) (rest : List ℕ) → IsStage stage →
+        bytes.now ≢ stage_line stage rest) }
 {
     match after(bytes, NOTHING_LINE) {
         Some(rest) => Some((Stage::Unasked, rest)),
@@ -142,7 +145,8 @@ fn split_stage(bytes: &[u8]) -> Option<(Stage, &[u8])>
 fn split_answer(bytes: &[u8]) -> Option<(Answer, &[u8])>
     ensures known { IfSome result (λ x. IsAnswerInRange x.0) }
     ensures some { IfSome result (λ x. bytes.now ≡ stage_line (Answered x.0) x.1.now) }
-    ensures none { IfNone result ((a : AnswerValue) (rest : List ℕ) → IsAnswerInRange a → bytes.now ≢ stage_line (Answered a) rest) }
+    ensures none { IfNone result ((a : AnswerValue) (rest : List ℕ) → IsAnswerInRange a →
+        bytes.now ≢ stage_line (Answered a) rest) }
 {
     let (published, rest) = split_word(bytes, b"published ")?;
     let (voted, rest) = split_word(rest, b" voted ")?;
@@ -157,7 +161,8 @@ fn split_answer(bytes: &[u8]) -> Option<(Answer, &[u8])>
 fn answer_of(published: u32, voted: u32) -> Option<Answer>
     ensures known { IfSome result IsAnswerInRange }
     ensures some { IfSome result (λ a. (a.published ≡ published) × (a.voted ≡ voted)) }
-    ensures none { IfNone result ((a : AnswerValue) → IsAnswerInRange a → a.published ≡ published → a.voted ≢ voted) }
+    ensures none { IfNone result ((a : AnswerValue) → IsAnswerInRange a → a.published ≡ published →
+        a.voted ≢ voted) }
 {
     let Ok(published) = u16::try_from(published) else {
         return None;

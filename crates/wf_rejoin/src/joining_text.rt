@@ -63,7 +63,8 @@ fn push_own(
     nodes: u32,
     replacement: &Replacement,
 ) -> Result<(), AllocError>
-    ensures items { OnOk result (text.new.items ≡ text.old.items ++ own_line node nodes replacement.now []) }
+    ensures items { OnOk result (text.new.items ≡
+        text.old.items ++ own_line node nodes replacement.now []) }
     ensures known { OnOk result (IsReplacementInRange replacement.now) }
 {
     let Replacement { count, mark } = *replacement;
@@ -78,7 +79,8 @@ fn push_own(
 /// Appends a line for each node.
 #[tactic(auto, using(crate::proofs::Stages::no_more_stages, crate::proofs::Stages::none_are_stages, crate::proofs::Stages::one_stage_more, crate::proofs::Stages::one_more_is_stage))]
 fn push_stages(text: &mut Vec<u8>, stages: &[Stage]) -> Result<(), AllocError>
-    ensures items { OnOk result (text.new.items ≡ text.old.items ++ lines_of stage_line stages.now) }
+    ensures items { OnOk result (text.new.items ≡
+        text.old.items ++ lines_of stage_line stages.now) }
     ensures known { OnOk result (AreAll IsStage stages.now) }
 {
     match stages.split_first() {
@@ -106,7 +108,8 @@ fn push_stage(text: &mut Vec<u8>, stage: &Stage) -> Result<(), AllocError>
 /// Appends the line of a node that has answered.
 #[tactic(auto, using(crate::proofs::Stages::answer_parts))]
 fn push_answer(text: &mut Vec<u8>, answer: &Answer) -> Result<(), AllocError>
-    ensures items { OnOk result (text.new.items ≡ text.old.items ++ stage_line (Answered answer.now) []) }
+    ensures items { OnOk result (text.new.items ≡
+        text.old.items ++ stage_line (Answered answer.now) []) }
     ensures known { OnOk result (IsAnswerInRange answer.now) }
 {
     let Answer { published, voted } = *answer;

@@ -94,7 +94,8 @@ impl Replacements {
         node: NodeId,
         replacement: Replacement,
     ) -> Option<Replacements>
-        ensures value { SomeIff result (IsNewReplacement self.now peer node replacement) (slice_set self.now node (Some replacement)) }
+        ensures value { SomeIff result (IsNewReplacement self.now peer node replacement)
+            (slice_set self.now node (Some replacement)) }
         ensures kept { IfSome result (AreNoOlder self.now) }
     {
         if peer != node && is_later(&self.latest(node), &replacement) {

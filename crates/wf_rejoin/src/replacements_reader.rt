@@ -24,7 +24,8 @@ impl Replacements {
     pub fn read(bytes: &[u8]) -> Result<Replacements, ReplacementsFault>
         ensures known { IfOk result (λ known. (length known ≡ 64) × AreAll IsEntry known) }
         ensures text { IfOk result (λ known. bytes.now ≡ replaced_text known) }
-        ensures each { (known : List (Option ReplacementValue)) → length known ≡ 64 → AreAll IsEntry known → bytes.now ≡ replaced_text known → result ≡ Ok known }
+        ensures each { (known : List (Option ReplacementValue)) → length known ≡ 64 →
+            AreAll IsEntry known → bytes.now ≡ replaced_text known → result ≡ Ok known }
     {
         let Some(rest) = after(bytes, FIRST_LINE) else {
             return Err(ReplacementsFault::Line(1));
@@ -63,7 +64,8 @@ fn read_entries(bytes: &[u8], nodes: &mut [Option<Replacement>]) -> Result<(), R
 fn split_entry(bytes: &[u8]) -> Option<(Option<Replacement>, &[u8])>
     ensures known { IfSome result (λ x. IsEntry x.0) }
     ensures some { IfSome result (λ x. bytes.now ≡ entry_line x.0 x.1.now) }
-    ensures none { IfNone result ((node : Option ReplacementValue) (rest : List ℕ) → IsEntry node → bytes.now ≢ entry_line node rest) }
+    ensures none { IfNone result ((node : Option ReplacementValue) (rest : List ℕ) → IsEntry node →
+        bytes.now ≢ entry_line node rest) }
 {
     match after(bytes, NOTHING_LINE) {
         Some(rest) => Some((None, rest)),
@@ -78,7 +80,8 @@ fn split_entry(bytes: &[u8]) -> Option<(Option<Replacement>, &[u8])>
 fn split_replacement(bytes: &[u8]) -> Option<(Replacement, &[u8])>
     ensures known { IfSome result (λ x. IsReplacementInRange x.0) }
     ensures some { IfSome result (λ x. bytes.now ≡ entry_line (Some x.0) x.1.now) }
-    ensures none { IfNone result ((r : ReplacementValue) (rest : List ℕ) → IsReplacementInRange r → bytes.now ≢ entry_line (Some r) rest) }
+    ensures none { IfNone result ((r : ReplacementValue) (rest : List ℕ) → IsReplacementInRange r →
+        bytes.now ≢ entry_line (Some r) rest) }
 {
     let (count, rest) = split_word(bytes, b"count ")?;
     let (mark, rest) = split_named(rest, b" mark ")?;

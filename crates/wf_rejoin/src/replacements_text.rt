@@ -69,7 +69,8 @@ fn push_entry(text: &mut Vec<u8>, node: &Option<Replacement>) -> Result<(), Allo
 /// Appends the line of a node of which a replacement is known.
 #[tactic(auto, using(crate::proofs::Entries::entry_parts))]
 fn push_replacement(text: &mut Vec<u8>, replacement: &Replacement) -> Result<(), AllocError>
-    ensures items { OnOk result (text.new.items ≡ text.old.items ++ entry_line (Some replacement.now) []) }
+    ensures items { OnOk result (text.new.items ≡
+        text.old.items ++ entry_line (Some replacement.now) []) }
     ensures known { OnOk result (IsEntry (Some replacement.now)) }
 {
     let Replacement { count, mark } = *replacement;

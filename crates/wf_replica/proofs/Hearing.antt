@@ -11,7 +11,7 @@ use Rattle.wf_reader.specs.declared.question.Question.{Question}
 use Rattle.wf_replica.proofs.Received.{learns_none, messages_more}
 use Rattle.wf_replica.proofs.Reported.{learned_append}
 use Rattle.wf_replica.specs.Fit.{FitsQuestion}
-use Rattle.wf_replica.specs.Heard.{CameByAnswers, IsTakenFrom, IsTaken}
+use Rattle.wf_replica.specs.Heard.{CameByAnswers, IsTakenFrom, IsAnswerTaken}
 use Rattle.wf_replica.specs.LearnedList.{learned, messages_of, numbered}
 use Rattle.wf_replica.specs.MapList.{IsReadFromTape, Learns, LearnsFitting, heard_by, maps_of}
 use Rattle.wf_replica.specs.declared.maps.MapList.{MapList}
@@ -70,7 +70,7 @@ learned_fitting q a definitions old new same fits learns = record {
   learns = subst (λ (ds : List Definition). Learns learns.0 old new ds) same learns.1;
 }
 
-pub part_of : (q : Question) (a : ReaderAnswer) (old new : MapList) → LearnsFitting q a old new → (part : List (Message Definition)) × IsTaken (maps_of old) q a part × (heard_by new ≡ heard_by old ++ part)
+pub part_of : (q : Question) (a : ReaderAnswer) (old new : MapList) → LearnsFitting q a old new → (part : List (Message Definition)) × IsAnswerTaken (maps_of old) q a part × (heard_by new ≡ heard_by old ++ part)
 part_of q a old new learns = (
   numbered (next_of (maps_of old)) (take learns.count a.definitions),
   record { count = learns.count; within = learns.learns.within; fits = learns.fits; is_part = refl },
@@ -78,10 +78,10 @@ part_of q a old new learns = (
 )
 
 from_more : (list : List Definition) (answers : List (ReaderAnswer × Question)) (received : List (Message Definition)) (answer : ReaderAnswer × Question) (part : List (Message Definition)) →
-    IsTakenFrom list answers received → IsTaken (learned list received) answer.1 answer.0 part → IsTakenFrom list (answers ++ answer ∷ []) (received ++ part)
+    IsTakenFrom list answers received → IsAnswerTaken (learned list received) answer.1 answer.0 part → IsTakenFrom list (answers ++ answer ∷ []) (received ++ part)
 unfolding IsTakenFrom learned
 from_more list [] received answer part none taken =
-    let at : IsTaken list answer.1 answer.0 part = subst (λ (r : List (Message Definition)). IsTaken (learned list r) answer.1 answer.0 part) none taken in
+    let at : IsAnswerTaken list answer.1 answer.0 part = subst (λ (r : List (Message Definition)). IsAnswerTaken (learned list r) answer.1 answer.0 part) none taken in
     (part, [], ap (λ (r : List (Message Definition)). r ++ part) none ∙ sym (append-nil part), at, refl)
 from_more list (first ∷ answers) received answer part heard taken =
     let now : learned list received ≡ learned (learned list heard.0) heard.1 = ap (learned list) heard.2 ∙ learned_append list heard.0 heard.1 in (
@@ -89,7 +89,7 @@ from_more list (first ∷ answers) received answer part heard taken =
       heard.1 ++ part,
       ap (λ (r : List (Message Definition)). r ++ part) heard.2 ∙ append_assoc heard.0 heard.1 part,
       heard.3,
-      from_more (learned list heard.0) answers heard.1 answer part heard.4 (subst (λ (l : List Definition). IsTaken l answer.1 answer.0 part) now taken),
+      from_more (learned list heard.0) answers heard.1 answer part heard.4 (subst (λ (l : List Definition). IsAnswerTaken l answer.1 answer.0 part) now taken),
     )
 
 -- one more answer was given
@@ -103,5 +103,5 @@ heard_more read answers answers' q a old new more learns heard =
       rest = is.rest ++ part.0;
       is_rest = part.2 ∙ ap (λ (l : List (Message Definition)). l ++ part.0) is.is_rest ∙ append_assoc read is.rest part.0;
       by_answers = subst (λ (l : List (ReaderAnswer × Question)). IsTakenFrom (learned [] read) l (is.rest ++ part.0)) (sym more)
-          (from_more (learned [] read) answers is.rest (a, q) part.0 is.by_answers (subst (λ (l : List Definition). IsTaken l q a part.0) now part.1));
+          (from_more (learned [] read) answers is.rest (a, q) part.0 is.by_answers (subst (λ (l : List Definition). IsAnswerTaken l q a part.0) now part.1));
     })

@@ -12,7 +12,7 @@ use Rattle.wf_model.specs.Table.{most_reports, reports_from}
 use Rattle.wf_reader.specs.ReaderAnswer.{ReaderAnswer}
 use Rattle.wf_reader.specs.declared.question.Question.{Question}
 use Rattle.wf_replica.proofs.Reported.{answers_report, first_reported, learned_agree}
-use Rattle.wf_replica.specs.Heard.{CameByAnswers, IsTakenFrom, IsTaken}
+use Rattle.wf_replica.specs.Heard.{CameByAnswers, IsTakenFrom, IsAnswerTaken}
 use Rattle.wf_replica.specs.LearnedList.{learned, numbered}
 use Rattle.wf_tape.specs.declared.tape.Tape.{Ghosts as Tape}
 use Rattle.wf_replica.specs.Theorems.{AnsweredAgree, AreAnsweredByFarm, AreReported, HeardAreReported, IsAnsweredByFarm, IsToldByFarm, ReadAreReported}
@@ -42,7 +42,7 @@ numbered_at s (d ∷ definitions) m (inr is_in) =
 
 module _ {T : Type 0} (n : ℕ) (careers : ℕ → Career T) where
   -- what was taken of an answer
-  part_told : (count : ℕ) (list : List Definition) (q : Question) (a : ReaderAnswer) (part : List (Message Definition)) (taken : IsTaken list q a part) → taken.count ≡ count → IsAnsweredByFarm n careers (a, q) → (m : Message Definition) → IsIn m part → IsToldByFarm n careers m
+  part_told : (count : ℕ) (list : List Definition) (q : Question) (a : ReaderAnswer) (part : List (Message Definition)) (taken : IsAnswerTaken list q a part) → taken.count ≡ count → IsAnsweredByFarm n careers (a, q) → (m : Message Definition) → IsIn m part → IsToldByFarm n careers m
   unfolding numbered
   part_told zero list q a part taken none answered m is_in =
       let empty : part ≡ [] = taken.is_part ∙ ap (λ (k : ℕ). numbered (next_of list) (take k a.definitions)) none in

@@ -10,7 +10,7 @@ use Rattle.wf_replica.specs.LearnedList.{learned, numbered}
 
 -- What a replica with this list heard by an answer: its first definitions, as chosen for the next
 -- sequences, if the answer fits the question; else nothing.
-pub record IsTaken (list : List Definition) (q : Question) (a : ReaderAnswer) (part : List (Message Definition)) : Type 0 where
+pub record IsAnswerTaken (list : List Definition) (q : Question) (a : ReaderAnswer) (part : List (Message Definition)) : Type 0 where
   pub count : ℕ
   pub within : count ≤ length a.definitions
   pub fits : 0 < count → FitsQuestion list q a
@@ -20,7 +20,7 @@ pub record IsTaken (list : List Definition) (q : Question) (a : ReaderAnswer) (p
 unfoldable pub IsTakenFrom : List Definition → List (ReaderAnswer × Question) → List (Message Definition) → Type 0
 IsTakenFrom list [] received = received ≡ []
 IsTakenFrom list (answer ∷ answers) received =
-    (part : List (Message Definition)) × (rest : List (Message Definition)) × (received ≡ part ++ rest) × IsTaken list answer.1 answer.0 part × IsTakenFrom (learned list part) answers rest
+    (part : List (Message Definition)) × (rest : List (Message Definition)) × (received ≡ part ++ rest) × IsAnswerTaken list answer.1 answer.0 part × IsTakenFrom (learned list part) answers rest
 
 -- What a replica heard is what it read of its tape, and then what it took of these answers.
 pub record CameByAnswers (read : List (Message Definition)) (answers : List (ReaderAnswer × Question)) (received : List (Message Definition)) : Type 0 where

@@ -53,10 +53,10 @@ pub record AsksToPublish (input : List ℕ) : Type 0 where
 
 -- What is written for an input: the answer to the request that it begins with; of a publish that it
 -- isn't there, once its head has come; or the rejection of what isn't a request.
-pub data IsServed (input : List ℕ) (history : List Definition) (old new : List ℕ) (completion : Outcome) : Type 0 where
-  OfRequest : (request : Request) → BeginsWith input request → IsAnswered request history old new completion → IsServed input history old new completion
-  OfPublish : AsksToPublish input → IsCompleted (response_of publish_answer) (Some old) (Some new) completion → IsServed input history old new completion
-  OfFault : (fault : RequestFault) → IsRequestFault input fault → IsErrorCompleted fault (Some old) (Some new) completion → IsServed input history old new completion
+pub data IsInputServed (input : List ℕ) (history : List Definition) (old new : List ℕ) (completion : Outcome) : Type 0 where
+  OfRequest : (request : Request) → BeginsWith input request → IsAnswered request history old new completion → IsInputServed input history old new completion
+  OfPublish : AsksToPublish input → IsCompleted (response_of publish_answer) (Some old) (Some new) completion → IsInputServed input history old new completion
+  OfFault : (fault : RequestFault) → IsRequestFault input fault → IsErrorCompleted fault (Some old) (Some new) completion → IsInputServed input history old new completion
 
 -- unless a response was written, nothing was
 abbrev pub IsUnsent : Outcome → Outgoing → Outgoing → Type 0

@@ -6,7 +6,7 @@ ghost use Rattle.wf_digest.specs.Digest.{AreDigestsOf, digest_after, digest_at, 
 ghost use Rattle.wf_model.specs.Message.{Message};
 ghost use Rattle.wf_replica.specs.Fit.{FitsQuestion, IsFoundDifferent, IsOfOtherHistory, IsOtherHistory, IsQuestionOf, AnswerLeaves, next_count};
 ghost use Rattle.wf_replica.specs.Follower.{Grows, answers_of, list_of, read_by, received_by};
-ghost use Rattle.wf_replica.specs.Heard.{IsTaken};
+ghost use Rattle.wf_replica.specs.Heard.{IsAnswerTaken};
 ghost use Rattle.wf_replica.specs.MapList.{LearnsFitting, maps_of};
 ghost use Rattle.wf_replica.specs.Recorded.{IsRecorded};
 
@@ -33,12 +33,16 @@ impl<T: Tape + Drop> Follower<T> {
     ) -> Result<(), AnswerFault>
         // Nothing of an answer is published that doesn't fit the question; all of one that fits is,
         // as far as memory allows.
-        ensures leaves { AnswerLeaves (list_of self.old) question.now answer.now result (list_of self.new) }
-        ensures answers { answers_of self.new ≡ answers_of self.old ++ (answer.now, question.now) ∷ [] }
+        ensures leaves { AnswerLeaves (list_of self.old) question.now answer.now result
+            (list_of self.new) }
+        ensures answers { answers_of self.new ≡
+            answers_of self.old ++ (answer.now, question.now) ∷ [] }
         ensures differs { IsFoundDifferent result → IsOtherHistory (list_of self.old) answer.now }
         ensures grows { Grows self.old self.new }
-        ensures received { (more : List (Message Definition)) × (received_by self.new ≡ received_by self.old ++ more) }
-        ensures taken { (part : List (Message Definition)) × IsTaken (list_of self.old) question.now answer.now part
+        ensures received { (more : List (Message Definition))
+            × (received_by self.new ≡ received_by self.old ++ more) }
+        ensures taken { (part : List (Message Definition))
+            × IsAnswerTaken (list_of self.old) question.now answer.now part
             × (received_by self.new ≡ received_by self.old ++ part) }
         ensures read { read_by self.new ≡ read_by self.old }
     {
@@ -60,7 +64,8 @@ impl MapList {
         question: &Question,
         answer: &ReaderAnswer,
     ) -> Result<(), AnswerFault>
-        ensures leaves { AnswerLeaves (maps_of self.old) question.now answer.now result (maps_of self.new) }
+        ensures leaves { AnswerLeaves (maps_of self.old) question.now answer.now result
+            (maps_of self.new) }
         ensures differs { IsFoundDifferent result → IsOtherHistory (maps_of self.old) answer.now }
         ensures learns { LearnsFitting question.now answer.now self.old self.new }
         ensures recorded { IsRecorded T.Tape tape.old (maps_of self.old)
@@ -82,7 +87,8 @@ impl MapList {
     #[tactic(auto, using(crate::proofs::Digested::all_digested))]
     fn last_digest(&self) -> Option<[u8; 32]>
         ensures digested { IfSome result (λ _. AreDigestsOf (maps_of self.now) self.now.digests) }
-        ensures value { IfSome result (λ own. own ≡ digest_at (maps_of self.now) (length (maps_of self.now))) }
+        ensures value { IfSome result (λ own. own ≡
+            digest_at (maps_of self.now) (length (maps_of self.now))) }
     {
         self.digests.at(self.history().published())
     }
@@ -98,7 +104,8 @@ impl MapList {
         requires own { own.now ≡ digest_at (maps_of self.now) (length (maps_of self.now)) }
         ensures fits { OnOk result (FitsQuestion (maps_of self.now) question.now answer.now) }
         ensures fitting { FitsQuestion (maps_of self.now) question.now answer.now → IsOk result }
-        ensures differs { IfErr result (λ why. IsOfOtherHistory why → IsOtherHistory (maps_of self.now) answer.now) }
+        ensures differs { IfErr result (λ why. IsOfOtherHistory why →
+            IsOtherHistory (maps_of self.now) answer.now) }
     {
         if !self.has_asked(own, question) {
             return Err(Misfit::Unasked);
@@ -130,10 +137,12 @@ impl MapList {
     fn digest_with(&self, question: &Question, answer: &ReaderAnswer) -> Option<[u8; 32]>
         requires asked { IsQuestionOf (maps_of self.now) question.now }
         requires digested { AreDigestsOf (maps_of self.now) self.now.digests }
-        requires count { length answer.now.definitions ≡ next_count (length (maps_of self.now)) answer.now.published }
+        requires count { length answer.now.definitions ≡
+            next_count (length (maps_of self.now)) answer.now.published }
         ensures within { let whole = maps_of self.now ++ answer.now.definitions in
             answer.now.published ≤ length whole → result ≡ Some (digest_at whole answer.now.published) }
-        ensures further { length (maps_of self.now ++ answer.now.definitions) < answer.now.published → result ≡ None }
+        ensures further { length (maps_of self.now ++ answer.now.definitions) <
+            answer.now.published → result ≡ None }
     {
         let last = answer.published();
         if last.number() <= question.published.number() {

@@ -165,7 +165,8 @@ impl MapList {
         definitions: &[Canon],
     ) -> Result<(), AllocError>
         ensures learns { (k : ℕ) × Learns k self.old self.new definitions.now }
-        ensures all { OnOk result (maps_of self.new ≡ take last_sequence (maps_of self.old ++ definitions.now)) }
+        ensures all { OnOk result (maps_of self.new ≡
+            take last_sequence (maps_of self.old ++ definitions.now)) }
         ensures recorded { IsRecorded T.Tape tape.old (maps_of self.old)
             → IsRecorded T.Tape tape.new (maps_of self.new) }
     {
@@ -184,7 +185,8 @@ impl MapList {
         definitions: &[Canon],
     ) -> Result<(), AllocError>
         ensures learns { (k : ℕ) × Learns k self.old self.new definitions.now }
-        ensures all { OnOk result (maps_of self.new ≡ take last_sequence (maps_of self.old ++ definitions.now)) }
+        ensures all { OnOk result (maps_of self.new ≡
+            take last_sequence (maps_of self.old ++ definitions.now)) }
         ensures recorded { IsRecorded T.Tape tape.old (maps_of self.old)
             → IsRecorded T.Tape tape.new (maps_of self.new) }
     {
@@ -213,7 +215,8 @@ impl MapList {
         definition: &Canon,
     ) -> Result<(), AllocError>
         requires { slot ≡ next_of (maps_of self.old) }
-        ensures received { OnOk result (heard_by self.new ≡ heard_by self.old ++ Chosen slot definition.now ∷ []) }
+        ensures received { OnOk result (heard_by self.new ≡
+            heard_by self.old ++ Chosen slot definition.now ∷ []) }
         ensures list { OnOk result (maps_of self.new ≡ maps_of self.old ++ definition.now ∷ []) }
         ensures same_received { OnErr result (heard_by self.new ≡ heard_by self.old) }
         ensures same_list { OnErr result (maps_of self.new ≡ maps_of self.old) }
@@ -229,8 +232,10 @@ impl MapList {
     /// Hears a message, without a tape: the caller has that. An allocation failure changes nothing.
     #[tactic(auto, using(crate::proofs::Received::learned_more, crate::proofs::Received::messages_more))]
     pub(crate) fn receive(&mut self, message: Message) -> Result<(), AllocError>
-        ensures received { OnOk result (heard_by self.new ≡ heard_by self.old ++ view message ∷ []) }
-        ensures list { OnOk result (maps_of self.new ≡ after_learning (maps_of self.old) (view message)) }
+        ensures received { OnOk result (heard_by self.new ≡
+            heard_by self.old ++ view message ∷ []) }
+        ensures list { OnOk result (maps_of self.new ≡
+            after_learning (maps_of self.old) (view message)) }
         ensures same_received { OnErr result (heard_by self.new ≡ heard_by self.old) }
         ensures same_list { OnErr result (maps_of self.new ≡ maps_of self.old) }
     {

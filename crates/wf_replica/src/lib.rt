@@ -17,11 +17,11 @@
 //!   (`specs/Recorded.antt`): a map is learned before its record is written. A replica begins with
 //!   all that its tape has, in its order; only a tape that has something else begins anew.
 //! - What an answer at a readers' port says is what a node answers when it is asked for the next
-//!   definition ([`answers_report`]). Where it is given only such answers, of processes of a farm or
-//!   of their replicas, and its tape has what such have, such have told all that it heard
-//!   ([`what_is_heard_is_reported`]): so its list is at each moment one of which `wf_career`'s
-//!   `replicas_agree` says that all are beginnings of one history ([`what_is_learned_is_served`],
-//!   [`what_is_learned_agrees`]).
+//! definition ([`answers_report`]). Where it is given only such answers, of processes of a farm or
+//! of their replicas, and its tape has what such have, such have told all that it heard
+//! ([`what_is_heard_is_reported`]): so its list is at each moment one of which `wf_career`'s
+//! `replicas_agree` says that all are beginnings of one history ([`what_is_learned_is_served`],
+//! [`what_is_learned_agrees`]).
 //! - Its list goes on only by answers that fit its question, by count, published sequence and
 //!   digest: such a one is taken whole, as far as memory allows, and any other changes nothing
 //!   (`specs/Fit.antt`). What a sound source answers fits ([`sound_answers_fit`]).

@@ -23,7 +23,8 @@ const MOST_LINE: usize = 64;
 /// Writes the page of the status: the sequence of the last published map. Allocates nothing but the
 /// bytes that are written.
 pub(crate) fn write_status(outgoing: &mut Outgoing, published: Seq) -> Outcome
-    ensures { IsCompleted (status_page published) (Some outgoing.old.bytes) (Some outgoing.new.bytes) result }
+    ensures { IsCompleted (status_page published) (Some outgoing.old.bytes)
+        (Some outgoing.new.bytes) result }
 {
     let line = status_line(published);
     let response = line_response(line.as_slice());

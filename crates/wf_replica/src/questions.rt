@@ -36,7 +36,8 @@ impl Asking {
     pub fn new(count: usize, first: usize, now: u64) -> Asking
         requires { 1 ≤ count }
         ensures asking { IsAsking result }
-        ensures value { result ≡ record { count = count; source = first % count; since = now; asked = None; due = now } }
+        ensures value { result ≡
+            record { count = count; source = first % count; since = now; asked = None; due = now } }
     {
         Asking {
             count,
@@ -77,9 +78,12 @@ impl Asking {
     pub fn answer(&mut self, brings: bool, now: u64)
         requires { IsAsking self.old }
         ensures asking { IsAsking self.new }
-        ensures brings { brings ≡ true → self.new ≡ record self.old { since = now; asked = None; due = now } }
-        ensures rests { brings ≡ false → now - self.old.since < turn → self.new ≡ record self.old { asked = None; due = later now rest } }
-        ensures passes { brings ≡ false → turn ≤ now - self.old.since → self.new ≡ passed_on now self.old }
+        ensures brings { brings ≡ true →
+            self.new ≡ record self.old { since = now; asked = None; due = now } }
+        ensures rests { brings ≡ false → now - self.old.since < turn →
+            self.new ≡ record self.old { asked = None; due = later now rest } }
+        ensures passes { brings ≡ false → turn ≤ now - self.old.since →
+            self.new ≡ passed_on now self.old }
     {
         self.asked = None;
         if brings {

@@ -3,7 +3,7 @@
 ghost use Rattle.std.specs.Prelude.{◌≡◌, IsTrue};
 ghost use Rattle.wf_replica.specs.Follower.{HasLearnedNothing, list_of, read_by};
 ghost use Rattle.wf_replica.specs.MapList.{heard_by, maps_of};
-ghost use Rattle.wf_replica.specs.Service.{AsksToPublish, IsServed, IsUnsent};
+ghost use Rattle.wf_replica.specs.Service.{AsksToPublish, IsInputServed, IsUnsent};
 
 use crate::follower::Follower;
 use crate::maps::MapList;
@@ -23,7 +23,8 @@ impl<T: Tape> Follower<T> {
     /// has come. Where the request isn't whole, nothing is written.
     #[tactic(auto, using(crate::proofs::Recorded::recorded_same, crate::proofs::Hearing::heard_same))]
     pub fn serve(&mut self, alloc: Global, incoming: &Incoming, outgoing: &mut Outgoing) -> Outcome
-        ensures served { IsServed incoming.now.bytes (list_of self.old) outgoing.old.bytes outgoing.new.bytes result }
+        ensures served { IsInputServed incoming.now.bytes (list_of self.old)
+            outgoing.old.bytes outgoing.new.bytes result }
         ensures unsent { IsUnsent result outgoing.old outgoing.new }
         ensures same { HasLearnedNothing self.old self.new }
         ensures read { read_by self.new ≡ read_by self.old }
@@ -35,7 +36,8 @@ impl<T: Tape> Follower<T> {
 impl MapList {
     /// Serves what has come of a request.
     fn serve(&mut self, alloc: Global, incoming: &Incoming, outgoing: &mut Outgoing) -> Outcome
-        ensures served { IsServed incoming.now.bytes (maps_of self.old) outgoing.old.bytes outgoing.new.bytes result }
+        ensures served { IsInputServed incoming.now.bytes (maps_of self.old)
+            outgoing.old.bytes outgoing.new.bytes result }
         ensures unsent { IsUnsent result outgoing.old outgoing.new }
         ensures list { maps_of self.new ≡ maps_of self.old }
         ensures received { heard_by self.new ≡ heard_by self.old }
@@ -47,7 +49,8 @@ impl MapList {
 /// Serves what has come of a request.
 #[tactic(auto, using(crate::proofs::Completion::completion_unsent, crate::proofs::Completion::ended_unsent, crate::proofs::Completion::fault_unsent))]
 fn serve(alloc: Global, shelf: &mut Shelf, incoming: &Incoming, outgoing: &mut Outgoing) -> Outcome
-    ensures served { IsServed incoming.now.bytes shelf.old.definitions outgoing.old.bytes outgoing.new.bytes result }
+    ensures served { IsInputServed incoming.now.bytes shelf.old.definitions outgoing.old.bytes
+        outgoing.new.bytes result }
     ensures unsent { IsUnsent result outgoing.old outgoing.new }
     ensures same { shelf.new ≡ shelf.old }
 {

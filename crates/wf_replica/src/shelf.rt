@@ -74,7 +74,8 @@ impl Shelf {
     /// Learns what the message says, as [`Replica::receive`] does.
     #[tactic(auto, using(crate::proofs::Reported::still_cached))]
     pub(crate) fn receive(&mut self, message: Message) -> Result<(), AllocError>
-        ensures received { OnOk result (self.new.definitions ≡ after_learning self.old.definitions (view message)) }
+        ensures received { OnOk result (self.new.definitions ≡
+            after_learning self.old.definitions (view message)) }
         ensures err { OnErr result (self.new ≡ self.old) }
         ensures memory { OnErr result (IsNews self.old.definitions (view message)) }
     {
@@ -89,7 +90,8 @@ impl Shelf {
         request: &Request,
     ) -> Outcome
         ensures same { self.new ≡ self.old }
-        ensures answered { IsAnswered request.now self.old.definitions outgoing.old.bytes outgoing.new.bytes result }
+        ensures answered { IsAnswered request.now self.old.definitions outgoing.old.bytes
+            outgoing.new.bytes result }
     {
         match request.resource() {
             RequestedResource::Wms => self.show(alloc, outgoing, request),
@@ -105,7 +107,8 @@ impl Shelf {
     fn show(&mut self, alloc: Global, outgoing: &mut Outgoing, request: &Request) -> Outcome
         requires { request.now.asked ≡ RequestedResource.Wms }
         ensures same { self.new ≡ self.old }
-        ensures answered { IsAnswered request.now self.old.definitions outgoing.old.bytes outgoing.new.bytes result }
+        ensures answered { IsAnswered request.now self.old.definitions outgoing.old.bytes
+            outgoing.new.bytes result }
     {
         let Shelf { replica, cache } = self;
         let history = replica.history();

@@ -85,7 +85,8 @@ impl<T: Tape + Drop> Follower<T> {
     fn open_tape(alloc: Global, tape: T, pictures: usize) -> Result<(Self, FoundTape), AllocError>
         requires least { 1 ≤ pictures }
         requires most { pictures ≤ most_cached }
-        ensures found { T.durable → IfOk result (λ x. IsFoundOn (T.content tape) x.1 (list_of x.0)) }
+        ensures found { T.durable →
+            IfOk result (λ x. IsFoundOn (T.content tape) x.1 (list_of x.0)) }
         ensures tape { IfOk result (λ x. IsTapeHad x.1 x.0.tape) }
         ensures read { IfOk result (λ x. read_by x.0 ≡ numbered 1 (list_of x.0)) }
         ensures answers { IfOk result (λ x. answers_of x.0 ≡ []) }
@@ -117,7 +118,8 @@ impl<T: Tape + Drop> Follower<T> {
         requires least { 1 ≤ pictures }
         requires most { pictures ≤ most_cached }
         requires held { T.durable → AreRecords (T.content tape) (map view records.items) }
-        ensures found { IfOk result (λ x. IsRecordedStart x.1 (map view records.items) (list_of x.0)) }
+        ensures found { IfOk result (λ x.
+            IsRecordedStart x.1 (map view records.items) (list_of x.0)) }
         ensures tape { IfOk result (λ x. IsTapeHad x.1 x.0.tape) }
         ensures read { IfOk result (λ x. read_by x.0 ≡ numbered 1 (list_of x.0)) }
         ensures answers { IfOk result (λ x. answers_of x.0 ≡ []) }
@@ -200,7 +202,8 @@ impl MapList {
     ) -> Result<bool, AllocError>
         requires empty { maps_of self.old ≡ [] }
         requires read { IsReadFromTape (messages_of read.old.items) self.old }
-        ensures learned { IfOk result (λ are. AreLearned are (map view records.now) (maps_of self.new)) }
+        ensures learned { IfOk result (λ are.
+            AreLearned are (map view records.now) (maps_of self.new)) }
         ensures read { IfOk result (λ _. IsReadFromTape (messages_of read.new.items) self.new) }
     {
         for entry in records {
@@ -219,7 +222,8 @@ impl MapList {
         entry: &Record,
     ) -> Result<bool, AllocError>
         requires { IsReadFromTape (messages_of read.old.items) self.old }
-        ensures learned { IfOk result (λ is. IsNextLearned is (view entry.now) (maps_of self.old) (maps_of self.new)) }
+        ensures learned { IfOk result (λ is.
+            IsNextLearned is (view entry.now) (maps_of self.old) (maps_of self.new)) }
         ensures read { IfOk result (λ _. IsReadFromTape (messages_of read.new.items) self.new) }
     {
         match entry {

@@ -6,7 +6,7 @@ use Rattle.wf_client.specs.ResponseBuffer.{Outgoing}
 use Rattle.wf_edge.specs.declared.outcome.Outcome.{Outcome}
 use Rattle.wf_replica.specs.Follower.{HasLearnedNothing, received_by, list_of}
 use Rattle.wf_replica.specs.LearnedList.{learned}
-use Rattle.wf_replica.specs.Service.{IsServed}
+use Rattle.wf_replica.specs.Service.{IsInputServed}
 use Rattle.wf_replica.specs.declared.follower.Follower.{Follower}
 use Rattle.wf_replica_command.specs.Answer.{AreAnswered, IsResponse}
 use Rattle.wf_replica_command.specs.declared.renderer.Renderer.{Renderer}
@@ -16,9 +16,9 @@ use Rattle.wf_tape.specs.declared.tape.Tape.{Ghosts as Tape}
 module _ {T : Type 0} (tapes : Tape T) where
   -- what a replica writes is its response
   pub responded : (before after : Follower T tapes) (came : List ℕ) (old new : Outgoing) (outcome : Outcome) → old ≡ nothing → learned [] (received_by before) ≡ list_of before
-      → IsServed came (list_of before) old.bytes new.bytes outcome → HasLearnedNothing before after → IsResponse tapes before came new.bytes × HasLearnedNothing before after
+      → IsInputServed came (list_of before) old.bytes new.bytes outcome → HasLearnedNothing before after → IsResponse tapes before came new.bytes × HasLearnedNothing before after
   responded before after came old new outcome empty lived served same =
-      (record { lived = lived; outcome = outcome; served = subst (λ (o : Outgoing). IsServed came (list_of before) o.bytes new.bytes outcome) empty served }, same)
+      (record { lived = lived; outcome = outcome; served = subst (λ (o : Outgoing). IsInputServed came (list_of before) o.bytes new.bytes outcome) empty served }, same)
 
   pub none_answered : (replicas : List (Renderer T tapes × ℕ)) (clients : List (Client × ℕ)) → replicas ≡ [] → clients ≡ [] → ∥ AreAnswered tapes replicas clients ∥₁
   unfolding AreAnswered

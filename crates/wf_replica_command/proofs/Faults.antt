@@ -17,8 +17,8 @@ use Rattle.wf_model.specs.Message.{Message}
 use Rattle.wf_reader.specs.declared.rejection.QuestionRejection.{QuestionRejection}
 use Rattle.wf_replica.specs.Theorems.{AreReported, LearnedAreServed}
 use Rattle.wf_replica.specs.LearnedList.{learned}
-use Rattle.wf_replica_command.specs.Done.{HasServed, IsDone, IsEnd, IsServedUntil}
-use Rattle.wf_replica_command.specs.Fault.{IsFromSystem, IsOfFolder, IsPlanOf, IsReplicaFault, IsAddressTaken, plan_address, fault_of, value_of}
+use Rattle.wf_replica_command.specs.Done.{HasServed, IsReplicaDone, IsReplicaEnd, IsServedUntil}
+use Rattle.wf_replica_command.specs.Fault.{IsReplicaSystemFault, IsOfFolder, IsReplicaPlanOf, IsReplicaFault, IsAddressTaken, plan_address, fault_of, value_of}
 use Rattle.wf_replica_command.specs.Heard.{Hears}
 use Rattle.wf_replica_command.specs.ReplicaHub.{HasAnsweredByList, HasHeardNothing, HasLearned, HasOnlyGrown, IsOfFarm, IsListOnTape, IsRefused, state_of}
 use Rattle.wf_replica_command.specs.declared.fault.ReplicaFault.{ReplicaFault}
@@ -47,7 +47,7 @@ bad_readers line bad = record { word = bad.0; is = bad.1; bad = bad.2 }
 
 -- ---- addresses that are taken
 
-pub http_taken : (plan : ReplicaPlan) (fault : ReplicaFault) → IsAddressTaken options.Http (Some plan.http) fault → IsFromSystem plan fault
+pub http_taken : (plan : ReplicaPlan) (fault : ReplicaFault) → IsAddressTaken options.Http (Some plan.http) fault → IsReplicaSystemFault plan fault
 http_taken plan (faults.BadPeer index) is = absurd is
 http_taken plan (faults.PeerCount count) is = absurd is
 http_taken plan (faults.BadAddress option) is = absurd is
@@ -62,7 +62,7 @@ http_taken plan (faults.Taken option address) is = ap (plan_address plan) is.0 �
 http_taken plan faults.Memory is = absurd is
 http_taken plan (faults.Ended why) is = absurd is
 
-pub admin_taken : (plan : ReplicaPlan) (fault : ReplicaFault) → IsAddressTaken options.Admin plan.admin fault → IsFromSystem plan fault
+pub admin_taken : (plan : ReplicaPlan) (fault : ReplicaFault) → IsAddressTaken options.Admin plan.admin fault → IsReplicaSystemFault plan fault
 admin_taken plan (faults.BadPeer index) is = absurd is
 admin_taken plan (faults.PeerCount count) is = absurd is
 admin_taken plan (faults.BadAddress option) is = absurd is
@@ -77,7 +77,7 @@ admin_taken plan (faults.Taken option address) is = ap (plan_address plan) is.0 
 admin_taken plan faults.Memory is = absurd is
 admin_taken plan (faults.Ended why) is = absurd is
 
-pub readers_taken : (plan : ReplicaPlan) (fault : ReplicaFault) → IsAddressTaken options.Readers plan.readers fault → IsFromSystem plan fault
+pub readers_taken : (plan : ReplicaPlan) (fault : ReplicaFault) → IsAddressTaken options.Readers plan.readers fault → IsReplicaSystemFault plan fault
 readers_taken plan (faults.BadPeer index) is = absurd is
 readers_taken plan (faults.PeerCount count) is = absurd is
 readers_taken plan (faults.BadAddress option) is = absurd is
@@ -93,7 +93,7 @@ readers_taken plan faults.Memory is = absurd is
 readers_taken plan (faults.Ended why) is = absurd is
 
 -- the address that an option of a plan has is the one that the line's word spells
-spelled : (line : ReplicaLine) (plan : ReplicaPlan) (option : AddressOption) (address : SocketAddr) → IsPlanOf line plan → plan_address plan option ≡ Some address →
+spelled : (line : ReplicaLine) (plan : ReplicaPlan) (option : AddressOption) (address : SocketAddr) → IsReplicaPlanOf line plan → plan_address plan option ≡ Some address →
     IsSpelledBy (value_of line option) (Some address)
 spelled line plan options.Http address planned has = subst (λ (a : Option SocketAddr). IsSpelledBy (value_of line options.Http) a) has planned.http
 spelled line plan options.Readers address planned has = subst (λ (a : Option SocketAddr). IsSpelledBy (value_of line options.Readers) a) has planned.readers
@@ -102,7 +102,7 @@ spelled line plan options.Listen address planned has = absurd (none-some address
 
 -- ---- what the system causes
 
-of_folder : (plan : ReplicaPlan) (fault : ReplicaFault) → IsOfFolder fault → IsFromSystem plan fault
+of_folder : (plan : ReplicaPlan) (fault : ReplicaFault) → IsOfFolder fault → IsReplicaSystemFault plan fault
 of_folder plan (faults.BadPeer index) is = absurd is
 of_folder plan (faults.PeerCount count) is = absurd is
 of_folder plan (faults.BadAddress option) is = absurd is
@@ -117,7 +117,7 @@ of_folder plan (faults.Taken option address) is = absurd is
 of_folder plan faults.Memory is = tt
 of_folder plan (faults.Ended why) is = absurd is
 
-pub planned_fault : (line : ReplicaLine) (plan : ReplicaPlan) (fault : ReplicaFault) → IsPlanOf line plan → IsFromSystem plan fault → IsReplicaFault line fault
+pub planned_fault : (line : ReplicaLine) (plan : ReplicaPlan) (fault : ReplicaFault) → IsReplicaPlanOf line plan → IsReplicaSystemFault plan fault → IsReplicaFault line fault
 planned_fault line plan (faults.BadPeer index) planned is = absurd is
 planned_fault line plan (faults.PeerCount count) planned is = absurd is
 planned_fault line plan (faults.BadAddress option) planned is = absurd is
@@ -149,7 +149,7 @@ folder_fault line (faults.Ended why) is = absurd is
 
 module _ {T : Type 0} (tapes : Tape T) where
   -- a word of the command line is bad, or the system failed
-  pub not_begun : (line : ReplicaLine) (fault : ReplicaFault) → IsReplicaFault line fault → IsDone tapes line (Err fault)
+  pub not_begun : (line : ReplicaLine) (fault : ReplicaFault) → IsReplicaFault line fault → IsReplicaDone tapes line (Err fault)
   not_begun line (faults.BadPeer index) is = is
   not_begun line (faults.PeerCount count) is = is
   not_begun line (faults.BadAddress option) is = is
@@ -164,7 +164,7 @@ module _ {T : Type 0} (tapes : Tape T) where
   not_begun line faults.Memory is = is
   not_begun line (faults.Ended why) is = absurd is
 
-  pub ended_so : (line : ReplicaLine) (plan : ReplicaPlan) (result : Result (Unit {0}) ReplicaFault) → IsPlanOf line plan → IsEnd tapes plan result → IsDone tapes line result
+  pub ended_so : (line : ReplicaLine) (plan : ReplicaPlan) (result : Result (Unit {0}) ReplicaFault) → IsReplicaPlanOf line plan → IsReplicaEnd tapes plan result → IsReplicaDone tapes line result
   ended_so line plan (Ok done) planned is = is
   ended_so line plan (Err (faults.Ended why)) planned is = is
   ended_so line plan (Err (faults.BadPeer index)) planned is = not_begun line (faults.BadPeer index) (planned_fault line plan (faults.BadPeer index) planned is)
@@ -180,7 +180,7 @@ module _ {T : Type 0} (tapes : Tape T) where
   ended_so line plan (Err (faults.Taken option address)) planned is = not_begun line (faults.Taken option address) (planned_fault line plan (faults.Taken option address) planned is)
   ended_so line plan (Err faults.Memory) planned is = not_begun line faults.Memory (planned_fault line plan faults.Memory planned is)
 
-  pub never_begun : (plan : ReplicaPlan) (fault : ReplicaFault) → IsFromSystem plan fault → IsEnd tapes plan (Err fault)
+  pub never_begun : (plan : ReplicaPlan) (fault : ReplicaFault) → IsReplicaSystemFault plan fault → IsReplicaEnd tapes plan (Err fault)
   never_begun plan (faults.BadPeer index) is = is
   never_begun plan (faults.PeerCount count) is = is
   never_begun plan (faults.BadAddress option) is = is

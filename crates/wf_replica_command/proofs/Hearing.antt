@@ -12,7 +12,7 @@ use Rattle.wf_replica.specs.Follower.{HasLearnedNothing, answers_of, list_of}
 use Rattle.wf_replica.specs.declared.follower.Follower.{Follower}
 use Rattle.wf_replica.specs.declared.misfit.AnswerFault.{AnswerFault}
 use Rattle.wf_replica_command.specs.Continuation.{IsLaterReplica}
-use Rattle.wf_replica_command.specs.Heard.{AreHeard, Course, Hears, IsFewer, IsGiven, IsReplyHeard, IsKept, IsNoted, IsRefusal, IsRefusing, IsQuiet, IsReplyTaken, course_of}
+use Rattle.wf_replica_command.specs.Heard.{AreHeard, Course, Hears, IsFewer, IsAnswerGiven, IsReplyHeard, IsKept, IsNoted, IsRefusal, IsRefusing, IsQuiet, IsReplyTaken, course_of}
 use Rattle.wf_replica_command.specs.ReplicaHub.{HasHeardNothing, state_of}
 use Rattle.wf_replica_command.specs.declared.asked.Asked.{Asked}
 use Rattle.wf_replica_command.specs.declared.asker.Asker.{Asker}
@@ -74,10 +74,10 @@ one_heard a b reply asked heard = (b, heard, settled_itself b)
 
 module _ {T : Type 0} {tapes : Tape T} where
   pub given_by : (q : Question) (a : ReaderAnswer) (outcome : Result (Unit {0}) AnswerFault) (old new : Follower T tapes) (before after : List Bool) → AnswerLeaves (list_of old) q a outcome (list_of new) →
-      answers_of new ≡ answers_of old ++ (a, q) ∷ [] → IsGiven q a (course_of old before) (course_of new after)
+      answers_of new ≡ answers_of old ++ (a, q) ∷ [] → IsAnswerGiven q a (course_of old before) (course_of new after)
   given_by q a outcome old new before after leaves answers = record { outcome = outcome; leaves = leaves; answers = answers }
 
-  pub heard_answer : (source : ℕ) (q : Question) (a : ReaderAnswer) (old new : Follower T tapes) (before after : List Bool) → IsGiven q a (course_of old before) (course_of new after) →
+  pub heard_answer : (source : ℕ) (q : Question) (a : ReaderAnswer) (old new : Follower T tapes) (before after : List Bool) → IsAnswerGiven q a (course_of old before) (course_of new after) →
       IsNoted source (IsOtherHistory (list_of old) a) before after →
       IsReplyHeard (replies.Answer a) (record { source = source; question = q }) (course_of old before) (course_of new after)
   heard_answer source q a old new before after given noted = record { taken = given; noted = noted }

@@ -4,7 +4,7 @@ use Rattle.wf_client.specs.Client.{Client}
 use Rattle.wf_edge.specs.declared.outcome.Outcome.{Outcome}
 use Rattle.wf_replica.specs.Follower.{received_by, list_of}
 use Rattle.wf_replica.specs.LearnedList.{learned}
-use Rattle.wf_replica.specs.Service.{IsServed}
+use Rattle.wf_replica.specs.Service.{IsInputServed}
 use Rattle.wf_replica.specs.declared.follower.Follower.{Follower}
 use Rattle.wf_replica_command.specs.Continuation.{IsLaterReplica}
 use Rattle.wf_replica_command.specs.declared.renderer.Renderer.{Renderer}
@@ -16,7 +16,7 @@ module _ {T : Type 0} (tapes : Tape T) where
   pub record IsResponse (replica : Follower T tapes) (came response : List ℕ) : Type 0 where
     pub lived : learned [] (received_by replica) ≡ list_of replica
     pub outcome : Outcome
-    pub served : IsServed came (list_of replica) [] response outcome
+    pub served : IsInputServed came (list_of replica) [] response outcome
 
   -- In order, each client that was answered: the replica as it then was, and the client with what
   -- had come of its request and with the whole response.

@@ -1,7 +1,7 @@
 -- What a replica did.
 use Rattle.std.specs.Prelude.{ℕ, Result, Ok, Err}
 use Rattle.wf_line.specs.declared.replica_line.ReplicaLine.{ReplicaLine}
-use Rattle.wf_replica_command.specs.Fault.{IsFromSystem, IsReplicaFault, fault_status}
+use Rattle.wf_replica_command.specs.Fault.{IsReplicaSystemFault, IsReplicaFault, fault_status}
 use Rattle.wf_replica_command.specs.ReplicaHub.{HasAnsweredByList, HasHeard, HasHeardNothing, HasLearned, HasOnlyGrown, IsOfFarm, IsListOnTape, IsRefused, ReplicaState}
 use Rattle.wf_replica_command.specs.declared.fault.ReplicaFault.{ReplicaFault}
 use Rattle.wf_replica_command.specs.declared.fault.ReplicaFault.TheVariants as faults
@@ -37,16 +37,16 @@ module _ {T : Type 0} (tapes : Tape T) where
   IsServedUntil (turns.Ended why) = IsEndedBySources
 
   -- how a replica ended that could begin
-  abbrev pub IsEnd : ReplicaPlan → Result (Unit {0}) ReplicaFault → Type 0
-  IsEnd plan (Ok done) = HasServed
-  IsEnd plan (Err (faults.Ended why)) = IsEndedBySources
-  IsEnd plan (Err fault) = IsFromSystem plan fault
+  abbrev pub IsReplicaEnd : ReplicaPlan → Result (Unit {0}) ReplicaFault → Type 0
+  IsReplicaEnd plan (Ok done) = HasServed
+  IsReplicaEnd plan (Err (faults.Ended why)) = IsEndedBySources
+  IsReplicaEnd plan (Err fault) = IsReplicaSystemFault plan fault
 
   -- what came of a command line
-  abbrev pub IsDone : ReplicaLine → Result (Unit {0}) ReplicaFault → Type 0
-  IsDone line (Ok done) = HasServed
-  IsDone line (Err (faults.Ended why)) = IsEndedBySources
-  IsDone line (Err fault) = IsReplicaFault line fault
+  abbrev pub IsReplicaDone : ReplicaLine → Result (Unit {0}) ReplicaFault → Type 0
+  IsReplicaDone line (Ok done) = HasServed
+  IsReplicaDone line (Err (faults.Ended why)) = IsEndedBySources
+  IsReplicaDone line (Err fault) = IsReplicaFault line fault
 
 -- the exit status
 abbrev pub replica_status : Result (Unit {0}) ReplicaFault → ℕ

@@ -34,7 +34,7 @@ value_of line options.Readers = option_map (λ word. word.now) line.readers
 value_of line options.Admin = option_map (λ word. word.now) line.admin
 
 -- it is given, and no address
-pub record IsBadOption (line : ReplicaLine) (option : AddressOption) : Type 0 where
+pub record IsBadReplicaOption (line : ReplicaLine) (option : AddressOption) : Type 0 where
   pub word : List ℕ
   pub is : value_of line option ≡ Some word
   pub bad : IsNoAddress word
@@ -42,7 +42,7 @@ pub record IsBadOption (line : ReplicaLine) (option : AddressOption) : Type 0 wh
 -- ---- what a command line asks for
 
 -- Each word of the line spells the plan's address, and the farm's name is the line's.
-pub record IsPlanOf (line : ReplicaLine) (plan : ReplicaPlan) : Type 0 where
+pub record IsReplicaPlanOf (line : ReplicaLine) (plan : ReplicaPlan) : Type 0 where
   pub farm : plan.farm ≡ pad line.farm.now
   pub sources : AreAddresses (words_of line.peers.now) plan.sources.items
   pub http : IsSpelledBy (value_of line options.Http) (Some plan.http)
@@ -75,17 +75,17 @@ IsOfFolder fault = ⊥
 
 -- The error is one that files, sockets or memory caused before the replica began. An address that
 -- is taken is one of its own.
-abbrev pub IsFromSystem : ReplicaPlan → ReplicaFault → Type 0
-IsFromSystem plan faults.Poll = ⊤
-IsFromSystem plan (faults.Taken option address) = plan_address plan option ≡ Some address
-IsFromSystem plan fault = IsOfFolder fault
+abbrev pub IsReplicaSystemFault : ReplicaPlan → ReplicaFault → Type 0
+IsReplicaSystemFault plan faults.Poll = ⊤
+IsReplicaSystemFault plan (faults.Taken option address) = plan_address plan option ≡ Some address
+IsReplicaSystemFault plan fault = IsOfFolder fault
 
 -- a word of its command line, or the system; an address that is taken is the one that the option's
 -- word spells
 abbrev pub IsReplicaFault : ReplicaLine → ReplicaFault → Type 0
 IsReplicaFault line (faults.BadPeer index) = IsFirstBad (words_of line.peers.now) index
 IsReplicaFault line (faults.PeerCount count) = (count ≡ length (words_of line.peers.now)) × (64 < count)
-IsReplicaFault line (faults.BadAddress option) = IsBadOption line option
+IsReplicaFault line (faults.BadAddress option) = IsBadReplicaOption line option
 IsReplicaFault line faults.Name = ¬ (IsNameText line.farm.now)
 IsReplicaFault line faults.Poll = ⊤
 IsReplicaFault line (faults.Taken option address) = IsSpelledBy (value_of line option) (Some address)

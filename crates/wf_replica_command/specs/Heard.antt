@@ -41,7 +41,7 @@ IsRefusal list (replies.Rejected why) = IsRefusing why
 
 -- What a reply to a question leaves: an answer is given to the replica, which takes it whole if it
 -- fits; a rejection changes nothing of it.
-pub record IsGiven (q : Question) (a : ReaderAnswer) (old new : Course) : Type 0 where
+pub record IsAnswerGiven (q : Question) (a : ReaderAnswer) (old new : Course) : Type 0 where
   pub outcome : Result (Unit {0}) AnswerFault
   pub leaves : AnswerLeaves old.list q a outcome new.list
   pub answers : new.answers ≡ old.answers ++ (a, q) ∷ []
@@ -51,7 +51,7 @@ pub record IsKept (old new : Course) : Type 0 where
   pub answers : new.answers ≡ old.answers
 
 abbrev pub IsReplyTaken : Question → Reply → Course → Course → Type 0
-IsReplyTaken q (replies.Answer a) old new = IsGiven q a old new
+IsReplyTaken q (replies.Answer a) old new = IsAnswerGiven q a old new
 IsReplyTaken q (replies.Rejected why) old new = IsKept old new
 
 -- no source refuses that didn't

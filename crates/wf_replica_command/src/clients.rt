@@ -55,9 +55,12 @@ impl<T: Tape + Drop, N: Network> ReplicaClients<T, N> {
     /// The replica's list is what it has heard and what its tape has, each client that was answered
     /// was answered from it, and it never went back, always. The call does nothing.
     pub(crate) fn always_served(&self)
-        ensures lived { learned [] (received_by self.now.renderer.follower) ≡ list_of self.now.renderer.follower }
-        ensures recorded { IsRecorded T.Tape self.now.renderer.follower.tape (list_of self.now.renderer.follower) }
-        ensures answered { ∥ AreAnswered T.Tape self.now.asked.items (responses_of self.now.visitors) ∥₁ }
+        ensures lived { learned [] (received_by self.now.renderer.follower) ≡
+            list_of self.now.renderer.follower }
+        ensures recorded { IsRecorded T.Tape self.now.renderer.follower.tape
+            (list_of self.now.renderer.follower) }
+        ensures answered { ∥ AreAnswered T.Tape self.now.asked.items
+            (responses_of self.now.visitors) ∥₁ }
         ensures in_order { ∥ AreInOrder T.Tape self.now.asked.items self.now.renderer.follower ∥₁ }
     {
         self.renderer.follower.always_learned();

@@ -1,6 +1,6 @@
 //! Runs a parsed command line.
 ghost use Rattle.wf_line.specs.ProcessLine.{IsReplicaInRange};
-ghost use Rattle.wf_replica_command.specs.Done.{IsDone, IsEnd, IsServedUntil};
+ghost use Rattle.wf_replica_command.specs.Done.{IsReplicaDone, IsReplicaEnd, IsServedUntil};
 ghost use Rattle.wf_replica_command.specs.ReplicaHub.{HasHeardNothing, state_of};
 ghost use Rattle.wf_replica_command.specs.Start.{IsLineRun};
 
@@ -29,7 +29,7 @@ pub fn run<R: Files<File = File> + Clock + Eprint + Net + AllocGlobal, S: Store>
     turns: u64,
 ) -> Result<(), ReplicaFault>
     requires { IsReplicaInRange line.now }
-    ensures done { IsDone S.Tape.Tape line.now result }
+    ensures done { IsReplicaDone S.Tape.Tape line.now result }
     ensures folder { IsLineRun line.now (S.calls store.old) (S.calls store.new) result }
 {
     let log = Log::new(rt, line.log);
@@ -47,7 +47,7 @@ fn serve<R: Files<File = File> + Clock + Eprint + Net + AllocGlobal, T: Tape + D
     ready: ReadyReplica<T>,
     turns: u64,
 ) -> Result<(), ReplicaFault>
-    ensures { IsEnd T.Tape ready.plan result }
+    ensures { IsReplicaEnd T.Tape ready.plan result }
 {
     let mut replica = match RunningReplica::of_system(rt, log, ready) {
         Ok(replica) => replica,

@@ -6,7 +6,7 @@ ghost use Rattle.wf_replica.specs.Fit.{IsOfOtherHistory, IsOtherHistory};
 ghost use Rattle.wf_replica.specs.Follower.{HasLearnedNothing, list_of};
 ghost use Rattle.wf_replica.specs.Refusals.{all_refuse};
 ghost use Rattle.wf_replica_command.specs.Continuation.{IsLaterReplica};
-ghost use Rattle.wf_replica_command.specs.Heard.{Hears, IsFewer, IsGiven, IsReplyHeard, IsNoted, IsRefusing, course_of};
+ghost use Rattle.wf_replica_command.specs.Heard.{Hears, IsFewer, IsAnswerGiven, IsReplyHeard, IsNoted, IsRefusing, course_of};
 
 use crate::asker::Asker;
 use crate::event::{ReplicaEvent, SourceEnd};
@@ -140,7 +140,9 @@ impl<N: Network> Asker<N> {
     )
         ensures goes_on { IsLaterReplica follower.old follower.new }
         ensures heard { self.new.heard.items ≡ self.old.heard.items }
-        ensures reply { IsReplyHeard reply (record { source = self.old.of; question = question.now }) (course_of follower.old self.old.refusals) (course_of follower.new self.new.refusals) }
+        ensures reply { IsReplyHeard reply
+            (record { source = self.old.of; question = question.now })
+            (course_of follower.old self.old.refusals) (course_of follower.new self.new.refusals) }
     {
         match reply {
             Reply::Answer(answer) => {
@@ -166,8 +168,10 @@ impl<N: Network> Asker<N> {
     )
         ensures goes_on { IsLaterReplica follower.old follower.new }
         ensures heard { self.new.heard.items ≡ self.old.heard.items }
-        ensures given { IsGiven question.now answer.now (course_of follower.old self.old.refusals) (course_of follower.new self.new.refusals) }
-        ensures noted { IsNoted self.old.of (IsOtherHistory (list_of follower.old) answer.now) self.old.refusals self.new.refusals }
+        ensures given { IsAnswerGiven question.now answer.now
+            (course_of follower.old self.old.refusals) (course_of follower.new self.new.refusals) }
+        ensures noted { IsNoted self.old.of (IsOtherHistory (list_of follower.old) answer.now)
+            self.old.refusals self.new.refusals }
     {
         let had_tape = follower.has_tape();
         let before = follower.history().published();

@@ -28,7 +28,8 @@ pub(crate) fn claim<S: Store>(
     store: &mut S,
     farm: &FarmName,
 ) -> Result<(), ReplicaFault>
-    ensures claimed { OnOk result (IsClaimed (replica_text farm.now) (S.calls store.old) (S.calls store.new)) }
+    ensures claimed { OnOk result (IsClaimed (replica_text farm.now) (S.calls store.old)
+        (S.calls store.new)) }
     ensures unclaimed { OnErr result (IsUnclaimed (S.calls store.old) (S.calls store.new)) }
     ensures fault { IfErr result IsOfFolder }
 {

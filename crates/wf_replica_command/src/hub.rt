@@ -1,6 +1,6 @@
 //! One thread that answers its sockets, turn after turn.
 ghost use Rattle.std.specs.Prelude.{◌≡◌, ◌≤◌, [], IfErr, IfOk};
-ghost use Rattle.wf_replica_command.specs.Fault.{IsFromSystem};
+ghost use Rattle.wf_replica_command.specs.Fault.{IsReplicaSystemFault};
 ghost use Rattle.wf_replica_command.specs.Heard.{Hears};
 ghost use Rattle.wf_replica_command.specs.ReplicaHub.{HasAnsweredByList, HasHeardNothing, HasLearned, HasOnlyGrown, IsOfFarm, IsListOnTape, IsTurn, state_of};
 ghost use Rattle.wf_visitors.specs.Visitors.{responses_of};
@@ -73,7 +73,7 @@ impl<T: Tape + Drop> ReplicaHub<T> {
         ready: ReadyReplica<T>,
     ) -> Result<Self, ReplicaFault>
         ensures begun { IfOk result (λ hub. HasHeardNothing T.Tape (state_of hub)) }
-        ensures fault { IfErr result (IsFromSystem ready.plan) }
+        ensures fault { IfErr result (IsReplicaSystemFault ready.plan) }
     {
         match SystemNetwork::new(rt) {
             Ok(network) => ReplicaHub::on(rt, network, ready, now(rt)),
@@ -101,7 +101,8 @@ impl<T: Tape + Drop> ReplicaHub<T> {
         ensures answered { HasAnsweredByList T.Tape (state_of self.new) }
         // It never goes back, and goes on by what it hears of its sources.
         ensures stayed { HasOnlyGrown T.Tape (state_of self.new) }
-        ensures heard { Hears self.old.asker self.old.clients.renderer.follower self.new.asker self.new.clients.renderer.follower }
+        ensures heard { Hears self.old.asker self.old.clients.renderer.follower
+            self.new.asker self.new.clients.renderer.follower }
         // It has to end only where all of its sources refuse it.
         ensures ended { IsTurn T.Tape result (state_of self.new) }
     {
@@ -123,7 +124,7 @@ impl<T: Tape + Drop, N: Network + Drop> ReplicaHub<T, N> {
         time: u64,
     ) -> Result<Self, ReplicaFault>
         ensures begun { IfOk result (λ hub. HasHeardNothing T.Tape (state_of hub)) }
-        ensures fault { IfErr result (IsFromSystem ready.plan) }
+        ensures fault { IfErr result (IsReplicaSystemFault ready.plan) }
     {
         let ReadyReplica {
             plan,
@@ -217,7 +218,8 @@ impl<T: Tape + Drop, N: Network + Drop> ReplicaHub<T, N> {
         ensures of_farm { IsOfFarm T.Tape (state_of self.new) }
         ensures answered { HasAnsweredByList T.Tape (state_of self.new) }
         ensures stayed { HasOnlyGrown T.Tape (state_of self.new) }
-        ensures heard { Hears self.old.asker self.old.clients.renderer.follower self.new.asker self.new.clients.renderer.follower }
+        ensures heard { Hears self.old.asker self.old.clients.renderer.follower
+            self.new.asker self.new.clients.renderer.follower }
         ensures ended { IsTurn T.Tape result (state_of self.new) }
     {
         self.time = time.max(self.time);
@@ -238,7 +240,8 @@ impl<T: Tape + Drop, N: Network + Drop> ReplicaHub<T, N> {
         log: &'x Log<'x, R>,
         ready: &[usize],
     ) -> bool
-        ensures { Hears self.old.asker self.old.clients.renderer.follower self.new.asker self.new.clients.renderer.follower }
+        ensures { Hears self.old.asker self.old.clients.renderer.follower
+            self.new.asker self.new.clients.renderer.follower }
     {
         let ReplicaHub {
             network,
@@ -268,7 +271,7 @@ impl<T: Tape + Drop, N: Network + Drop> ReplicaHub<T, N> {
 
 /// Why there is no hub of a plan where there is no network.
 fn fault_of(error: NetworkError, _plan: &ReplicaPlan) -> ReplicaFault
-    ensures { IsFromSystem _plan.now result }
+    ensures { IsReplicaSystemFault _plan.now result }
 {
     match error {
         NetworkError::Poll => ReplicaFault::Poll,

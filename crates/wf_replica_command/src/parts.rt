@@ -1,6 +1,6 @@
 //! The addresses of a replica, and what comes there.
 ghost use Rattle.std.specs.Prelude.{◌≡◌, [], IfErr, IfOk, Some};
-ghost use Rattle.wf_replica_command.specs.Fault.{IsFromSystem, IsAddressTaken};
+ghost use Rattle.wf_replica_command.specs.Fault.{IsReplicaSystemFault, IsAddressTaken};
 ghost use Rattle.wf_visitors.specs.Visitors.{responses_of};
 
 use crate::fault::ReplicaFault;
@@ -82,7 +82,7 @@ fn doors_of<R: Net, N: Network + Drop>(
     plan: &ReplicaPlan,
     network: N,
 ) -> Result<ReplicaDoors<N>, ReplicaFault>
-    ensures { IfErr result (IsFromSystem plan.now) }
+    ensures { IfErr result (IsReplicaSystemFault plan.now) }
 {
     let http = listen_at(
         rt,
@@ -147,7 +147,7 @@ pub(crate) fn bind<R: Net + AllocGlobal, N: Network + Drop>(
     network: N,
 ) -> Result<ReplicaStart<N>, ReplicaFault>
     ensures new { IfOk result (λ begun. responses_of begun.visitors ≡ []) }
-    ensures fault { IfErr result (IsFromSystem plan.now) }
+    ensures fault { IfErr result (IsReplicaSystemFault plan.now) }
 {
     match doors_of(rt, plan, network) {
         Ok(doors) => begin_at(rt.alloc(), doors),

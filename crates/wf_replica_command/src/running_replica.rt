@@ -3,7 +3,7 @@ ghost use Rattle.std.specs.Prelude.{◌≡◌, ◌≤◌, ◌∷◌, IfErr, IfOk
 ghost use Rattle.wf_folder.specs.Name.{pad};
 ghost use Rattle.wf_line.specs.ProcessLine.{IsReplicaInRange};
 ghost use Rattle.wf_replica.specs.FarmFile.{replica_text};
-ghost use Rattle.wf_replica_command.specs.Fault.{IsFromSystem, IsReplicaFault};
+ghost use Rattle.wf_replica_command.specs.Fault.{IsReplicaSystemFault, IsReplicaFault};
 ghost use Rattle.wf_replica_command.specs.Heard.{Hears};
 ghost use Rattle.wf_replica_command.specs.ReplicaHub.{HasAnsweredByList, HasHeardNothing, HasLearned, HasOnlyGrown, IsOfFarm, IsListOnTape, IsTurn, state_of};
 ghost use Rattle.wf_replica_command.specs.Start.{IsStarted, IsUnstarted};
@@ -38,9 +38,9 @@ impl<T: Tape + Drop, N: Network + Drop> Drop for RunningReplica<T, N> {
     }
 }
 
-/// Starts a replica on its folder, which is locked first and stays so as long as the store is there,
-/// and binds its addresses on a network, at this time in milliseconds. Err: the cause, as that of
-/// `wfarm replica`.
+/// Starts a replica on its folder, which is locked first and stays so as long as the store is
+/// there, and binds its addresses on a network, at this time in milliseconds. Err: the cause, as
+/// that of `wfarm replica`.
 #[tactic(auto, using(crate::proofs::Faults::planned_fault, crate::proofs::Starting::started_so))]
 pub fn start_replica<R: Clock + Eprint + Net + AllocGlobal, S: Store, N: Network + Drop>(
     rt: &R,
@@ -77,7 +77,7 @@ impl<T: Tape + Drop, N: Network + Drop> RunningReplica<T, N> {
         time: u64,
     ) -> Result<Self, ReplicaFault>
         ensures begun { IfOk result (λ replica. HasHeardNothing T.Tape (state_of replica.hub)) }
-        ensures fault { IfErr result (IsFromSystem ready.plan) }
+        ensures fault { IfErr result (IsReplicaSystemFault ready.plan) }
     {
         match ReplicaHub::on(rt, network, ready, time) {
             Ok(hub) => Ok(begun_with(log, hub)),
@@ -131,7 +131,8 @@ impl<T: Tape + Drop, N: Network + Drop> RunningReplica<T, N> {
         ensures of_farm { IsOfFarm T.Tape (state_of self.new.hub) }
         ensures answered { HasAnsweredByList T.Tape (state_of self.new.hub) }
         ensures stayed { HasOnlyGrown T.Tape (state_of self.new.hub) }
-        ensures heard { Hears self.old.hub.asker self.old.hub.clients.renderer.follower self.new.hub.asker self.new.hub.clients.renderer.follower }
+        ensures heard { Hears self.old.hub.asker self.old.hub.clients.renderer.follower
+            self.new.hub.asker self.new.hub.clients.renderer.follower }
         ensures ended { IsTurn T.Tape result (state_of self.new.hub) }
     {
         self.hub.turn(rt, log, ready, time)
@@ -146,7 +147,7 @@ impl<T: Tape + Drop> RunningReplica<T> {
         ready: ReadyReplica<T>,
     ) -> Result<Self, ReplicaFault>
         ensures begun { IfOk result (λ replica. HasHeardNothing T.Tape (state_of replica.hub)) }
-        ensures fault { IfErr result (IsFromSystem ready.plan) }
+        ensures fault { IfErr result (IsReplicaSystemFault ready.plan) }
     {
         match ReplicaHub::new(rt, ready) {
             Ok(hub) => Ok(begun_with(log, hub)),
@@ -165,7 +166,8 @@ impl<T: Tape + Drop> RunningReplica<T> {
         ensures of_farm { IsOfFarm T.Tape (state_of self.new.hub) }
         ensures answered { HasAnsweredByList T.Tape (state_of self.new.hub) }
         ensures stayed { HasOnlyGrown T.Tape (state_of self.new.hub) }
-        ensures heard { Hears self.old.hub.asker self.old.hub.clients.renderer.follower self.new.hub.asker self.new.hub.clients.renderer.follower }
+        ensures heard { Hears self.old.hub.asker self.old.hub.clients.renderer.follower
+            self.new.hub.asker self.new.hub.clients.renderer.follower }
         ensures ended { IsTurn T.Tape result (state_of self.new.hub) }
     {
         self.hub.go_on(rt, log)

@@ -3,7 +3,7 @@ ghost use Rattle.std.specs.Prelude.{◌≡◌, ◌≤◌, ◌⊎◌, ◌∷◌, 
 ghost use Rattle.wf_folder.specs.Name.{pad};
 ghost use Rattle.wf_line.specs.ProcessLine.{IsReplicaInRange};
 ghost use Rattle.wf_replica.specs.FarmFile.{replica_text};
-ghost use Rattle.wf_replica_command.specs.Fault.{IsOfFolder, IsPlanOf, IsReplicaFault};
+ghost use Rattle.wf_replica_command.specs.Fault.{IsOfFolder, IsReplicaPlanOf, IsReplicaFault};
 ghost use Rattle.wf_replica_command.specs.Start.{IsStarted, IsTapeLookedFor, IsUnclaimed, IsUnstarted};
 ghost use Rattle.wf_store.specs.Call.{OnlyReads, locked};
 
@@ -28,7 +28,7 @@ pub(crate) fn ready<R: Clock + Eprint + AllocGlobal, S: Store>(
     line: &ReplicaLine<'_>,
 ) -> Result<ReadyReplica<S::Tape>, ReplicaFault>
     requires { IsReplicaInRange line.now }
-    ensures planned { IfOk result (λ ready. IsPlanOf line.now ready.plan) }
+    ensures planned { IfOk result (λ ready. IsReplicaPlanOf line.now ready.plan) }
     ensures fault { IfErr result (IsReplicaFault line.now) }
     ensures started { OnOk result (IsStarted (replica_text (pad line.now.farm.now))
         (locked ∷ S.calls store.old) (S.calls store.new)) }

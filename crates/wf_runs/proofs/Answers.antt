@@ -22,7 +22,7 @@ use Rattle.wf_tape.specs.declared.tape.Tape.{Ghosts as Tape}
 use Rattle.wf_serve.specs.Agreement.{AskedAlike, AtOneSequence, ForOneMap}
 use Rattle.wf_runs.specs.Session.{Session}
 use Rattle.wf_runs.specs.Folder.{WasOnce}
-use Rattle.wf_runs.specs.Theorems.{IsOneFarm, FolderIsOneFarm, HasOneHistory, HaveOneDefinition, NoneGoesBack, IsQueryTo, HasResponded, IsReply, RespondAlike, GetAlike, SessionsAreOneFarm}
+use Rattle.wf_runs.specs.Theorems.{IsOneFarm, FolderIsOneFarm, HasOneHistory, HaveOneDefinition, NoneGoesBack, IsQueryTo, HasResponded, IsReplyToQuery, RespondAlike, GetAlike, SessionsAreOneFarm}
 
 -- ---- the page of a query
 
@@ -53,7 +53,7 @@ module _ {T : Type 0} (tapes : Tape T) where
 
 module _ {T : Type 0} (tapes : Tape T) where
   responded : (input old new : Option (List ℕ)) (before after : Node T) (outputs : Vec Message Global) (got : Outcome) (is : IsOutcome tapes input old new before outputs after got) (query : List ℕ) (response : Response) →
-      IsReply tapes input old new before after outputs got is query response → HasResponded tapes before query response
+      IsReplyToQuery tapes input old new before after outputs got is query response → HasResponded tapes before query response
   responded input old new before after outputs (outcome.Sent status count) is query response reply =
       subst (HasResponded tapes before query) reply.0 (record { input = input; sent = outputs; after = after; responds = is.responds; asked = reply.1 })
   responded input old new before after outputs (outcome.WriteFailed status count) is query response reply =

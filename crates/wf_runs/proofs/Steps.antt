@@ -8,7 +8,7 @@ use Rattle.wf_career.specs.Career.{IsOneOf}
 use Rattle.wf_codec.specs.declared.message.Message.{Message}
 use Rattle.wf_edge.specs.StepResult.{IsStepResult}
 use Rattle.wf_edge.specs.RequestEffect.{HandsOut}
-use Rattle.wf_catch_up.specs.CatchUp.{IsTaken as WasTaken, HasReceived, IsQuestion, HaveAsked, Rests, Asks}
+use Rattle.wf_catch_up.specs.CatchUp.{IsDeliveryTaken, HasReceived, IsOneQuestion, HaveAsked, Rests, Asks}
 use Rattle.wf_delivery.specs.declared.progress.PumpProgress.{PumpProgress}
 use Rattle.wf_delivery.specs.Delivery.{IsHanded, AreHanded, First, Next}
 use Rattle.wf_delivery.specs.Reachability.{outputs_by}
@@ -20,10 +20,11 @@ use Rattle.wf_node.specs.Input.{view}
 use Rattle.wf_node.specs.Node.{Node}
 use Rattle.wf_node.specs.declared.fault.NodeFault.{NodeFault}
 use Rattle.wf_tape.specs.declared.tape.Tape.{Ghosts as Tape}
-use Rattle.wf_runs.specs.Session.{Step, stepped, after_steps, returned, IsTaken, AreTaken}
+use Rattle.wf_runs.specs.Session.{Step, stepped, after_steps, returned, IsStepTaken, AreTaken}
 use Rattle.wf_runs.proofs.Turns.{AreAmong, in_first, in_second, among_more, arrived_among}
 
--- ---- walks: some steps lead from the nodes to others, and messages that are delivered are these, or were returned
+-- ---- walks: some steps lead from the nodes to others, and messages that are delivered are these,
+-- or were returned
 
 pub record Walk {T : Type 0} (tapes : Tape T) (sent : List Message) (nodes after : List (Node T)) : Type 0 where
   pub steps : List (Step T)
@@ -81,7 +82,7 @@ module _ {T : Type 0} (tapes : Tape T) where
 
   -- ---- one step
 
-  one_taken : (sent : List Message) (nodes : List (Node T)) (step : Step T) → IsTaken tapes sent nodes step → Walk tapes sent nodes (stepped nodes step)
+  one_taken : (sent : List Message) (nodes : List (Node T)) (step : Step T) → IsStepTaken tapes sent nodes step → Walk tapes sent nodes (stepped nodes step)
   unfolding after_steps
   one_taken sent nodes step is = record { steps = step ∷ []; taken = (is, tt); come = refl }
 
@@ -119,13 +120,13 @@ module _ {T : Type 0} (tapes : Tape T) where
   one_handed : (i k : ℕ) (lost : Bool) (sent : List Message) (nodes middle after : List (Node T)) (outputs more : List Message) → Handed sent nodes middle outputs → IsHanded tapes i k lost middle outputs after more → Handed sent nodes after more
   one_handed i k lost sent nodes middle after outputs more before one =
       let step : Step T = record { node_index = i; act = record { input = action.Deliver one.handed; outputs = one.outputs; after = one.after } } in
-      let is : IsTaken tapes outputs middle step = record { before = one.node; at = one.at; is = record { lost = lost; takes = one.takes }; arrived = in_at one.handed outputs k one.there } in
+      let is : IsStepTaken tapes outputs middle step = record { before = one.node; at = one.at; is = record { lost = lost; takes = one.takes }; arrived = in_at one.handed outputs k one.there } in
       let walk = before.walk in
       record {
         walk = record {
           steps = walk.steps ++ step ∷ [];
           taken = taken_both sent nodes walk.steps (step ∷ []) walk.taken
-              (subst (λ ns. AreTaken tapes (reported sent walk) ns (step ∷ [])) (sym walk.come) (subst (λ ms. IsTaken tapes ms middle step) (sym before.outputs_are) is, tt));
+              (subst (λ ns. AreTaken tapes (reported sent walk) ns (step ∷ [])) (sym walk.come) (subst (λ ms. IsStepTaken tapes ms middle step) (sym before.outputs_are) is, tt));
           come = after_both nodes walk.steps (step ∷ []) ∙ ap (λ ns. after_steps ns (step ∷ [])) walk.come ∙ after_one middle step ∙ sym one.nodes_are;
         };
         outputs_are = ap (λ ms. sent ++ ms) (returned_both walk.steps (step ∷ []) ∙ ap (λ ms. returned walk.steps ++ ms) (returned_one step))
@@ -147,7 +148,7 @@ module _ {T : Type 0} (tapes : Tape T) where
   set_twice (z ∷ xs) zero x y = refl
   set_twice (z ∷ xs) (suc i) x y = ap (λ zs. z ∷ zs) (set_twice xs i x y)
 
-  arrived_one : (sent : List Message) (nodes : List (Node T)) (i : ℕ) (before after : Node T) (m : Message) (loses : Bool) → slice_get nodes i ≡ Some before → IsIn m sent → WasTaken tapes loses m before after →
+  arrived_one : (sent : List Message) (nodes : List (Node T)) (i : ℕ) (before after : Node T) (m : Message) (loses : Bool) → slice_get nodes i ≡ Some before → IsIn m sent → IsDeliveryTaken tapes loses m before after →
       Walk tapes sent nodes (slice_set nodes i after)
   arrived_one sent nodes i before after m loses at is_in took =
       one_act sent nodes i before (record { input = action.Deliver m; outputs = took.outputs; after = after }) at (record { lost = loses; takes = took.takes }) is_in
@@ -173,18 +174,18 @@ module _ {T : Type 0} (tapes : Tape T) where
   unfolding returned
   answer_reported asks answers answer same m is = in_second m asks.act.outputs (answers.act.outputs ++ []) (in_first m answers.act.outputs [] (subst (IsIn m) (sym same) is))
 
-  question_walk : (asked asker : ℕ) (nodes after : List (Node T)) (lost : Bool) → IsQuestion tapes asked asker nodes lost after → Walk tapes [] nodes after
+  question_walk : (asked asker : ℕ) (nodes after : List (Node T)) (lost : Bool) → IsOneQuestion tapes asked asker nodes lost after → Walk tapes [] nodes after
   question_walk asked asker nodes after lost q =
       let asks : Step T = record { node_index = asker; act = record { input = action.CatchUp; outputs = q.question ∷ []; after = q.before } } in
       let answers : Step T = record { node_index = asked; act = record { input = action.Deliver q.question; outputs = q.answer; after = q.other } } in
-      let first : IsTaken tapes [] nodes asks = record { before = q.before; at = q.asker_at; is = record { lost = false; takes = q.asks }; arrived = tt } in
+      let first : IsStepTaken tapes [] nodes asks = record { before = q.before; at = q.asker_at; is = record { lost = false; takes = q.asks }; arrived = tt } in
       let same : stepped nodes asks ≡ nodes = set_same nodes asker q.before q.asker_at in
-      let second : IsTaken tapes (q.question ∷ []) nodes answers =
+      let second : IsStepTaken tapes (q.question ∷ []) nodes answers =
       record { before = q.other; at = q.asked_at; is = record { lost = q.unanswered; takes = q.answers }; arrived = inl refl } in
       let still : stepped nodes answers ≡ nodes = set_same nodes asked q.other q.asked_at in
       let both : Walk tapes [] nodes nodes = record {
         steps = asks ∷ (answers ∷ []);
-        taken = (first, (subst (λ ns. IsTaken tapes (q.question ∷ []) ns answers) (sym same) second, tt));
+        taken = (first, (subst (λ ns. IsStepTaken tapes (q.question ∷ []) ns answers) (sym same) second, tt));
         come = both_come nodes asks answers same still;
       } in
       let rest = arrived_walk q.answer q.answer nodes asker q.before q.after q.unheard q.asker_at (λ m is. is) q.receives in

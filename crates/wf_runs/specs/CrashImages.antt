@@ -3,7 +3,7 @@
 use Rattle.std.specs.Prelude.{◌≡◌, ℕ, true, false, List}
 use Rattle.wf_career.specs.Run.{Input, Run, last, Between, Failed, HasLeft, IsRun}
 use Rattle.wf_def.specs.Definition.{Definition}
-use Rattle.wf_disk.specs.Folder.{Folder, bytes_in, IsEnded}
+use Rattle.wf_disk.specs.Folder.{Folder, bytes_in, IsProcessEnded}
 use Rattle.wf_disk.specs.declared.disk.Disk.{Ghosts as Disk}
 use Rattle.wf_journal.specs.Journal.{Follows, ReadsSame}
 use Rattle.wf_model.specs.DurableState.{DurableState}
@@ -30,10 +30,10 @@ ShorteningReadsAlike {T} tapes = (old new : T) (stored : DurableState Definition
 -- its tape, as after each call of the node.
 abbrev pub DiskLeavesBetween : {D : Type 0} → Disk D → Type 0
 DiskLeavesBetween {D} disks = (run : Run (DiskTape D)) (folder : Folder) → (last run).halted ≡ false → AllStandFor (stored_of (last run)) (images_of disks (last run).tape.disk) →
-    IsEnded (disks.folder (last run).tape.disk) folder → HasLeft run Between (bytes_in folder.own)
+    IsProcessEnded (disks.folder (last run).tape.disk) folder → HasLeft run Between (bytes_in folder.own)
 
 -- It ends after the node's tape has failed, within the step of some input.
 abbrev pub DiskLeavesFailed : {D : Type 0} → Disk D → Tape (DiskTape D) → Type 0
 DiskLeavesFailed {D} disks tapes = tapes.durable → (n i : ℕ) (bytes : List ℕ) (run : Run (DiskTape D)) (folder : Folder) → IsRun tapes n i bytes run → (last run).halted ≡ true →
-    ((image : List ℕ) → images_of disks (last run).tape.disk image → tapes.images (last run).tape image) → IsEnded (disks.folder (last run).tape.disk) folder →
+    ((image : List ℕ) → images_of disks (last run).tape.disk image → tapes.images (last run).tape image) → IsProcessEnded (disks.folder (last run).tape.disk) folder →
     (input : Input) × HasLeft run (Failed input) (bytes_in folder.own)

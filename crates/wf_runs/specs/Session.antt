@@ -53,7 +53,7 @@ run_at i first session = record { first = first; acts = acts_at i session.steps 
 
 module _ {T : Type 0} (tapes : Tape T) where
   -- One of the nodes did what a step promises. A message that was delivered to it is one of these.
-  pub record IsTaken (sent : List Message) (nodes : List (Node T)) (step : Step T) : Type 0 where
+  pub record IsStepTaken (sent : List Message) (nodes : List (Node T)) (step : Step T) : Type 0 where
     pub before : Node T
     pub at : slice_get nodes step.node_index ≡ Some before
     pub is : IsAct tapes before step.act
@@ -63,4 +63,4 @@ module _ {T : Type 0} (tapes : Tape T) where
   -- these, or an earlier step returned it.
   abbrev pub AreTaken : List Message → List (Node T) → List (Step T) → Type 0
   AreTaken sent nodes [] = ⊤
-  AreTaken sent nodes (step ∷ steps) = IsTaken sent nodes step × AreTaken (sent ++ step.act.outputs) (stepped nodes step) steps
+  AreTaken sent nodes (step ∷ steps) = IsStepTaken sent nodes step × AreTaken (sent ++ step.act.outputs) (stepped nodes step) steps

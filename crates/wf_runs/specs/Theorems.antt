@@ -80,11 +80,11 @@ module _ {T : Type 0} (tapes : Tape T) where
 
   -- The response was written to a connection, all of it or a first part, and it was to such a
   -- request.
-  abbrev pub IsReply : (input old new : Option (List ℕ)) (before after : Node T) (outputs : Vec Message Global) (got : Outcome) → IsOutcome tapes input old new before outputs after got → List ℕ → Response → Type 0
-  IsReply input old new before after outputs (outcome.Sent status count) sends query response = (sends.response ≡ response) × IsQueryTo sends.responds.arrived query
-  IsReply input old new before after outputs (outcome.WriteFailed status count) sends query response = (sends.response ≡ response) × IsQueryTo sends.responds.arrived query
-  IsReply input old new before after outputs outcome.ReadFailed sends query response = ⊥
-  IsReply input old new before after outputs outcome.NoRequest sends query response = ⊥
+  abbrev pub IsReplyToQuery : (input old new : Option (List ℕ)) (before after : Node T) (outputs : Vec Message Global) (got : Outcome) → IsOutcome tapes input old new before outputs after got → List ℕ → Response → Type 0
+  IsReplyToQuery input old new before after outputs (outcome.Sent status count) sends query response = (sends.response ≡ response) × IsQueryTo sends.responds.arrived query
+  IsReplyToQuery input old new before after outputs (outcome.WriteFailed status count) sends query response = (sends.response ≡ response) × IsQueryTo sends.responds.arrived query
+  IsReplyToQuery input old new before after outputs outcome.ReadFailed sends query response = ⊥
+  IsReplyToQuery input old new before after outputs outcome.NoRequest sends query response = ⊥
 
   -- The client of a connection, which the node at an index served, got that response to that query.
   pub record HasGot (nodes : List (Node T)) (query : List ℕ) (response : Response) : Type 0 where
@@ -96,7 +96,7 @@ module _ {T : Type 0} (tapes : Tape T) where
     pub served : List (Node T)
     pub outcome : Outcome
     pub connection : IsServedAt tapes node_index input old new nodes outputs served outcome
-    pub reply : IsReply input old new connection.before connection.after outputs outcome connection.served query response
+    pub reply : IsReplyToQuery input old new connection.before connection.after outputs outcome connection.served query response
 
 -- Two nodes, or one at two moments, respond to equal queries with equal bytes, if neither responds
 -- that an allocation failed (503).

@@ -12,8 +12,8 @@ is_memory (script.BadLine line) = false
 is_memory (script.OverLimit line) = false
 is_memory (script.BadMap line) = false
 
-abbrev pub IsMemory : ScriptFault → Type 0
-IsMemory fault = is_memory fault ≡ true
+abbrev pub IsScriptMemory : ScriptFault → Type 0
+IsScriptMemory fault = is_memory fault ≡ true
 
 -- the error of a line, as the error of the script at the line of that number
 abbrev pub fault_of : Wrong → ℕ → ScriptFault

@@ -7,16 +7,21 @@
 //! digits.
 //!
 //! ```text
-//! map NAME, lines, endmap                names a map definition; NAME is 1 to 32 letters and digits
+//! map NAME, lines, endmap                names a map definition; NAME is 1 to 32 letters and
+//!                                        digits
 //! propose I NAME, retry I, catchup I     a step of node I
 //! deliver I K ..                         message K to node I, for each K in turn
-//! cut I K B                              message K is cut off on its way to node I after B bytes: no event
+//! cut I K B                              message K is cut off on its way to node I after B bytes:
+//!                                        no event
 //! stop I, restart I                      node I stops, or comes back
-//! torn I before E, torn I after E        node I crashes within E: propose NAME, retry, catchup or deliver K
-//! pump, pump I ..                        messages that aren't pumped yet go to each node, or to those named
+//! torn I before E, torn I after E        node I crashes within E: propose NAME, retry, catchup or
+//!                                        deliver K
+//! pump, pump I ..                        messages that aren't pumped yet go to each node, or to
+//!                                        those named
 //! skip                                   all messages so far count as pumped
 //! published, sent, proposal I, definition I S, same
-//! get I QUERY                            what the map service of node I answers to a client: its kind and size
+//! get I QUERY                            what the map service of node I answers to a client: its
+//!                                        kind and size
 //! equal I J QUERY                        whether nodes I and J answer the same; QUERY is one word
 //! ```
 //!

@@ -142,7 +142,8 @@ impl Script {
 #[tactic(auto, using(crate::proofs::Faults::at_line_of))]
 fn read_lines(alloc: Global, bytes: &[u8]) -> Result<Script, ScriptFault>
     requires { length (lines bytes.now) ≤ most_lines }
-    ensures value { ReportsWithLine (λ s. s) result (script (record { number = 0; left = lines bytes.now })) }
+    ensures value { ReportsWithLine (λ s. s) result
+        (script (record { number = 0; left = lines bytes.now })) }
     ensures at { IfErr result (IsAtLine (length (lines bytes.now))) }
 {
     let mut lines = Lines::new(bytes);

@@ -11,7 +11,7 @@ use Rattle.wf_delivery.specs.Reachability.{AreFresh}
 use Rattle.wf_publication.specs.Publication.{AllPublish, PublishedOnAll}
 use Rattle.wf_node.specs.Growth.{IsGrown}
 use Rattle.wf_node.specs.Node.{Node}
-use Rattle.wf_serve.specs.Connections.{HaveCome, IsAnswered, MayBeAnswered}
+use Rattle.wf_serve.specs.Connections.{HaveCome, IsConnectionAnswered, MayBeAnswered}
 use Rattle.wf_serve.specs.First.{FirstIsPublished, IfAccepted}
 use Rattle.wf_serve.specs.Publication.{HavePublishedTheMap}
 use Rattle.wf_serve.specs.ConnectionEffect.{IsRetried}
@@ -46,7 +46,7 @@ module _ {T : Type 0} (tapes : Tape T) (catches : CatchUpIsReachable tapes) wher
   retry_keeps node_index arrived after turns (inl anew) = asked_turn tapes node_index Retry tt arrived after turns anew.anew
   retry_keeps node_index arrived after turns (inr rests) = subst (KeepTurn arrived) (sym rests.1) (keeps_turn_itself arrived)
 
-  answer_keeps : (node_index : ℕ) (nodes after : List (Node T)) → StandInTurn nodes → IsAnswered tapes node_index nodes after → KeepTurn nodes after
+  answer_keeps : (node_index : ℕ) (nodes after : List (Node T)) → StandInTurn nodes → IsConnectionAnswered tapes node_index nodes after → KeepTurn nodes after
   answer_keeps node_index nodes after turns answered =
       let c = answered.connection in
       let reachable = moved_reaches tapes nodes node_index c.request.before c.request.after c.request.changed.was turns c.outputs c.request.moves in

@@ -13,7 +13,7 @@ use Rattle.wf_edge.specs.declared.status.Status as status
 use Rattle.wf_http.specs.declared.fault.RequestFault.{RequestFault}
 use Rattle.wf_node.specs.Node.{Node}
 use Rattle.wf_serve.specs.CacheSet.{IsCachedAt}
-use Rattle.wf_serve.specs.NodeRequest.{IsResponse, no_deliveries}
+use Rattle.wf_serve.specs.NodeRequest.{IsResponseToRead, no_deliveries}
 use Rattle.wf_serve.specs.declared.connection_effect.ConnectionOutcome.{ConnectionOutcome}
 use Rattle.wf_stream.specs.declared.stream.Sink.{Ghosts as Sink}
 use Rattle.wf_tape.specs.declared.tape.Tape.{Ghosts as Tape}
@@ -33,9 +33,9 @@ still_cached {T} nodes node_index node history cache at same cached = λ other t
 pub read_response : {T K : Type 0} (tapes : Tape T) (sinks : Sink K) (node_index : ℕ) (arrived : Result Request RequestFault) (sink sink_after : K) (nodes : List (Node T)) (outcome : ConnectionOutcome)
     (request : Request) (node : Node T) (history : List Definition) (shown : status.Status) (answer : Outcome) →
     arrived ≡ Ok request → slice_get nodes node_index ≡ Some node → history ≡ node.parts.history → shown ≡ status_at node → IsReadAnswered sinks request history shown sink sink_after answer →
-    outcome.request ≡ answer → outcome.deliveries ≡ no_deliveries → IsResponse tapes sinks node_index arrived sink sink_after nodes outcome nodes
+    outcome.request ≡ answer → outcome.deliveries ≡ no_deliveries → IsResponseToRead tapes sinks node_index arrived sink sink_after nodes outcome nodes
 read_response tapes sinks node_index arrived sink sink_after nodes outcome request node history shown answer received at same_history same_status read is quiet =
-    subst (λ (a : Result Request RequestFault). IsResponse tapes sinks node_index a sink sink_after nodes outcome nodes) (sym received)
+    subst (λ (a : Result Request RequestFault). IsResponseToRead tapes sinks node_index a sink sink_after nodes outcome nodes) (sym received)
     (inl (
       record {
         node = node;

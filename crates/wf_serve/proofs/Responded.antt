@@ -16,7 +16,7 @@ use Rattle.wf_http.specs.Front.{CountsReads}
 use Rattle.wf_http.specs.declared.fault.RequestFault.{RequestFault}
 use Rattle.wf_node.specs.Node.{Node}
 use Rattle.wf_serve.specs.ConnectionEffect.{EndsWriting, IsServedAndArrived}
-use Rattle.wf_serve.specs.NodeRequest.{IsAnsweredAt, IsReadAt, IsRejected, IsReply, IsResponse, no_deliveries}
+use Rattle.wf_serve.specs.NodeRequest.{IsAnsweredAt, IsReadAt, IsRequestRejected, IsReplyToRequest, IsResponseToRead, no_deliveries}
 use Rattle.wf_serve.specs.declared.connection_effect.ConnectionOutcome.{ConnectionOutcome}
 use Rattle.wf_serve.proofs.Ended.{ends}
 use Rattle.wf_serve.proofs.Exchanged.{nothing_arrived}
@@ -81,18 +81,18 @@ module _ {T K S : Type 0} (tapes : Tape T) (sinks : Sink K) (sources : Source S)
         (read_served tapes sinks request sink sink_after is.node is.node.parts.history (status_at is.node) outcome.request refl refl is.read none silent))
 
     replied_whole : (request : Request) → IfSome (sources.left source) (λ input. BeginsWith input request) → sources.failures source_after ≡ sources.failures source →
-        IsReply tapes sinks node_index request sink sink_after nodes outcome nodes_after → IsServedWhole
+        IsReplyToRequest tapes sinks node_index request sink sink_after nodes outcome nodes_after → IsServedWhole
     replied_whole request begins calm (inl read) = read_whole request begins calm read.1 read.2 read.0
     replied_whole request begins calm (inr answered) = answered_whole request begins calm answered
 
     rejected_whole : (node : Node T) → slice_get nodes node_index ≡ Some node → (why : RequestFault) → IfSome (sources.left source) (λ input. IsRequestFault input why) →
-        CountsReads {T = Request} (Err why) (sources.failures source) (sources.failures source_after) → IsRejected tapes sinks why sink sink_after nodes outcome nodes_after → IsServedWhole
+        CountsReads {T = Request} (Err why) (sources.failures source) (sources.failures source_after) → IsRequestRejected tapes sinks why sink sink_after nodes outcome nodes_after → IsServedWhole
     rejected_whole node at why is reads rejected =
         still_whole node at rejected.quiet rejected.same
         (fault_serves sources sinks tapes source source_after sink sink_after node why outcome.request is reads rejected.outputs rejected.writes rejected.last none silent)
 
     pub served_whole : (node : Node T) → slice_get nodes node_index ≡ Some node → (arrived : Result Request RequestFault) →
         IfOk arrived (λ request. IfSome (sources.left source) (λ input. BeginsWith input request)) → IfErr arrived (λ why. IfSome (sources.left source) (λ input. IsRequestFault input why)) →
-        CountsReads arrived (sources.failures source) (sources.failures source_after) → IsResponse tapes sinks node_index arrived sink sink_after nodes outcome nodes_after → IsServedWhole
+        CountsReads arrived (sources.failures source) (sources.failures source_after) → IsResponseToRead tapes sinks node_index arrived sink sink_after nodes outcome nodes_after → IsServedWhole
     served_whole node at (Ok request) begins fault reads responds = replied_whole request begins reads responds
     served_whole node at (Err why) begins fault reads responds = rejected_whole node at why fault reads responds

@@ -8,14 +8,14 @@ use Rattle.wf_node.specs.Images.{AllStandFor, StandsFor}
 use Rattle.wf_node.specs.Node.{Node, stored_of, volatile_of}
 use Rattle.wf_node.specs.OpenedNode.{IsFoldOf, IsRead}
 use Rattle.wf_serve.specs.OpenedNodes.{WasRead}
-use Rattle.wf_serve.specs.Compaction.{IsOpened, IsShort}
+use Rattle.wf_serve.specs.Compaction.{IsOpenOnTape, IsShort}
 use Rattle.wf_tape.specs.declared.tape.Tape.{Ghosts as Tape}
 
 -- a node that is unchanged but for its tape stands as it did when it opened
 pub opened_again : {T E : Type 0} (tapes : Tape T) (tape : T) (node : Node T) (result : Result (Node T × Bool) E) →
     node.halted ≡ false → volatile_of node ≡ at_start → (tapes.durable → IsFoldOf (stored_of node) (tapes.content tape)) →
     IfOk result (λ x. x.0 ≡ record node { tape = x.0.tape; failed = x.0.failed }) → (tapes.durable → IfOk result (λ x. IsShort tapes x.0 x.1)) →
-    (tapes.durable → IfOk result (λ x. AllStandFor (stored_of node) (tapes.images x.0.tape))) → IfOk result (λ x. IsOpened tapes tape x.0 x.1)
+    (tapes.durable → IfOk result (λ x. AllStandFor (stored_of node) (tapes.images x.0.tape))) → IfOk result (λ x. IsOpenOnTape tapes tape x.0 x.1)
 opened_again tapes tape node (Err e) running volatile stored same short stands = tt
 opened_again {T} tapes tape node (Ok (after, is_short)) running volatile stored same short stands =
     let part : stored_of after ≡ stored_of node = ap (λ (m : Node T). stored_of m) same in

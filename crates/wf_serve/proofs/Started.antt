@@ -7,7 +7,7 @@ use Rattle.wf_folder.specs.declared.admission.Start.{Start}
 use Rattle.wf_folder.specs.declared.farm_file.Beginning.{Beginning}
 use Rattle.wf_folder.specs.declared.farm_file.FarmFile.{FarmFile}
 use Rattle.wf_folder.specs.declared.presence.Presence.{Presence}
-use Rattle.wf_serve.specs.Start.{HaveOpened, IsMarkDrawn, IsFarmAdmitted, IsFarmBegun, IsFarmRejected, IsFarmStarted, IsFiled, IsStoppedAt, IsSurveyed, IsTapeOpened, IsTapeStopped, IsFarmUnwritten, IsWritten, is_early, tape_opens}
+use Rattle.wf_serve.specs.Start.{HaveOpened, IsMarkDrawn, IsFarmAdmitted, IsFarmBegun, IsFarmRejected, IsFarmStarted, IsFiled, IsStoppedAt, IsSurveyed, IsNodeTapeOpened, IsTapeStopped, IsFarmUnwritten, IsFarmWritten, is_early, tape_opens}
 use Rattle.wf_serve.specs.TapeCheck.{AreTapesChecked}
 use Rattle.wf_serve.specs.declared.event.Cause.{Cause}
 use Rattle.wf_serve.specs.declared.event.Cause.TheVariants.{Memory}
@@ -29,7 +29,7 @@ failed_change : (number : ℕ) (a b : List Call) → b ≡ failed_at (NodeTape n
 failed_change number a b is = ap changes is
 
 -- it was opened between two calls that changed nothing
-pub tape_opened : (number : ℕ) (old a b new : List Call) → OnlyReads old a → b ≡ opened (NodeTape number) ∷ a → OnlyReads b new → IsTapeOpened number old new
+pub tape_opened : (number : ℕ) (old a b new : List Call) → OnlyReads old a → b ≡ opened (NodeTape number) ∷ a → OnlyReads b new → IsNodeTapeOpened number old new
 tape_opened number old a b new first is second = record {
   after = after_both old a new first.after (after_both a b new (after_one (opened (NodeTape number)) a b is) second.after);
   changed = second.unchanged ∙ opened_change number a b is ∙ ap (λ (calls : List Call). opened (NodeTape number) ∷ calls) first.unchanged;
@@ -38,7 +38,7 @@ tape_opened number old a b new first is second = record {
 -- it was opened, but the node wasn't kept
 pub tape_kept : (number : ℕ) (cause : Cause) (old a b new : List Call) → OnlyReads old a → b ≡ opened (NodeTape number) ∷ a → OnlyReads b new → is_early cause ≡ false → IsTapeStopped number cause old new
 tape_kept number cause old a b new first is second late =
-    let whole : IsTapeOpened number old new = tape_opened number old a b new first is second in
+    let whole : IsNodeTapeOpened number old new = tape_opened number old a b new first is second in
     record { after = whole.after; changed = inr (inr whole.changed); late = late }
 
 -- it was opened, and failed then
@@ -71,7 +71,7 @@ one_more_change : (number : ℕ) (before middle new : List Call) → middle ≡ 
 unfolding tape_opens
 one_more_change number before middle new so is = is ∙ ap (λ (calls : List Call). opened (NodeTape number) ∷ calls) so
 
-pub one_more_opened : (number : ℕ) (old middle new : List Call) → HaveOpened number old middle → IsTapeOpened number middle new → HaveOpened (number + 1) old new
+pub one_more_opened : (number : ℕ) (old middle new : List Call) → HaveOpened number old middle → IsNodeTapeOpened number middle new → HaveOpened (number + 1) old new
 one_more_opened number old middle new have more =
     let same : suc number ≡ number + 1 = omega arith in
     subst (λ (n : ℕ). HaveOpened n old new) same (record {
@@ -115,7 +115,7 @@ no_text calls = record { left = inl refl; late = refl }
 pub not_written : (cause : Cause) (old new : List Call) → new ≡ failed_at Farm ∷ old → is_early cause ≡ false → IsFarmUnwritten cause old new
 not_written cause old new is late = record { left = inr is; late = late }
 
-pub written_last : (n : ℕ) (file : FarmFile) (old before new : List Call) → HaveOpened n old before → new ≡ replaced Farm (farm_text file) ∷ before → IsWritten n file old new
+pub written_last : (n : ℕ) (file : FarmFile) (old before new : List Call) → HaveOpened n old before → new ≡ replaced Farm (farm_text file) ∷ before → IsFarmWritten n file old new
 written_last n file old before new opened is = record { before = before; opened = opened; written = is }
 
 left_after : (before new : List Call) → (new ≡ before) ⊎ (new ≡ failed_at Farm ∷ before) → IsAfter before new
@@ -197,6 +197,6 @@ admitted n (Err cause) survey tapes start old checked new same were begun = tt
 
 -- with a mark that was drawn
 pub filed : {A : Type 0} (n : ℕ) (result : Result A Cause) (beginning : Beginning) (file : FarmFile) (old marked new : List Call) → IsMarkDrawn n beginning file old marked →
-    OnOk result (IsWritten n file marked new) → OnOk result (IsFiled n beginning old new)
+    OnOk result (IsFarmWritten n file marked new) → OnOk result (IsFiled n beginning old new)
 filed n (Ok x) beginning file old marked new drawn written = record { file = file; marked = marked; drawn = drawn; written = written }
 filed n (Err cause) beginning file old marked new drawn written = tt

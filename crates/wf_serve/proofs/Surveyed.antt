@@ -7,7 +7,7 @@ use Rattle.wf_folder.specs.declared.admission.FoundFile.{FoundFile}
 use Rattle.wf_folder.specs.declared.admission.FoundFile.TheVariants as finds
 use Rattle.wf_folder.specs.declared.presence.Presence.{Presence}
 use Rattle.wf_folder.specs.declared.presence.Presence.TheVariants.{Absent}
-use Rattle.wf_serve.specs.Start.{HasFound, IsFarmFound, IsSurveyed, looks}
+use Rattle.wf_serve.specs.Start.{HasFound, IsFarmFileFound, IsSurveyed, looks}
 use Rattle.wf_serve.specs.declared.survey.Survey.{Survey}
 use Rattle.wf_store.specs.Call.{Call, read, seen}
 use Rattle.wf_store.specs.declared.file_name.FileName.TheVariants.{Farm, NodeTape}
@@ -17,8 +17,8 @@ use Rattle.wf_store.specs.declared.file_name.FileName.TheVariants.{Farm, NodeTap
 pub none_found : (old new : List Call) → new ≡ read Farm None ∷ old → HasFound finds.Nothing old new
 none_found old new is = record { bytes = None; says = tt; calls = is }
 
-pub one_found : (found : FoundFile) (bytes text : List ℕ) (old new : List Call) → text ≡ bytes → new ≡ read Farm (Some bytes) ∷ old → IsFarmFound (Some text) found → HasFound found old new
-one_found found bytes text old new same is says = record { bytes = Some bytes; says = subst (λ (t : List ℕ). IsFarmFound (Some t) found) same says; calls = is }
+pub one_found : (found : FoundFile) (bytes text : List ℕ) (old new : List Call) → text ≡ bytes → new ≡ read Farm (Some bytes) ∷ old → IsFarmFileFound (Some text) found → HasFound found old new
+one_found found bytes text old new same is says = record { bytes = Some bytes; says = subst (λ (t : List ℕ). IsFarmFileFound (Some t) found) same says; calls = is }
 
 -- ---- the tapes
 

@@ -18,13 +18,13 @@ module _ {T : Type 0} (tapes : Tape T) where
 
   -- What is left of a tape on which no node is open: each image reads as the records of one from
   -- before, or stands for what the tape's records fold to.
-  abbrev pub IsLeft : T → T → Type 0
-  IsLeft tape left = Follows ReadsSame (tapes.images tape) (tapes.images left)
+  abbrev pub IsTapeLeft : T → T → Type 0
+  IsTapeLeft tape left = Follows ReadsSame (tapes.images tape) (tapes.images left)
       ⊎ ((stored : DurableState Definition) × IsFoldOf stored (tapes.content tape) × AllStandFor stored (tapes.images left))
 
   -- The node is open on the tape, with what its records fold to, no proposal and no leadership.
   -- Whether it is shortened or not, every image of a durable tape stands for that.
-  pub record IsOpened (tape : T) (node : Node T) (is_short : Bool) : Type 0 where
+  pub record IsOpenOnTape (tape : T) (node : Node T) (is_short : Bool) : Type 0 where
     pub running : node.halted ≡ false
     pub volatile : volatile_of node ≡ at_start
     pub stored : tapes.durable → IsFoldOf (stored_of node) (tapes.content tape)

@@ -99,13 +99,13 @@ module _ {T : Type 0} (tapes : Tape T) where
 
   -- The proposal of the node at index `node_index` was running; the node was asked to restart it,
   -- and its messages were delivered.
-  pub record IsBegunAnew (node_index : ℕ) (nodes nodes_after : List (Node T)) : Type 0 where
+  pub record IsProposalBegunAnew (node_index : ℕ) (nodes nodes_after : List (Node T)) : Type 0 where
     pub runs : ProposesAt node_index nodes
     pub anew : IsAskedAndArrived node_index Retry nodes nodes_after
 
   -- A running proposal was restarted; if none was running, nothing happened.
   abbrev pub IsRetried : ℕ → List (Node T) → List (Node T) → Type 0
-  IsRetried node_index nodes nodes_after = IsBegunAnew node_index nodes nodes_after ⊎ (RestsAt node_index nodes × (nodes_after ≡ nodes))
+  IsRetried node_index nodes nodes_after = IsProposalBegunAnew node_index nodes nodes_after ⊎ (RestsAt node_index nodes × (nodes_after ≡ nodes))
 
   -- The effect of one connection: a request was served by the node at index `node_index`, its
   -- messages were delivered, and its proposal was restarted if it was still running. Then the nodes

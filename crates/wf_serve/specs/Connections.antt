@@ -9,7 +9,7 @@ use Rattle.wf_tape.specs.declared.tape.Tape.{Ghosts as Tape}
 module _ {T : Type 0} (tapes : Tape T) where
   -- One connection was served by the node at index `node_index`, whatever was received and sent on
   -- it.
-  pub record IsAnswered (node_index : ℕ) (nodes nodes_after : List (Node T)) : Type 0 where
+  pub record IsConnectionAnswered (node_index : ℕ) (nodes nodes_after : List (Node T)) : Type 0 where
     -- what was received, and what was written before and after, if known
     pub input : Option (List ℕ)
     pub written : Option (List ℕ)
@@ -19,7 +19,7 @@ module _ {T : Type 0} (tapes : Tape T) where
 
   -- It was served so; or it couldn't be accepted, and nothing happened.
   abbrev pub MayBeAnswered : ℕ → List (Node T) → List (Node T) → Type 0
-  MayBeAnswered node_index nodes nodes_after = IsAnswered node_index nodes nodes_after ⊎ (nodes_after ≡ nodes)
+  MayBeAnswered node_index nodes nodes_after = IsConnectionAnswered node_index nodes nodes_after ⊎ (nodes_after ≡ nodes)
 
   -- This many connections were served by `count` nodes, each by the one whose turn it was.
   unfoldable pub HaveCome : ℕ → ℕ → List (Node T) → List (Node T) → Type 0

@@ -45,14 +45,14 @@ module _ {T K : Type 0} (tapes : Tape T) (sinks : Sink K) where
     pub stopped : receiving.stopped ≡ pumped.stopped
 
   -- the reply to a request: one that only reads, which leaves the nodes as they are, or a publish
-  abbrev pub IsReply : ℕ → Request → K → K → List (Node T) → ConnectionOutcome → List (Node T) → Type 0
-  IsReply node_index request sink sink_after nodes outcome nodes_after =
+  abbrev pub IsReplyToRequest : ℕ → Request → K → K → List (Node T) → ConnectionOutcome → List (Node T) → Type 0
+  IsReplyToRequest node_index request sink sink_after nodes outcome nodes_after =
       (IsReadAt node_index request sink sink_after nodes outcome.request × (outcome.deliveries ≡ no_deliveries) × (nodes_after ≡ nodes))
       ⊎ IsAnsweredAt node_index request sink sink_after nodes outcome.request outcome.deliveries nodes_after
 
   -- There is no request, for a reason. Its rejection was written, or nothing, and the nodes are as
   -- they were.
-  pub record IsRejected (why : RequestFault) (sink sink_after : K) (nodes : List (Node T)) (outcome : ConnectionOutcome) (nodes_after : List (Node T)) : Type 0 where
+  pub record IsRequestRejected (why : RequestFault) (sink sink_after : K) (nodes : List (Node T)) (outcome : ConnectionOutcome) (nodes_after : List (Node T)) : Type 0 where
     pub outputs : IsErrorCompleted why (sinks.written sink) (sinks.written sink_after) outcome.request
     pub writes : CountsCompleting outcome.request (sinks.failures sink) (sinks.failures sink_after)
     pub last : IsFaultEnded sinks why sink sink_after outcome.request
@@ -60,6 +60,6 @@ module _ {T K : Type 0} (tapes : Tape T) (sinks : Sink K) where
     pub same : nodes_after ≡ nodes
 
   -- the response to what was read
-  abbrev pub IsResponse : ℕ → Result Request RequestFault → K → K → List (Node T) → ConnectionOutcome → List (Node T) → Type 0
-  IsResponse node_index (Ok request) sink sink_after nodes outcome nodes_after = IsReply node_index request sink sink_after nodes outcome nodes_after
-  IsResponse node_index (Err why) sink sink_after nodes outcome nodes_after = IsRejected why sink sink_after nodes outcome nodes_after
+  abbrev pub IsResponseToRead : ℕ → Result Request RequestFault → K → K → List (Node T) → ConnectionOutcome → List (Node T) → Type 0
+  IsResponseToRead node_index (Ok request) sink sink_after nodes outcome nodes_after = IsReplyToRequest node_index request sink sink_after nodes outcome nodes_after
+  IsResponseToRead node_index (Err why) sink sink_after nodes outcome nodes_after = IsRequestRejected why sink sink_after nodes outcome nodes_after

@@ -28,10 +28,10 @@ pub record IsPortFor (asked port : ℕ) : Type 0 where
   pub most : port ≤ last_port
 
 -- the bytes were written, or a prefix of them if the writer failed
-abbrev pub IsWriting : List ℕ → Option (List ℕ) → Option (List ℕ) → Result (Unit {0}) ServeFault → Type 0
-IsWriting bytes old new (Ok done) = Appends old new bytes
-IsWriting bytes old new (Err faults.Write) = (count : ℕ) × Appends old new (take count bytes)
-IsWriting bytes old new (Err faults.Start) = ⊥
+abbrev pub IsWritingBytes : List ℕ → Option (List ℕ) → Option (List ℕ) → Result (Unit {0}) ServeFault → Type 0
+IsWritingBytes bytes old new (Ok done) = Appends old new bytes
+IsWritingBytes bytes old new (Err faults.Write) = (count : ℕ) × Appends old new (take count bytes)
+IsWritingBytes bytes old new (Err faults.Start) = ⊥
 
 -- What is written by the time that the nodes are served no more: the line with such a port, or a
 -- prefix of it if the writer failed; nothing if they didn't start.
@@ -50,14 +50,14 @@ module _ {K : Type 0} (sinks : Sink K) where
   HasEnded bytes old new (Err faults.Start) = ⊥
 
   -- Of the line with such a port. If the nodes didn't start, the writer isn't called.
-  abbrev pub IsEnded : {A : Type 0} → ℕ → K → K → Result A ServeFault → Type 0
-  IsEnded asked old new (Ok done) = Unit {0}
-  IsEnded asked old new (Err faults.Write) = (port : ℕ) × IsPortFor asked port × ((count : ℕ) × EndsByFailing sinks.written sinks.failures sinks.fails (take count (port_line port)) old new)
-  IsEnded asked old new (Err faults.Start) = new ≡ old
+  abbrev pub IsPortLineEnded : {A : Type 0} → ℕ → K → K → Result A ServeFault → Type 0
+  IsPortLineEnded asked old new (Ok done) = Unit {0}
+  IsPortLineEnded asked old new (Err faults.Write) = (port : ℕ) × IsPortFor asked port × ((count : ℕ) × EndsByFailing sinks.written sinks.failures sinks.fails (take count (port_line port)) old new)
+  IsPortLineEnded asked old new (Err faults.Start) = new ≡ old
 
   -- for the crate's own contracts: what is written of that line, whether a write failed, and how
   -- the writing ended
   pub record PrintsPort {A : Type 0} (asked : ℕ) (old new : K) (result : Result A ServeFault) : Type 0 where
     pub reported : IsPrinted asked (sinks.written old) (sinks.written new) result
     pub writes : CountsWrites result (sinks.failures old) (sinks.failures new)
-    pub ended : IsEnded asked old new result
+    pub ended : IsPortLineEnded asked old new result

@@ -21,18 +21,18 @@ use Rattle.wf_store.specs.declared.file_name.FileName.TheVariants.{Farm, NodeTap
 -- ---- what is in the folder
 
 -- what the bytes say that were read of the file `farm`, if it is there
-abbrev pub IsFarmFound : Option (List ℕ) → FoundFile → Type 0
-IsFarmFound None finds.Nothing = Unit {0}
-IsFarmFound None (finds.File file) = ⊥
-IsFarmFound None (finds.Bad fault) = ⊥
-IsFarmFound (Some bytes) finds.Nothing = ⊥
-IsFarmFound (Some bytes) (finds.File file) = IsFarmFile file × (bytes ≡ farm_text file)
-IsFarmFound (Some bytes) (finds.Bad fault) = (file : FarmFile) → IsFarmFile file → bytes ≢ farm_text file
+abbrev pub IsFarmFileFound : Option (List ℕ) → FoundFile → Type 0
+IsFarmFileFound None finds.Nothing = Unit {0}
+IsFarmFileFound None (finds.File file) = ⊥
+IsFarmFileFound None (finds.Bad fault) = ⊥
+IsFarmFileFound (Some bytes) finds.Nothing = ⊥
+IsFarmFileFound (Some bytes) (finds.File file) = IsFarmFile file × (bytes ≡ farm_text file)
+IsFarmFileFound (Some bytes) (finds.Bad fault) = (file : FarmFile) → IsFarmFile file → bytes ≢ farm_text file
 
 -- The file `farm` was read: this was found.
 pub record HasFound (found : FoundFile) (old new : List Call) : Type 0 where
   pub bytes : Option (List ℕ)
-  pub says : IsFarmFound bytes found
+  pub says : IsFarmFileFound bytes found
   pub calls : new ≡ read Farm bytes ∷ old
 
 -- whether the first tapes are there was seen in turn
@@ -67,7 +67,7 @@ pub record IsMarkDrawn (n : ℕ) (beginning : Beginning) (file : FarmFile) (old 
   pub mark : new ≡ drawn file.mark ∷ old
 
 -- The tapes of n nodes were opened, and then this file `farm` was written.
-pub record IsWritten (n : ℕ) (file : FarmFile) (old new : List Call) : Type 0 where
+pub record IsFarmWritten (n : ℕ) (file : FarmFile) (old new : List Call) : Type 0 where
   pub before : List Call
   pub opened : HaveOpened n old before
   pub written : new ≡ replaced Farm (farm_text file) ∷ before
@@ -77,7 +77,7 @@ pub record IsFiled (n : ℕ) (beginning : Beginning) (old new : List Call) : Typ
   pub file : FarmFile
   pub marked : List Call
   pub drawn : IsMarkDrawn n beginning file old marked
-  pub written : IsWritten n file marked new
+  pub written : IsFarmWritten n file marked new
 
 -- in a folder of the farm's own its tapes were opened; one that is new, or taken over, got its file
 -- too
@@ -132,7 +132,7 @@ HasNotServed n old new = IsFarmStarted n (locked ∷ old) new ⊎ ((cause : Caus
 -- ---- for the crate's own contracts
 
 -- The tape of a node was opened, and nothing else was changed.
-pub record IsTapeOpened (number : ℕ) (old new : List Call) : Type 0 where
+pub record IsNodeTapeOpened (number : ℕ) (old new : List Call) : Type 0 where
   pub after : IsAfter old new
   pub changed : changes new ≡ opened (NodeTape number) ∷ changes old
 

@@ -3,7 +3,7 @@ ghost use Rattle.std.specs.Prelude.{◌≡◌, ◌<◌, ◌≤◌, false, IfErr,
 ghost use Rattle.wf_node.specs.Images.{AllStandFor};
 ghost use Rattle.wf_node.specs.Node.{stored_of};
 ghost use Rattle.wf_serve.specs.OpenedNodes.{WasRead};
-ghost use Rattle.wf_serve.specs.Compaction.{IsLeft, IsOpened, IsShort};
+ghost use Rattle.wf_serve.specs.Compaction.{IsTapeLeft, IsOpenOnTape, IsShort};
 
 use std::alloc::Global;
 use wf_ballot::NodeId;
@@ -25,9 +25,9 @@ pub fn open_shortened<T: Tape>(
     requires member { id < n }
     ensures id { IfOk result (λ x. x.0.id ≡ id) }
     ensures n { IfOk result (λ x. x.0.n ≡ n) }
-    ensures opened { IfOk result (λ x. IsOpened T.Tape tape x.0 x.1) }
+    ensures opened { IfOk result (λ x. IsOpenOnTape T.Tape tape x.0 x.1) }
     ensures read { IfOk result (λ x. WasRead x.0) }
-    ensures left { T.durable → IfErr result (IsLeft T.Tape tape) }
+    ensures left { T.durable → IfErr result (IsTapeLeft T.Tape tape) }
 {
     match Node::open(alloc, tape, id, n) {
         Ok(node) => shorten(alloc, node),

@@ -12,7 +12,7 @@ ghost use Rattle.wf_serve.specs.Agreement.{AgreeStill, HaveGoneOn};
 ghost use Rattle.wf_serve.specs.CacheSet.{AreCached, IsCachedAt, KeepRoom};
 ghost use Rattle.wf_serve.specs.Publication.{AcceptedMeansPublished};
 ghost use Rattle.wf_serve.specs.ConnectionEffect.{EndsWriting, HaveCaughtUp, IsAskedAndArrived, IsConnection, IsRetried, RestsAt, ProposesAt};
-ghost use Rattle.wf_serve.specs.NodeRequest.{IsAnsweredAt, IsResponse, no_deliveries};
+ghost use Rattle.wf_serve.specs.NodeRequest.{IsAnsweredAt, IsResponseToRead, no_deliveries};
 ghost use Rattle.wf_model.specs.Table.{Retry};
 
 use crate::node_request::{Publishing, Restart};
@@ -127,7 +127,7 @@ fn respond<K: Sink, T: Tape>(
     requires within { node_index < size farm.old }
     requires running { AllRun farm.old.hosts }
     requires cached { IsCachedAt (nodes_in farm.old) node_index cache.old }
-    ensures responds { IsResponse T.Tape K.Sink node_index arrived.now sink.old sink.new
+    ensures responds { IsResponseToRead T.Tape K.Sink node_index arrived.now sink.old sink.new
         (nodes_in farm.old) result (nodes_in farm.new) }
     ensures reachable { AreReachableFrom T.Tape (nodes_in farm.old) (nodes_in farm.new) }
     ensures running { AllRun farm.new.hosts }
@@ -260,7 +260,8 @@ fn runs<T: Tape>(node: &Node<T>) -> bool
 fn restart<T: Tape>(alloc: Global, farm: &mut Farm<T>, node_index: usize)
     requires within { node_index < size farm.old }
     requires running { AllRun farm.old.hosts }
-    ensures arrived { IsAskedAndArrived T.Tape node_index Retry (nodes_in farm.old) (nodes_in farm.new) }
+    ensures arrived { IsAskedAndArrived T.Tape node_index Retry (nodes_in farm.old)
+        (nodes_in farm.new) }
     ensures reachable { AreReachableFrom T.Tape (nodes_in farm.old) (nodes_in farm.new) }
     ensures running { AllRun farm.new.hosts }
 {

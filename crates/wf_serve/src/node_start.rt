@@ -5,7 +5,7 @@ ghost use Rattle.wf_farm.specs.Nodes.{AllRun, nodes_in};
 ghost use Rattle.wf_folder.specs.Admission.{IsStart};
 ghost use Rattle.wf_folder.specs.FarmFile.{IsFarmFile, farm_text};
 ghost use Rattle.wf_serve.specs.OpenedNodes.{AreOpened, WasRead, WereRead};
-ghost use Rattle.wf_serve.specs.Start.{HaveOpened, IsMarkDrawn, IsFarmAdmitted, IsFarmBegun, IsFarmRejected, IsFarmStarted, IsFiled, IsTapeOpened, IsTapeStopped, IsFarmUnwritten, IsWritten};
+ghost use Rattle.wf_serve.specs.Start.{HaveOpened, IsMarkDrawn, IsFarmAdmitted, IsFarmBegun, IsFarmRejected, IsFarmStarted, IsFiled, IsNodeTapeOpened, IsTapeStopped, IsFarmUnwritten, IsFarmWritten};
 ghost use Rattle.wf_store.specs.Call.{OnlyReads, locked, replaced};
 
 use crate::check::{cause_of_rejection, check_tapes};
@@ -198,7 +198,7 @@ fn open_with<R: Eprint + Clock, S: Store>(
     ensures running { IfOk result (λ farm. AllRun farm.hosts) }
     ensures read { IfOk result (λ farm. WereRead (nodes_in farm)) }
     ensures written { OnOk result
-        (IsWritten n file.now (S.calls store.old) (S.calls store.new)) }
+        (IsFarmWritten n file.now (S.calls store.old) (S.calls store.new)) }
     ensures rejected { IfErr result
         (λ cause. IsFarmRejected n cause (S.calls store.old) (S.calls store.new)) }
 {
@@ -291,7 +291,7 @@ fn open_tape<R: Eprint + Clock, S: Store>(
     requires opened { AreOpened n hosts.old.items }
     ensures opened { OnOk result (AreOpened n hosts.new.items) }
     ensures size { OnOk result (length hosts.new.items ≡ number + 1) }
-    ensures tape { OnOk result (IsTapeOpened number (S.calls store.old) (S.calls store.new)) }
+    ensures tape { OnOk result (IsNodeTapeOpened number (S.calls store.old) (S.calls store.new)) }
     ensures stopped { IfErr result
         (λ cause. IsTapeStopped number cause (S.calls store.old) (S.calls store.new)) }
 {
@@ -320,7 +320,7 @@ fn add_node<R: Eprint + Clock, S: Store>(
     requires opened { AreOpened n hosts.old.items }
     ensures opened { OnOk result (AreOpened n hosts.new.items) }
     ensures size { OnOk result (length hosts.new.items ≡ number + 1) }
-    ensures tape { OnOk result (IsTapeOpened number (S.calls store.old) (S.calls store.new)) }
+    ensures tape { OnOk result (IsNodeTapeOpened number (S.calls store.old) (S.calls store.new)) }
     ensures stopped { IfErr result
         (λ cause. IsTapeStopped number cause (S.calls store.old) (S.calls store.new)) }
 {

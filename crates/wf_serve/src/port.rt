@@ -3,7 +3,7 @@ ghost use Rattle.std.specs.Prelude.{◌≡◌, ◌≢◌, ◌≤◌, IfSome, Non
 ghost use Rattle.std.specs.Net.Socket.{socket_port};
 ghost use Rattle.std.specs.String.{string_bytes};
 ghost use Rattle.wf_serve.specs.StartFault.{CountsWrites};
-ghost use Rattle.wf_serve.specs.PortLine.{HasEnded, IsHere, IsPortFor, IsWriting, PrintsPort, port_line};
+ghost use Rattle.wf_serve.specs.PortLine.{HasEnded, IsHere, IsPortFor, IsWritingBytes, PrintsPort, port_line};
 
 use crate::fault::ServeFault;
 use std::alloc::Global;
@@ -78,7 +78,7 @@ fn line_of(alloc: Global, port: u16) -> Option<String>
 
 /// Writes all the bytes.
 fn put<K: Sink>(sink: &mut K, bytes: &[u8]) -> Result<(), ServeFault>
-    ensures written { IsWriting bytes.now (K.written sink.old) (K.written sink.new) result }
+    ensures written { IsWritingBytes bytes.now (K.written sink.old) (K.written sink.new) result }
     ensures writes { CountsWrites result (K.failures sink.old) (K.failures sink.new) }
     ensures last { HasEnded K.Sink bytes.now sink.old sink.new result }
 {

@@ -5,7 +5,7 @@ ghost use Rattle.wf_serve.specs.Agreement.{HaveGoneOn};
 ghost use Rattle.wf_serve.specs.CacheSet.{AreCached, HaveRoom};
 ghost use Rattle.wf_serve.specs.Connections.{IsServing};
 ghost use Rattle.wf_serve.specs.StartFault.{CountsWrites};
-ghost use Rattle.wf_serve.specs.PortLine.{IsEnded, IsPrinted, PrintsPort};
+ghost use Rattle.wf_serve.specs.PortLine.{IsPortLineEnded, IsPrinted, PrintsPort};
 ghost use Rattle.wf_serve.specs.Served.{HasServed, HaveServed, Served};
 ghost use Rattle.wf_serve.specs.Start.{HasNotServed, IsFarmStarted};
 ghost use Rattle.wf_service.specs.Service.{IsService};
@@ -56,9 +56,10 @@ pub fn serve<
     K: Sink,
 >(rt: &'a R, service: Service<'_>, sink: &mut K) -> Result<(), ServeFault>
     requires { IsService service }
-    ensures reported { IsPrinted service.entry.port (K.written sink.old) (K.written sink.new) result }
+    ensures reported { IsPrinted service.entry.port (K.written sink.old)
+        (K.written sink.new) result }
     ensures writes { CountsWrites result (K.failures sink.old) (K.failures sink.new) }
-    ensures last { IsEnded K.Sink service.entry.port sink.old sink.new result }
+    ensures last { IsPortLineEnded K.Sink service.entry.port sink.old sink.new result }
     ensures served { OnOk result (HasServed ⟦<MemoryTape as Tape>⟧ ⟦<FileTape<&'a R> as Tape>⟧
         service.entry) }
 {
@@ -98,9 +99,10 @@ pub fn serve_folder<R: Clock + Eprint + AllocGlobal, S: Store, K: Sink>(
 ) -> Result<(), ServeFault>
     requires service { IsService service }
     requires outside { S.Tape.Tape.durable → ⊥ }
-    ensures reported { IsPrinted service.entry.port (K.written sink.old) (K.written sink.new) result }
+    ensures reported { IsPrinted service.entry.port (K.written sink.old)
+        (K.written sink.new) result }
     ensures writes { CountsWrites result (K.failures sink.old) (K.failures sink.new) }
-    ensures last { IsEnded K.Sink service.entry.port sink.old sink.new result }
+    ensures last { IsPortLineEnded K.Sink service.entry.port sink.old sink.new result }
     ensures served { OnOk result (Served S.Tape.Tape service.entry) }
     ensures started { OnOk result
         (IsFarmStarted service.entry.nodes (locked ∷ S.calls store.old) (S.calls store.new)) }
@@ -162,9 +164,10 @@ pub fn serve_nodes<R: Clock + Eprint + AllocGlobal, K: Sink, T: Tape>(
 ) -> Result<(), ServeFault>
     requires service { IsService service }
     requires running { AllRun farm.old.hosts }
-    ensures reported { IsPrinted service.entry.port (K.written sink.old) (K.written sink.new) result }
+    ensures reported { IsPrinted service.entry.port (K.written sink.old)
+        (K.written sink.new) result }
     ensures writes { CountsWrites result (K.failures sink.old) (K.failures sink.new) }
-    ensures last { IsEnded K.Sink service.entry.port sink.old sink.new result }
+    ensures last { IsPortLineEnded K.Sink service.entry.port sink.old sink.new result }
     ensures serving { IsServing T.Tape service.entry.requests
         (nodes_in farm.old) result (nodes_in farm.new) }
     ensures served { OnOk result (HaveServed T.Tape service.entry.requests service.entry.cache

@@ -1,7 +1,7 @@
 //! What is in a farm's folder: its file `farm`, and its tapes.
 ghost use Rattle.std.specs.Prelude.{◌≡◌, ◌∷◌, Some, length, IfOk};
 ghost use Rattle.wf_folder.specs.declared.presence.Presence.TheVariants.{Absent};
-ghost use Rattle.wf_serve.specs.Start.{HasFound, IsFarmFound, IsSurveyed, looks};
+ghost use Rattle.wf_serve.specs.Start.{HasFound, IsFarmFileFound, IsSurveyed, looks};
 ghost use Rattle.wf_store.specs.Call.{OnlyReads, read, seen};
 ghost use Rattle.wf_store.specs.declared.file_name.FileName.TheVariants.{Farm, NodeTape};
 
@@ -91,7 +91,7 @@ fn find_farm<S: Store>(store: &mut S) -> Result<FoundFile, Cause>
 
 /// What a file with these bytes says.
 fn classify_file(bytes: &[u8]) -> FoundFile
-    ensures { IsFarmFound (Some bytes.now) result }
+    ensures { IsFarmFileFound (Some bytes.now) result }
 {
     match FarmFile::read(bytes) {
         Ok(file) => FoundFile::File(file),

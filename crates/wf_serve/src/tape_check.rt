@@ -52,7 +52,8 @@ impl TapeCheck {
     /// each is sound, and no two contradict each other.
     #[tactic(auto, using(crate::proofs::Taken::sound_or))]
     pub fn cause(&self) -> Option<Cause>
-        ensures { (tapes : List NumberedTape) → HasTakenTapes tapes self.now → AreSoundOr tapes result }
+        ensures { (tapes : List NumberedTape) → HasTakenTapes tapes self.now →
+            AreSoundOr tapes result }
     {
         self.cause
     }

@@ -1,6 +1,6 @@
 -- A pipe stays one: over bytes that are written, and over bytes that are read.
 use Rattle.std.proofs.Common.{◌≡◌, ◌∙◌, ℕ, ◌+◌, ◌-◌, ◌≤◌, List, [], ◌++◌, length, sym, ap, append_assoc, length-append, arith}
-use Rattle.wf_simulation.specs.Pipe.{IsBeginning, IsPipe}
+use Rattle.wf_simulation.specs.Pipe.{IsFrontOf, IsPipe}
 
 pub new_pipe : (sent came waiting : List ℕ) (limit : ℕ) → sent ≡ [] → came ≡ [] → waiting ≡ [] → IsPipe sent came waiting limit
 new_pipe sent came waiting limit no_sent no_came no_waiting = record {
@@ -22,5 +22,5 @@ was_read sent came waiting piece came' waiting' limit is front more = record {
   bounded = omega (arith, is.bounded, ap length front, length-append piece waiting');
 }
 
-pub carries : (sent came waiting : List ℕ) (limit : ℕ) → IsPipe sent came waiting limit → IsBeginning came sent
+pub carries : (sent came waiting : List ℕ) (limit : ℕ) → IsPipe sent came waiting limit → IsFrontOf came sent
 carries sent came waiting limit is = (waiting, is.order)

@@ -9,8 +9,8 @@ pub record PipeState : Type 0 where
   pub limit : ℕ
 
 -- the one list is the first part of the other, or all of it
-abbrev pub IsBeginning : List ℕ → List ℕ → Type 0
-IsBeginning front whole = (rest : List ℕ) × (front ++ rest ≡ whole)
+abbrev pub IsFrontOf : List ℕ → List ℕ → Type 0
+IsFrontOf front whole = (rest : List ℕ) × (front ++ rest ≡ whole)
 
 -- What was sent is what came, and then what waits; and no more waits than may.
 pub record IsPipe (sent came waiting : List ℕ) (limit : ℕ) : Type 0 where

@@ -74,7 +74,8 @@ impl Channel {
 
     /// Reads at an end.
     pub(crate) fn read(&mut self, side: Side, buf: &mut [u8], medium: &mut Medium) -> Moved
-        ensures came { (incoming side self.new).came ≡ (incoming side self.old).came ++ moved result buf.new }
+        ensures came { (incoming side self.new).came ≡
+            (incoming side self.old).came ++ moved result buf.new }
         ensures sent { (incoming side self.new).sent ≡ (incoming side self.old).sent }
         ensures other { KeepsBytes (outgoing side self.old) (outgoing side self.new) }
         ensures within { IsWithin (length buf.old) result }
@@ -88,7 +89,8 @@ impl Channel {
 
     /// Writes at an end. Before the connection is open nothing is taken.
     pub(crate) fn write(&mut self, side: Side, bytes: &[u8], medium: &mut Medium) -> Moved
-        ensures sent { (outgoing side self.new).sent ≡ (outgoing side self.old).sent ++ moved result bytes.now }
+        ensures sent { (outgoing side self.new).sent ≡
+            (outgoing side self.old).sent ++ moved result bytes.now }
         ensures came { (outgoing side self.new).came ≡ (outgoing side self.old).came }
         ensures other { KeepsBytes (incoming side self.old) (incoming side self.new) }
         ensures within { IsWithin (length bytes.now) result }

@@ -106,7 +106,8 @@ impl Flow {
     fn arrive(&mut self, back: &mut Flow, to: &mut Endpoint, medium: &mut Medium)
         ensures forth { KeepsBytes self.old.pipe self.new.pipe }
         ensures back { KeepsBytes back.old.pipe back.new.pipe }
-        ensures forgotten { to.old.is_forgotten ≡ true → self.old.has_reset ≡ false → IsReset back.new }
+        ensures forgotten { to.old.is_forgotten ≡ true → self.old.has_reset ≡ false →
+            IsReset back.new }
     {
         if medium.chance.happens(medium.faults.resets) {
             raise(&mut medium.counts.resets);

@@ -1,7 +1,7 @@
 //! One direction of a connection.
 ghost use Rattle.std.specs.Prelude.{◌≡◌, ◌≢◌, ◌-◌, ◌≤◌, ◌++◌, [], length, take};
 ghost use Rattle.wf_sockets.specs.Moved.{moved, IsNone, IsWithin};
-ghost use Rattle.wf_simulation.specs.Pipe.{IsBeginning, KeepsBytes};
+ghost use Rattle.wf_simulation.specs.Pipe.{IsFrontOf, KeepsBytes};
 
 use std::alloc::Global;
 use std::collections::VecDeque;
@@ -138,7 +138,7 @@ impl Pipe {
     /// or invented. The call does nothing.
     #[tactic(auto, using(crate::proofs::Pipes::carries))]
     pub fn always_carries(&self)
-        ensures { IsBeginning self.now.came self.now.sent }
+        ensures { IsFrontOf self.now.came self.now.sent }
     {
         let _ = &self.limit;
     }

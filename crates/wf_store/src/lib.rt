@@ -10,8 +10,8 @@
 //!
 //! **Model.** What a clause sees of any store is the list of its calls (`specs/Call.antt`): in
 //! which order they were made, what was read and what was written. `changes` of it are those that
-//! changed a file, or may have. [`read_file`], [`file_length`], [`is_folder`] and [`probe_file`] are
-//! about what is at any path.
+//! changed a file, or may have. [`read_file`], [`file_length`], [`is_folder`] and [`probe_file`]
+//! are about what is at any path.
 //!
 //! **Promises.** Each call is noted, with the bytes that were read or left, and an error is one of
 //! those that its call has, of the file that it was about (`specs/Fault.antt`); a call that reads

@@ -77,7 +77,8 @@ pub trait Store {
     /// The first bytes of a file, at most `limit`. None if there is no such file. Err: `Unread` or
     /// `Memory`.
     fn read(&mut self, file: FileName, limit: usize) -> Result<Option<Vec<u8>>, FolderFault>
-        ensures ok { IfOk result (λ found. calls self.new ≡ read file (bytes_of found) ∷ calls self.old) }
+        ensures ok { IfOk result (λ found. calls self.new ≡
+            read file (bytes_of found) ∷ calls self.old) }
         ensures reads { OnlyReads (calls self.old) (calls self.new) }
         ensures err { OnErr result (calls self.new ≡ failed ∷ calls self.old) }
         ensures cause { IfErr result (IsWhyUnread file) };

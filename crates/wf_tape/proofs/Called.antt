@@ -9,7 +9,7 @@ use Rattle.wf_tape.specs.declared.fault.TapeFault.TheVariants.{Device, Memory}
 use Rattle.wf_tape.specs.declared.memory.Fuse.{Fuse}
 use Rattle.wf_tape.specs.Fuse.{count_down, burn}
 use Rattle.wf_tape.specs.Tape.{Call, Read, Append, Sync, Replace, error_of, IsOnlyImage, IsUnchanged, LeavesNoOther, IsExtended, LeavesOldOr, LeavesOldOrCut, LeavesOldOrNew, Elapses, HasRisen, HasCause, IsNotMemory, last_count}
-use Rattle.wf_tape.specs.MemoryTape.{TapeValue, IsImageNow, IsLeftSince, state_of, moment_of, NeverFails, counted, risen, failed_once, appended, replaced, settled, done, cut_short, IsLeft, IsCalled}
+use Rattle.wf_tape.specs.MemoryTape.{TapeValue, IsImageNow, IsLeftSince, state_of, moment_of, NeverFails, counted, risen, failed_once, appended, replaced, settled, done, cut_short, IsLeftByCall, IsCalled}
 use Rattle.wf_tape.proofs.Images.{content_is_image, only_synced, sync_leaves, append_leaves, not_extended, unchanged}
 use Rattle.wf_tape.proofs.Noted.{time_changed, time_same, inside_changed, inside_same, inside_synced, inside_replaced, settled_same}
 
@@ -18,9 +18,9 @@ use Rattle.wf_tape.proofs.Noted.{time_changed, time_same, inside_changed, inside
 pub called_done : (call : Call) (old mid new : TapeValue) → burn old.fuse ≡ None → mid ≡ counted old → new ≡ done call mid → IsCalled call old None new
 unfolding IsCalled
 called_done call old mid new sound count is =
-    subst (λ (at : Option ℕ). IsLeft call at (counted old) None new) (sym sound) (is ∙ ap (done call) count)
+    subst (λ (at : Option ℕ). IsLeftByCall call at (counted old) None new) (sym sound) (is ∙ ap (done call) count)
 
-short_at : (call : Call) (at : Option ℕ) (tape after : TapeValue) → after ≡ tape → IsLeft call at tape (Some Memory) after
+short_at : (call : Call) (at : Option ℕ) (tape after : TapeValue) → after ≡ tape → IsLeftByCall call at tape (Some Memory) after
 short_at call None tape after is = is
 short_at call (Some kept) tape after is = is
 
@@ -32,8 +32,8 @@ pub called_cut : (call : Call) (kept : ℕ) (old mid left new : TapeValue) (faul
     IsCalled call old (Some fault) new
 unfolding IsCalled
 called_cut call kept old mid left new fault burns count cut device is =
-    subst (λ (f : TapeFault). IsLeft call (burn old.fuse) (counted old) (Some f) new) (sym device)
-    (subst (λ (at : Option ℕ). IsLeft call at (counted old) (Some Device) new) (sym burns) (is ∙ ap failed_once (cut ∙ ap (cut_short kept call) count)))
+    subst (λ (f : TapeFault). IsLeftByCall call (burn old.fuse) (counted old) (Some f) new) (sym device)
+    (subst (λ (at : Option ℕ). IsLeftByCall call at (counted old) (Some Device) new) (sym burns) (is ∙ ap failed_once (cut ∙ ap (cut_short kept call) count)))
 
 -- a call that doesn't fail by the failure that is set, whatever it returns
 pub called_sound : {A : Type 0} (call : Call) (old mid new : TapeValue) (result : Result A TapeFault) → burn old.fuse ≡ None → mid ≡ counted old → OnOk result (new ≡ done call mid) → OnErr result (new ≡ mid) →
@@ -101,7 +101,7 @@ done_fuse (Append bytes) tape = refl
 done_fuse Sync tape = refl
 done_fuse (Replace bytes) tape = refl
 
-sturdy_at : (call : Call) (tape after : TapeValue) (fault : Option TapeFault) → tape.fuse ≡ None → IsLeft call None tape fault after → NeverFails after
+sturdy_at : (call : Call) (tape after : TapeValue) (fault : Option TapeFault) → tape.fuse ≡ None → IsLeftByCall call None tape fault after → NeverFails after
 sturdy_at call tape after None none is = ap (λ (k : TapeValue). k.fuse) is ∙ done_fuse call tape ∙ none
 sturdy_at call tape after (Some Device) none is = absurd is
 sturdy_at call tape after (Some Memory) none is = ap (λ (k : TapeValue). k.fuse) is ∙ none
@@ -114,14 +114,14 @@ none_counted : (fuse : Option Fuse) → fuse ≡ None → count_down fuse ≡ No
 unfolding count_down
 none_counted fuse none = ap count_down none
 
-left_soundly : (call : Call) (old new : TapeValue) (fault : Option TapeFault) → NeverFails old → IsCalled call old fault new → IsLeft call None (counted old) fault new
+left_soundly : (call : Call) (old new : TapeValue) (fault : Option TapeFault) → NeverFails old → IsCalled call old fault new → IsLeftByCall call None (counted old) fault new
 unfolding IsCalled
-left_soundly call old new fault none called = subst (λ (at : Option ℕ). IsLeft call at (counted old) fault new) (none_burns old.fuse none) called
+left_soundly call old new fault none called = subst (λ (at : Option ℕ). IsLeftByCall call at (counted old) fault new) (none_burns old.fuse none) called
 
 pub stays_sturdy : (call : Call) (old new : TapeValue) (fault : Option TapeFault) → IsCalled call old fault new → NeverFails old → NeverFails new
 stays_sturdy call old new fault called none = sturdy_at call (counted old) new fault (none_counted old.fuse none) (left_soundly call old new fault none called)
 
-not_device : (call : Call) (tape after : TapeValue) (fault : TapeFault) → IsLeft call None tape (Some fault) after → fault ≡ Device → ⊥
+not_device : (call : Call) (tape after : TapeValue) (fault : TapeFault) → IsLeftByCall call None tape (Some fault) after → fault ≡ Device → ⊥
 not_device call tape after Device left is = left
 not_device call tape after Memory left is = absurd (cc is)
 
@@ -169,7 +169,7 @@ pub record IsReplace {A : Type 0} (old new : TapeValue) (bytes : List ℕ) (resu
 
 -- ---- reading
 
-read_is : {A : Type 0} (at : Option ℕ) (tape new : TapeValue) (result : Result A TapeFault) → IsLeft Read at tape (error_of result) new → IsRead tape new result
+read_is : {A : Type 0} (at : Option ℕ) (tape new : TapeValue) (result : Result A TapeFault) → IsLeftByCall Read at tape (error_of result) new → IsRead tape new result
 read_is None tape new (Ok x) is = record {
   same = unchanged tape new (ap (λ (k : TapeValue). k.bytes) is) (ap (λ (k : TapeValue). k.synced) is);
   time = time_same tape new is;
@@ -216,7 +216,7 @@ append_short tape new bytes is = record {
   cause = cause_memory tape.failures new.failures (ap (λ (k : TapeValue). k.failures) is);
 }
 
-append_is : {A : Type 0} (at : Option ℕ) (tape new : TapeValue) (bytes : List ℕ) (result : Result A TapeFault) → tape.synced ≤ length tape.bytes → IsLeft (Append bytes) at tape (error_of result) new → IsAppend tape new bytes result
+append_is : {A : Type 0} (at : Option ℕ) (tape new : TapeValue) (bytes : List ℕ) (result : Result A TapeFault) → tape.synced ≤ length tape.bytes → IsLeftByCall (Append bytes) at tape (error_of result) new → IsAppend tape new bytes result
 append_is None tape new bytes (Ok x) within is = record {
   ok = ap (λ (k : TapeValue). k.bytes) is;
   err = tt;
@@ -282,7 +282,7 @@ sync_done tape new x false e within is =
     let same : new ≡ tape = is ∙ sym (settled_same tape all e) in
     sync_stays tape tape new (Ok x) same refl refl all (time_same tape new same) (inside_same tape new same) (cause_ok tape.failures new.failures x (ap (λ (k : TapeValue). k.failures) same))
 
-sync_is : {A : Type 0} (at : Option ℕ) (tape new : TapeValue) (result : Result A TapeFault) → OnOk result (tape.synced ≤ length tape.bytes) → IsLeft Sync at tape (error_of result) new → IsSync tape new result
+sync_is : {A : Type 0} (at : Option ℕ) (tape new : TapeValue) (result : Result A TapeFault) → OnOk result (tape.synced ≤ length tape.bytes) → IsLeftByCall Sync at tape (error_of result) new → IsSync tape new result
 sync_is None tape new (Ok x) within is = sync_done tape new x (nat_lt tape.synced (length tape.bytes)) refl within is
 sync_is None tape new (Err Device) within left = absurd left
 sync_is None tape new (Err Memory) within is =
@@ -351,7 +351,7 @@ replace_cut (suc kept) tape new bytes is =
       cause = cause_device tape.failures new.failures (ap (λ (k : TapeValue). k.failures) is);
     }
 
-replace_is : {A : Type 0} (at : Option ℕ) (tape new : TapeValue) (bytes : List ℕ) (result : Result A TapeFault) → IsLeft (Replace bytes) at tape (error_of result) new → IsReplace tape new bytes result
+replace_is : {A : Type 0} (at : Option ℕ) (tape new : TapeValue) (bytes : List ℕ) (result : Result A TapeFault) → IsLeftByCall (Replace bytes) at tape (error_of result) new → IsReplace tape new bytes result
 replace_is None tape new bytes (Ok x) is =
     let ended : new.past ≡ state_of tape ∷ tape.past = ap (λ (k : TapeValue). k.past) is in
     let put = put_synced tape new bytes (ap (λ (k : TapeValue). k.bytes) is) (ap (λ (k : TapeValue). k.synced) is) ended in

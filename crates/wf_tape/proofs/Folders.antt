@@ -7,7 +7,7 @@ use Rattle.wf_disk.specs.declared.folder.Name.TheVariants.{Own, Second}
 use Rattle.wf_disk.specs.Folder.{File, Folder, bytes_of, bytes_in, empty_file, whole, IsLeftOf, IsLeftOfOne, MayLeave, IsSynced}
 use Rattle.wf_disk.specs.FolderTheorems.{content_is_left, whole_is_left, no_file_is_left}
 use Rattle.wf_disk.specs.Call.{Open, Make, Append, Sync, Rename, SyncNames, done, extended, synced, doubted, opened_over, IsThere, IsLeft, error_of}
-use Rattle.wf_tape.specs.Tape.{IsBeginning, IsOnlyImage, IsUnchanged, IsExtended, LeavesNoOther, LeavesOldOr, LeavesOldOrCut}
+use Rattle.wf_tape.specs.Tape.{IsPrefixOf, IsOnlyImage, IsUnchanged, IsExtended, LeavesNoOther, LeavesOldOr, LeavesOldOrCut}
 use Rattle.wf_tape.specs.DiskTape.{IsSure, IsButSecond, unsynced, placed}
 
 -- ---- folders
@@ -44,7 +44,7 @@ synced_content folder bytes is = ap bytes_in is.own ∙ append-nil bytes
 
 -- ---- opening
 
-nil_begins : (kept : List ℕ) → IsBeginning kept [] → kept ≡ []
+nil_begins : (kept : List ℕ) → IsPrefixOf kept [] → kept ≡ []
 nil_begins [] begins = refl
 nil_begins (byte ∷ kept) begins = absurd (cc begins.1)
 
@@ -177,14 +177,14 @@ sync_sure old new there own sure file is = cc (own ∙ synced_sure old.own there
 
 -- ---- appending to the own file
 
-begins_itself : (bytes : List ℕ) → IsBeginning bytes bytes
+begins_itself : (bytes : List ℕ) → IsPrefixOf bytes bytes
 begins_itself bytes = ([], sym (append-nil bytes))
 
 extended_bytes : (front : List ℕ) (file : File) → bytes_of (extended front file) ≡ bytes_of file ++ front
 extended_bytes front file = sym (append_assoc file.synced file.rest front)
 
 -- Of an absent file nothing is extended.
-append_part : (front bytes : List ℕ) (file : Option File) → IsBeginning front bytes → IsExtended (bytes_in file) bytes (bytes_in (option_map (extended front) file))
+append_part : (front bytes : List ℕ) (file : Option File) → IsPrefixOf front bytes → IsExtended (bytes_in file) bytes (bytes_in (option_map (extended front) file))
 append_part front bytes None begins = ([], (bytes, refl), refl)
 append_part front bytes (Some file) begins = (front, begins, extended_bytes front file)
 
@@ -198,7 +198,7 @@ append_extends bytes old new Device left = subst (λ (folder : Folder). IsExtend
 append_extends bytes old new Memory left = ([], (bytes, refl), ap (λ (folder : Folder). bytes_in folder.own) left ∙ sym (append-nil (bytes_in old.own)))
 
 -- what is left of a file after an append begins with its synced bytes
-extended_leaves : (front : List ℕ) (file : Option File) (image : List ℕ) → IsLeftOf (option_map (extended front) file) image → IsBeginning image (bytes_in (option_map (extended front) file)) × ((earlier : List ℕ) × IsLeftOf file earlier × IsBeginning earlier image)
+extended_leaves : (front : List ℕ) (file : Option File) (image : List ℕ) → IsLeftOf (option_map (extended front) file) image → IsPrefixOf image (bytes_in (option_map (extended front) file)) × ((earlier : List ℕ) × IsLeftOf file earlier × IsPrefixOf earlier image)
 unfolding IsLeftOf
 extended_leaves front None image left = (([], sym (append-nil image ∙ left)), ([], refl, (image, refl)))
 extended_leaves front (Some file) image left = (
@@ -210,7 +210,7 @@ extended_cut : (front : List ℕ) (old new : Folder) → new ≡ record old { ow
 extended_cut front old new is image left = elim (subst (λ (folder : Folder). MayLeave folder image) is left) [
   | inl here ↦
       let cut = extended_leaves front old.own image here in
-      inr (subst (λ (folder : Folder). IsBeginning image (bytes_in folder.own)) (sym is) cut.0, (cut.1.0, inl cut.1.1, cut.1.2))
+      inr (subst (λ (folder : Folder). IsPrefixOf image (bytes_in folder.own)) (sym is) cut.0, (cut.1.0, inl cut.1.1, cut.1.2))
   | inr back ↦ inl (inr back)
 ]
 

@@ -1,13 +1,13 @@
 -- The images of a tape in memory.
 use Rattle.std.proofs.Common.{◌≡◌, ℕ, ◌≤◌, List, [], ◌++◌, length, take, drop, refl, sym, ap, subst, ◌∙◌, length-append, inr, arith}
 use Rattle.std.proofs.lemmas.List.{append-nil, take-append-drop, take-append-le, take_all, nil_from_length}
-use Rattle.wf_tape.specs.Tape.{IsBeginning, IsOnlyImage, IsUnchanged, LeavesNoOther, IsExtended, LeavesOldOrCut}
+use Rattle.wf_tape.specs.Tape.{IsPrefixOf, IsOnlyImage, IsUnchanged, LeavesNoOther, IsExtended, LeavesOldOrCut}
 use Rattle.wf_tape.specs.MemoryTape.{TapeValue, IsImageNow}
 
-begins_itself : (bytes : List ℕ) → IsBeginning bytes bytes
+begins_itself : (bytes : List ℕ) → IsPrefixOf bytes bytes
 begins_itself bytes = ([], sym (append-nil bytes))
 
-begins_taken : (n : ℕ) (bytes : List ℕ) → IsBeginning (take n bytes) bytes
+begins_taken : (n : ℕ) (bytes : List ℕ) → IsPrefixOf (take n bytes) bytes
 begins_taken n bytes = (drop n bytes, sym (take-append-drop n bytes))
 
 -- all the bytes are an image
@@ -19,7 +19,7 @@ pub synced_are_image : (kept : TapeValue) → IsImageNow kept (take kept.synced 
 synced_are_image kept = (begins_taken kept.synced kept.bytes, begins_itself (take kept.synced kept.bytes))
 
 -- two byte strings that are prefixes of each other are equal
-same_both : (a b : List ℕ) → IsBeginning a b → IsBeginning b a → a ≡ b
+same_both : (a b : List ℕ) → IsPrefixOf a b → IsPrefixOf b a → a ≡ b
 same_both a b a_begins b_begins =
     let none : a_begins.0 ≡ [] = nil_from_length a_begins.0 (omega (arith, ap length a_begins.1, ap length b_begins.1, length-append a a_begins.0, length-append b b_begins.0)) in
     sym (a_begins.1 ∙ ap (λ (t : List ℕ). a ++ t) none ∙ append-nil a)
@@ -30,7 +30,7 @@ only_synced kept all =
     let whole : take kept.synced kept.bytes ≡ kept.bytes = take_all kept.synced kept.bytes (omega (arith, all)) in
     record {
       is_image = content_is_image kept;
-      no_other = λ image is. same_both image kept.bytes is.0 (subst (λ (t : List ℕ). IsBeginning t image) whole is.1);
+      no_other = λ image is. same_both image kept.bytes is.0 (subst (λ (t : List ℕ). IsPrefixOf t image) whole is.1);
     }
 
 -- a sync adds no image
@@ -44,7 +44,7 @@ pub append_leaves : (old new : TapeValue) (more : List ℕ) → old.synced ≤ l
 append_leaves old new more within longer same image is =
     let front : take new.synced new.bytes ≡ take old.synced old.bytes =
     ap (λ (n : ℕ). take n new.bytes) same ∙ ap (λ (t : List ℕ). take old.synced t) longer ∙ take-append-le old.synced old.bytes more within in
-    inr (is.0, (take old.synced old.bytes, synced_are_image old, subst (λ (t : List ℕ). IsBeginning t image) front is.1))
+    inr (is.0, (take old.synced old.bytes, synced_are_image old, subst (λ (t : List ℕ). IsPrefixOf t image) front is.1))
 
 -- nothing appended is a case of an append
 pub not_extended : (old new more : List ℕ) → new ≡ old → IsExtended old more new
@@ -55,6 +55,6 @@ unchanged old new same_bytes same_synced =
     let front : take new.synced new.bytes ≡ take old.synced old.bytes = ap (λ (n : ℕ). take n new.bytes) same_synced ∙ ap (λ (t : List ℕ). take old.synced t) same_bytes in
     record {
       content = same_bytes;
-      kept = λ image is. (subst (λ (t : List ℕ). IsBeginning image t) (sym same_bytes) is.0, subst (λ (t : List ℕ). IsBeginning t image) (sym front) is.1);
-      no_other = λ image is. (subst (λ (t : List ℕ). IsBeginning image t) same_bytes is.0, subst (λ (t : List ℕ). IsBeginning t image) front is.1);
+      kept = λ image is. (subst (λ (t : List ℕ). IsPrefixOf image t) (sym same_bytes) is.0, subst (λ (t : List ℕ). IsPrefixOf t image) (sym front) is.1);
+      no_other = λ image is. (subst (λ (t : List ℕ). IsPrefixOf image t) same_bytes is.0, subst (λ (t : List ℕ). IsPrefixOf t image) front is.1);
     }

@@ -7,7 +7,7 @@ use Rattle.wf_tape.specs.declared.fault.TapeFault.{TapeFault}
 use Rattle.wf_tape.specs.declared.fault.TapeFault.TheVariants.{Device, Memory}
 use Rattle.wf_tape.specs.declared.memory.Fuse.{Fuse}
 use Rattle.wf_tape.specs.Fuse.{fuse_at, count_down, burn}
-use Rattle.wf_tape.specs.Tape.{IsBeginning, Call, Read, Append, Sync, Replace, last_count}
+use Rattle.wf_tape.specs.Tape.{IsPrefixOf, Call, Read, Append, Sync, Replace, last_count}
 
 -- a state: the bytes, of which the first are synced
 pub record State : Type 0 where
@@ -25,11 +25,11 @@ pub record TapeValue : Type 0 where
 
 -- what a crash in this state may leave: a prefix of the bytes that contains the synced ones
 abbrev pub IsLeftBy : State → List ℕ → Type 0
-IsLeftBy state image = IsBeginning image state.bytes × IsBeginning (take state.synced state.bytes) image
+IsLeftBy state image = IsPrefixOf image state.bytes × IsPrefixOf (take state.synced state.bytes) image
 
 -- what a crash now may leave, likewise
 abbrev pub IsImageNow : TapeValue → List ℕ → Type 0
-IsImageNow kept image = IsBeginning image kept.bytes × IsBeginning (take kept.synced kept.bytes) image
+IsImageNow kept image = IsPrefixOf image kept.bytes × IsPrefixOf (take kept.synced kept.bytes) image
 
 -- Of states in order, the latest first, the earliest stood at moment 0, the next one at moment 1,
 -- and so on. A crash in one of them, at this moment or a later one, may leave the image.
@@ -113,14 +113,14 @@ cut_short (suc kept) (Replace bytes) tape = replaced tape bytes
 -- What a call leaves, of the tape with that call counted: the device fails if and only if the
 -- failure that is set is this call's, which keeps so much. If an allocation fails, nothing has
 -- changed.
-abbrev pub IsLeft : Call → Option ℕ → TapeValue → Option TapeFault → TapeValue → Type 0
-IsLeft call None tape None after = after ≡ done call tape
-IsLeft call None tape (Some Device) after = ⊥
-IsLeft call None tape (Some Memory) after = after ≡ tape
-IsLeft call (Some kept) tape None after = ⊥
-IsLeft call (Some kept) tape (Some Device) after = after ≡ failed_once (cut_short kept call tape)
-IsLeft call (Some kept) tape (Some Memory) after = after ≡ tape
+abbrev pub IsLeftByCall : Call → Option ℕ → TapeValue → Option TapeFault → TapeValue → Type 0
+IsLeftByCall call None tape None after = after ≡ done call tape
+IsLeftByCall call None tape (Some Device) after = ⊥
+IsLeftByCall call None tape (Some Memory) after = after ≡ tape
+IsLeftByCall call (Some kept) tape None after = ⊥
+IsLeftByCall call (Some kept) tape (Some Device) after = after ≡ failed_once (cut_short kept call tape)
+IsLeftByCall call (Some kept) tape (Some Memory) after = after ≡ tape
 
 -- A call: the tape before it, the error that was returned, if one was, and the tape after it.
 unfoldable pub IsCalled : Call → TapeValue → Option TapeFault → TapeValue → Type 0
-IsCalled call tape fault after = IsLeft call (burn tape.fuse) (counted tape) fault after
+IsCalled call tape fault after = IsLeftByCall call (burn tape.fuse) (counted tape) fault after

@@ -5,7 +5,7 @@ ghost use Rattle.wf_disk.specs.declared.fault.DiskFault.TheVariants.{Memory};
 ghost use Rattle.wf_disk.specs.declared.folder.Name.TheVariants.{Own};
 ghost use Rattle.wf_disk.specs.Moments.{LeavesNoOther, LeavesOldOr};
 ghost use Rattle.wf_disk.specs.Folder.{whole, IsLeftOf, MayLeave, IsSynced};
-ghost use Rattle.wf_disk.specs.Call.{Rename, Sync, done, IsThere, IsCounted, IsNotMemory};
+ghost use Rattle.wf_disk.specs.Call.{Rename, Sync, done, IsThere, IsCounted, IsNotOutOfMemory};
 ghost use Rattle.wf_tape.specs.DiskTape.{unsynced, IsButSecond, placed, LeavesOnly, images_of, content_of};
 
 use wf_disk::{Disk, DiskFault, Name};
@@ -36,7 +36,7 @@ pub(crate) fn sync<D: Disk>(disk: &mut D, are_names_synced: bool) -> Result<(), 
     ensures images { D.durable →
         LeavesNoOther (images_of D.Disk disk.old) (images_of D.Disk disk.new) }
     ensures passes { D.durable → LeavesOnly D.Disk (images_of D.Disk disk.old) disk.old disk.new }
-    ensures memory { IsNotMemory result }
+    ensures memory { IsNotOutOfMemory result }
     ensures cause { IsCounted (D.failed disk.old) (D.failed disk.new) result }
 {
     match disk.sync(Name::Own) {
@@ -54,7 +54,7 @@ fn sync_names<D: Disk>(disk: &mut D, are_names_synced: bool) -> Result<(), DiskF
     ensures images { D.durable →
         LeavesNoOther (images_of D.Disk disk.old) (images_of D.Disk disk.new) }
     ensures passes { D.durable → LeavesOnly D.Disk (images_of D.Disk disk.old) disk.old disk.new }
-    ensures memory { IsNotMemory result }
+    ensures memory { IsNotOutOfMemory result }
     ensures cause { IsCounted (D.failed disk.old) (D.failed disk.new) result }
 {
     if are_names_synced {

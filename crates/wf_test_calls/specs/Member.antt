@@ -7,6 +7,6 @@ pub record MemberValue : Type 0 where
   pub nodes : ℕ
 
 -- the farm has such a node, and isn't larger than a farm may be
-pub record IsMember (m : MemberValue) : Type 0 where
+pub record IsFarmMember (m : MemberValue) : Type 0 where
   pub inside : m.node < m.nodes
   pub most : m.nodes ≤ 64

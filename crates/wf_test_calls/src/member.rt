@@ -14,13 +14,13 @@ pub struct Member {
 }
 
 impl Model for Member {
-    ghost use Rattle.wf_test_calls.specs.Member.{MemberValue, IsMember};
+    ghost use Rattle.wf_test_calls.specs.Member.{MemberValue, IsFarmMember};
 
     ghost Value = { MemberValue };
 
     ghost view = { λ m. record { node = m.node; nodes = m.nodes } };
 
-    ghost invariant = { λ m. IsMember (record { node = m.node; nodes = m.nodes }) };
+    ghost invariant = { λ m. IsFarmMember (record { node = m.node; nodes = m.nodes }) };
 
     ghost inverse = { λ v. record { node = v.node; nodes = v.nodes } };
 }

@@ -2,7 +2,8 @@
 //!
 //! ```text
 //! prepare SLOT BALLOT
-//! promise NODE SLOT BALLOT [VOTE ..]    with its votes, that at the slot first; a VOTE is `none`, or BALLOT MAP
+//! promise NODE SLOT BALLOT [VOTE ..]    with its votes, that at the slot first; a VOTE is `none`,
+//!                                       or BALLOT MAP
 //! accept SLOT BALLOT MAP
 //! accepted NODE SLOT BALLOT
 //! nack NODE SLOT BALLOT PROMISED

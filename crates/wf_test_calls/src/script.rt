@@ -2,8 +2,8 @@
 //!
 //! ```text
 //! map NAME            the lines of a canonical text follow, and then a line `endmap`
-//! CALL WORDS          a call and its arguments, in their order: a slot, a node, a round or a sequence is
-//!                     its number, a ballot its round and its node, a map its name
+//! CALL WORDS          a call and its arguments, in their order: a slot, a node, a round or a
+//!                     sequence is its number, a ballot its round and its node, a map its name
 //! ```
 use std::alloc::Global;
 use wf_canon::{Canon, CanonFault};

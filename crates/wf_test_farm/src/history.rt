@@ -1,7 +1,8 @@
 //! A history that a script calls.
 //!
 //! ```text
-//! learn SLOT MAP      `published`, `known` or `missing from slot N`: what became of the definition, which is chosen at the slot
+//! learn SLOT MAP      `published`, `known` or `missing from slot N`: what became of the
+//!                     definition, which is chosen at the slot
 //! fill SLOT MAP       `done`: the definition is learned at each slot up to this one
 //! room                `done`: there is room for one more definition
 //! published           the last published sequence

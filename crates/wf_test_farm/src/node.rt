@@ -10,17 +10,19 @@
 //! published                the last published sequence
 //! definition SEQUENCE      the sequence and its map, none
 //! proposal                 the state of the node's proposal
-//! open [BYTES [MAP ..]]    the last published sequence of a node that opens on a tape of these bytes (some in
-//!                          hexadecimal, a map's text, and so on in turn) and replaces the node before; or why
-//!                          none opens, and how many bytes are on the tape
+//! open [BYTES [MAP ..]]    the last published sequence of a node that opens on a tape of these
+//!                          bytes (some in hexadecimal, a map's text, and so on in turn) and
+//!                          replaces the node before; or why none opens, and how many bytes are on
+//!                          the tape
 //! restart                  the same, for the node's own tape
-//! crash KEEP               the same, for what a crash leaves of it that keeps KEEP bytes that weren't synced
-//! fuse CALL KEPT           `done`: the call of the tape with this number from now, counted from 1, will fail and keep KEPT;
-//!                          0 for CALL takes such a failure away
+//! crash KEEP               the same, for what a crash leaves of it that keeps KEEP bytes that
+//!                          weren't synced
+//! fuse CALL KEPT           `done`: the call of the tape with this number from now, counted from 1,
+//!                          will fail and keep KEPT; 0 for CALL takes such a failure away
 //! length                   how many bytes are on the tape of the node; a new node replaces it
 //! close                    the same bytes themselves
-//! cuts FROM MESSAGE        what each node answers to the message that opens on the first bytes of the tape, of
-//!                          each length from FROM on; then as restart
+//! cuts FROM MESSAGE        what each node answers to the message that opens on the first bytes of
+//!                          the tape, of each length from FROM on; then as restart
 //! ```
 //!
 //! `wf_test_calls` defines the words of a message. The answer to a rejected step is `refused: ` and

@@ -2,11 +2,11 @@
 //! proposal.
 //!
 //! ```text
-//! start TRIED PUBLISHED MAP             what to store and to send, where the round TRIED is stored and
-//!                                       PUBLISHED is the last sequence that is published
+//! start TRIED PUBLISHED MAP             what to store and to send, where the round TRIED is stored
+//!                                       and PUBLISHED is the last sequence that is published
 //! retry TRIED                           the same, where the round TRIED is stored
-//! promise NODE SLOT BALLOT [VOTE ..]    the same, for a Promise of the node with its votes, that at the slot first;
-//!                                       a VOTE is `none`, or BALLOT MAP
+//! promise NODE SLOT BALLOT [VOTE ..]    the same, for a Promise of the node with its votes, that
+//!                                       at the slot first; a VOTE is `none`, or BALLOT MAP
 //! accepted NODE SLOT BALLOT             the same, for an Accepted of the node
 //! nack SLOT BALLOT PROMISED             the same, for a Nack that names the ballot PROMISED
 //! published SLOT MAP                    `done`: the definition is published at the slot

@@ -4,19 +4,19 @@
 //! Standard input is a table of cases (`wf_test_table` defines its format). A case is a play, or
 //! many whose counts are added up: nodes as `wfarm node` starts and steps them
 //! ([`wf_node_command::RunningNode`], [`member`]) and replicas as `wfarm replica` does
-//! ([`wf_replica_command::RunningReplica`], [`replica`]), each on a folder in memory and a simulated
-//! network, with a clock of its own ([`host`]). All the while clients publish at each node, ask for
-//! capabilities and pictures, look at the operator's port, and read the history ([`client`]), and
-//! faults happen that are drawn from the seed ([`schedule`]); a client may stop within its request,
-//! or take no byte of the response, and a sync may take time ([`slow_store`]). After each step is
-//! checked what a farm promises ([`ledger`]):
+//! ([`wf_replica_command::RunningReplica`], [`replica`]), each on a folder in memory and a
+//! simulated network, with a clock of its own ([`host`]). All the while clients publish at each
+//! node, ask for capabilities and pictures, look at the operator's port, and read the history
+//! ([`client`]), and faults happen that are drawn from the seed ([`schedule`]); a client may stop
+//! within its request, or take no byte of the response, and a sync may take time ([`slow_store`]).
+//! After each step is checked what a farm promises ([`ledger`]):
 //!
 //! - Two answers to one request about a sequence are equal, and so are two maps.
 //! - No list of maps goes back, and each published map is one that a client sent. A replica has
 //!   none before a node has it.
 //! - What a node reported as published is there, then and at the end.
-//! - Each process starts, and no node is rejected by its peers; but one whose folder was lost, or put
-//!   back as it was before, doesn't start or is suspended.
+//! - Each process starts, and no node is rejected by its peers; but one whose folder was lost, or
+//!   put back as it was before, doesn't start or is suspended.
 //! - Once all faults are over, each client has its answer and all nodes have published equally many
 //!   within five seconds; within twelve where connections had died in silence, or where a folder
 //!   joins in the place of a lost one. Each replica follows within five seconds.

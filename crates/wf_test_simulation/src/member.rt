@@ -245,7 +245,8 @@ impl<'a> Member<'a> {
     }
 }
 
-/// Makes the folder of a node of so many, as an operator does: one that joins, if it replaces another.
+/// Makes the folder of a node of so many, as an operator does: one that joins, if it replaces
+/// another.
 pub(crate) fn make_folder<R: Eprint>(
     machine: &Machine<'_, R>,
     folder: &MemoryFolder,

@@ -154,7 +154,8 @@ impl Plan {
         plan
     }
 
-    /// How many hosts there are: those of the nodes, that of the clients, and those of the replicas.
+    /// How many hosts there are: those of the nodes, that of the clients, and those of the
+    /// replicas.
     pub(crate) fn hosts(&self) -> u8 {
         self.nodes.saturating_add(1).saturating_add(self.replicas)
     }

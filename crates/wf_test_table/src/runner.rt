@@ -179,7 +179,8 @@ impl<'a> Runner<'a> {
     // Compares an answer with the expected one, and reports a difference.
     fn judge(&mut self, number: u64, name: &str, given: &[u8], report: &mut Transcript)
         // Where no difference is counted, the answer is the expected one.
-        ensures reported { self.new.counts.differing ≡ 0 → self.old.expected.text.items ≡ given.now }
+        ensures reported { self.new.counts.differing ≡ 0 →
+            self.old.expected.text.items ≡ given.now }
         ensures kept { self.old.counts.differing ≤ self.new.counts.differing }
     {
         if self.counts.compare(&self.expected.text, given) {

@@ -10,7 +10,8 @@
 //! <* N T              T, N times
 //! <& NAME             a named text
 //! > T  >. T  >* N T  >& NAME      the same, of the expected answer
-//! for INPUT => ANSWER             a case in one line: INPUT is the input, ANSWER and a line feed are expected
+//! for INPUT => ANSWER             a case in one line: INPUT is the input, ANSWER and a line feed
+//!                                 are expected
 //! ```
 //!
 //! White space beside a row's INPUT and ANSWER doesn't belong to them.

@@ -7,7 +7,7 @@ use Rattle.std.proofs.lemmas.Bool.{ne_eqb, lt-ltb, le-leb, and_parts, and_from, 
 use Rattle.std.proofs.lemmas.Bool.Decides.{nat_tests}
 use Rattle.wf_text.specs.declared.fault.NumberFault.TheVariants.{BadNumber, OutOfRange}
 use Rattle.wf_text.specs.Number.{Numeral, is_negative, is_sign, after_sign, leading_digits, after_digits, fraction_digits, after_fraction, spelled_onto, with_sign, is_power_digits, signed_power, power_of, numeral, in_range, number}
-use Rattle.wf_text.specs.NumberForm.{Sign, Unsigned, Plus, Minus, sign_text, is_minus, Fraction, NoPoint, WithPoint, fraction_text, behind_point, SmallE, CapitalE, Ending, NoPower, WithPower, ending_text, power_of_ten, Written, text_of, parts_of, AreDigits, ArePowerDigits, IsEnding, AreDigitsWritten, HasParts}
+use Rattle.wf_text.specs.NumberForm.{Sign, Unsigned, Plus, Minus, sign_text, is_minus, Fraction, NoPoint, WithPoint, fraction_text, behind_point, SmallE, CapitalE, Ending, NoPower, WithPower, ending_text, power_of_ten, Written, text_of, parts_of, AreDigits, ArePowerDigits, IsNumberEnding, AreDigitsWritten, HasParts}
 use Rattle.wf_text.proofs.NumberJoined.{has_parts}
 
 -- the text's first byte, if there is one, passes the test
@@ -72,7 +72,7 @@ signed_power_is_read sign digits p =
     let cut = sign_is_cut sign digits (digits_begin_with_no_sign digits p.digits p.least) in
     rw (cut.rest, cut.minus, is_power_digits-true digits p) refl
 
-power_is_read : (ending : Ending) → IsEnding ending → power_of (ending_text ending) ≡ Some (power_of_ten ending)
+power_is_read : (ending : Ending) → IsNumberEnding ending → power_of (ending_text ending) ≡ Some (power_of_ten ending)
 power_is_read NoPower p = refl
 power_is_read (WithPower SmallE sign digits) p = signed_power_is_read sign digits p
 power_is_read (WithPower CapitalE sign digits) p = signed_power_is_read sign digits p

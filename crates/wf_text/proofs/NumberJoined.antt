@@ -7,7 +7,7 @@ use Rattle.std.proofs.lemmas.Bool.{cases_eq, cases_Bool, ne_eqb, eqb-false, ltb-
 use Rattle.std.proofs.lemmas.List.{take-append-drop}
 use Rattle.std.proofs.lemmas.Option.{cond_some, same_Some, none-some}
 use Rattle.wf_text.specs.Number.{Numeral, is_negative, after_sign, leading_digits, after_digits, fraction_digits, after_fraction, spelled_onto, with_sign, is_power_digits, signed_power, power_of, numeral_from, numeral}
-use Rattle.wf_text.specs.NumberForm.{Sign, Unsigned, Plus, Minus, sign_text, is_minus, Fraction, NoPoint, WithPoint, fraction_text, behind_point, Mark, SmallE, CapitalE, mark_byte, Ending, NoPower, WithPower, ending_text, power_of_ten, AreDigits, ArePowerDigits, IsEnding, HasParts}
+use Rattle.wf_text.specs.NumberForm.{Sign, Unsigned, Plus, Minus, sign_text, is_minus, Fraction, NoPoint, WithPoint, fraction_text, behind_point, Mark, SmallE, CapitalE, mark_byte, Ending, NoPower, WithPower, ending_text, power_of_ten, AreDigits, ArePowerDigits, IsNumberEnding, HasParts}
 
 -- ---- digits
 
@@ -83,7 +83,7 @@ has_power text power e =
 
 record HasEnding (text : List ℕ) (power : ℤ) : Type 0 where
   ending : Ending
-  is_ending : IsEnding ending
+  is_ending : IsNumberEnding ending
   joined : ending_text ending ≡ text
   stated : power_of_ten ending ≡ power
 

@@ -2,12 +2,12 @@
 use Rattle.std.proofs.Common.{◌≡◌, ℕ, ◌+◌, ◌≤◌, List, [], ◌++◌, length, sym, ap, ◌∙◌, subst, append_assoc, arith}
 use Rattle.std.proofs.lemmas.List.{append-nil, length-append}
 use Rattle.wf_text.specs.Limit.{most_number_bytes}
-use Rattle.wf_text.specs.NumberText.{IsDraftOf, Writes}
+use Rattle.wf_text.specs.NumberText.{IsNumberDraftOf, Writes}
 
 -- bytes that are appended if there is room are appended if the text is short enough
 pub pushed : {before bytes after : List ℕ} → (length before + length bytes ≤ most_number_bytes → after ≡ before ++ bytes) → Writes before bytes after
 pushed {before = before} {bytes = bytes} {after = after} added = record { behind = λ text is. record { whole = λ short. grown text is short } } where
-  grown : (text : List ℕ) → IsDraftOf before text → length (text ++ bytes) ≤ most_number_bytes → after ≡ text ++ bytes
+  grown : (text : List ℕ) → IsNumberDraftOf before text → length (text ++ bytes) ≤ most_number_bytes → after ≡ text ++ bytes
   grown text is short =
       let together : length (text ++ bytes) ≡ length text + length bytes = length-append text bytes in
       let same : before ≡ text = is.whole (omega (arith, short, together)) in
@@ -15,11 +15,11 @@ pushed {before = before} {bytes = bytes} {after = after} added = record { behind
       added room ∙ ap (λ (xs : List ℕ). xs ++ bytes) same
 
 pub nothing : (draft : List ℕ) → Writes draft [] draft
-nothing draft = record { behind = λ text is. subst (λ (t : List ℕ). IsDraftOf draft t) (sym (append-nil text)) is }
+nothing draft = record { behind = λ text is. subst (λ (t : List ℕ). IsNumberDraftOf draft t) (sym (append-nil text)) is }
 
 pub both : {a b c x y : List ℕ} → Writes a x b → Writes b y c → Writes a (x ++ y) c
 both {c = c} {x = x} {y = y} first second = record {
-  behind = λ text is. subst (λ (t : List ℕ). IsDraftOf c t) (append_assoc text x y) (second.behind (text ++ x) (first.behind text is));
+  behind = λ text is. subst (λ (t : List ℕ). IsNumberDraftOf c t) (append_assoc text x y) (second.behind (text ++ x) (first.behind text is));
 }
 
 pub same : {a b x y : List ℕ} → Writes a x b → x ≡ y → Writes a y b

@@ -84,16 +84,16 @@ pub record ArePowerDigits (bytes : List ℕ) : Type 0 where
   pub least : 1 ≤ length bytes
   pub most : length bytes ≤ most_power_digits
 
-abbrev pub IsEnding : Ending → Type 0
-IsEnding NoPower = ⊤
-IsEnding (WithPower mark sign digits) = ArePowerDigits digits
+abbrev pub IsNumberEnding : Ending → Type 0
+IsNumberEnding NoPower = ⊤
+IsNumberEnding (WithPower mark sign digits) = ArePowerDigits digits
 
 -- there are digits where digits belong, and at least one before and after the point together
 pub record AreDigitsWritten (w : Written) : Type 0 where
   pub whole : AreDigits w.whole
   pub fraction : AreDigits (behind_point w.fraction)
   pub least : 1 ≤ length w.whole + length (behind_point w.fraction)
-  pub ending : IsEnding w.ending
+  pub ending : IsNumberEnding w.ending
 
 -- some written number spells this text and has these parts
 pub record HasParts (text : List ℕ) (parts : Numeral) : Type 0 where

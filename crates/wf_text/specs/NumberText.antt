@@ -22,9 +22,9 @@ number_text (pos millionths) = magnitude_text millionths
 number_text (negsuc below) = 45 ∷ magnitude_text (suc below)
 
 -- what was written so far is this text, if the text is within the longest length
-pub record IsDraftOf (draft text : List ℕ) : Type 0 where
+pub record IsNumberDraftOf (draft text : List ℕ) : Type 0 where
   pub whole : length text ≤ most_number_bytes → draft ≡ text
 
 -- these bytes were appended to what was written before
 pub record Writes (before bytes after : List ℕ) : Type 0 where
-  pub behind : (text : List ℕ) → IsDraftOf before text → IsDraftOf after (text ++ bytes)
+  pub behind : (text : List ℕ) → IsNumberDraftOf before text → IsNumberDraftOf after (text ++ bytes)

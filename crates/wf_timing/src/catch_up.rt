@@ -60,7 +60,8 @@ impl CatchUp {
     /// next one's turn.
     pub fn ask(&mut self, now: u64, published: u16, connected: &[bool]) -> Option<usize>
         requires { published ≤ 4096 }
-        ensures asked { IfSome result (λ peer. IsAskedOf self.old now published connected.now peer self.new) }
+        ensures asked { IfSome result (λ peer.
+            IsAskedOf self.old now published connected.now peer self.new) }
         ensures none { IfNone result (IsNotAsked self.old now published connected.now self.new) }
     {
         let again = is_brought_on(self.question, published);

@@ -6,7 +6,7 @@ use Rattle.wf_model.specs.World.{Node, World, after}
 use Rattle.wf_model.specs.Chosen.{IsChosen, history_of, history}
 use Rattle.wf_trace.specs.Deed.{new_node}
 use Rattle.wf_trace.specs.Trace.{Entry, of_process, outputs_by, IsTrace, Refines}
-use Rattle.wf_trace.specs.Theorems.{IsReachable, published_at, OneDefinition, HasOneHistory, OneHistory}
+use Rattle.wf_trace.specs.Theorems.{AreNodesReachable, published_at, OneDefinition, HasOneHistory, OneHistory}
 use Rattle.wf_trace.proofs.Entries.{trace_is_run}
 use Rattle.wf_trace.proofs.Growth.{begins_through, grows_to_last}
 use Rattle.wf_trace.proofs.History.{published_longer, longest_of_all}
@@ -14,7 +14,7 @@ use Rattle.wf_trace.proofs.History.{published_longer, longest_of_all}
 -- ---- at the end
 
 module _ {V : Type 0} (theorem : Agreement V) (same : V → V → Bool) (n : ℕ) (entries : List (Entry V)) (nodes : ℕ → Node V) (trace : IsTrace same n entries nodes) where
-  reached : IsReachable same n nodes (outputs_by entries)
+  reached : AreNodesReachable same n nodes (outputs_by entries)
   reached = trace_is_run V same n entries nodes trace
 
   world : World V

@@ -9,7 +9,7 @@ use Rattle.wf_model.specs.Table.{Action, Input}
 use Rattle.wf_model.specs.World.{Node, World, Event, Act, Stop, Restart, Torn, Kept, Turn, delivered, input_of, with_node, after_turn, after_torn, stop_running, after_stop, restart_stopped, after_restart, turn_of, turn, happens, steps}
 use Rattle.wf_model.specs.Chosen.{IsIn}
 use Rattle.wf_safety.specs.Theorems.{node_of}
-use Rattle.wf_trace.specs.Deed.{Deed, Takes, Crashes, Stops, Restarts, Steps, Tears, IsIdleDeed, IsStopped, IsRestarted, IsDone}
+use Rattle.wf_trace.specs.Deed.{Deed, Takes, Crashes, Stops, Restarts, Steps, Tears, IsIdleDeed, IsNodeStopped, IsRestarted, IsDone}
 use Rattle.wf_trace.specs.Trace.{IsInputOf, DeliversOneOf}
 use Rattle.wf_trace.proofs.Nodes.{set_itself}
 
@@ -97,7 +97,7 @@ module _ {V : Type 0} (same : V → V → Bool) (w : World V) (i : ℕ) (before 
   stop_parts stored None at = world_eq w.nodes (slice_set w.nodes i _) w.sent w.sent (sym (set_itself w.nodes i _ at)) refl
   stop_parts stored (Some volatile) at = refl
 
-  stops : (outputs : List (Message V)) (node : Node V) → IsStopped same (length w.nodes) i before outputs node → Becomes same w i node outputs
+  stops : (outputs : List (Message V)) (node : Node V) → IsNodeStopped same (length w.nodes) i before outputs node → Becomes same w i node outputs
   unfolding steps happens after_stop
   stops outputs node is = record {
     events = Stop i ∷ [];

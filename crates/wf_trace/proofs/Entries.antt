@@ -6,8 +6,8 @@ use Rattle.wf_model.specs.Message.{Message}
 use Rattle.wf_model.specs.StepsTheorems.{steps_in_turn}
 use Rattle.wf_model.specs.World.{Node, World, steps, start, after}
 use Rattle.wf_trace.specs.Deed.{IsDone, new_node}
-use Rattle.wf_trace.specs.Trace.{Entry, of_process, outputs_by, IsLife, DeliversOneOf, AreReceived, AreMembers, GoOn, Refines}
-use Rattle.wf_trace.specs.Theorems.{EntriesAreEvents, IsReachableFrom, TraceIsRun, PartsAreOne}
+use Rattle.wf_trace.specs.Trace.{Entry, of_process, outputs_by, IsLifeByEntries, DeliversOneOf, AreReceived, AreMembers, GoOn, Refines}
+use Rattle.wf_trace.specs.Theorems.{EntriesAreEvents, AreNodesReachableFrom, TraceIsRun, PartsAreOne}
 use Rattle.wf_trace.proofs.Nodes.{set_there, set_elsewhere, all_alike}
 use Rattle.wf_trace.proofs.Deeds.{Becomes, deed_is_events}
 
@@ -40,19 +40,19 @@ put_other nodes i j node differs = rw (ne_eqb j i differs) refl
 
 module _ {V : Type 0} (same : V → V → Bool) (n : ℕ) (sent : List (Message V)) (nodes nodes_after : ℕ → Node V) (entry : Entry V) (entries : List (Entry V)) (go : GoOn same n sent nodes (entry ∷ entries) nodes_after) where
   -- the life of the process that it is of
-  pub own_life : IsLife same n entry.process (nodes entry.process) (entry ∷ of_process entry.process entries) (nodes_after entry.process)
-  own_life = subst (λ (es : List (Entry V)). IsLife same n entry.process (nodes entry.process) es (nodes_after entry.process)) (own_first entry.process entry entries refl) (go.lives entry.process go.members.0)
+  pub own_life : IsLifeByEntries same n entry.process (nodes entry.process) (entry ∷ of_process entry.process entries) (nodes_after entry.process)
+  own_life = subst (λ (es : List (Entry V)). IsLifeByEntries same n entry.process (nodes entry.process) es (nodes_after entry.process)) (own_first entry.process entry entries refl) (go.lives entry.process go.members.0)
 
   abbrev pub middle : Node V
   middle = own_life.0
 
   -- the lives from then on
-  later_life : (j : ℕ) → j < n → IsLife same n j (put_node nodes entry.process middle j) (of_process j entries) (nodes_after j)
+  later_life : (j : ℕ) → j < n → IsLifeByEntries same n j (put_node nodes entry.process middle j) (of_process j entries) (nodes_after j)
   later_life j less = elim (cases_eq j entry.process) [
-    | inl own ↦ subst (λ k. IsLife same n k (put_node nodes entry.process middle k) (of_process k entries) (nodes_after k)) (sym own)
-        (subst (λ (x : Node V). IsLife same n entry.process x (of_process entry.process entries) (nodes_after entry.process)) (sym (put_own nodes entry.process entry.process middle refl)) own_life.2)
-    | inr other ↦ subst (λ (x : Node V). IsLife same n j x (of_process j entries) (nodes_after j)) (sym (put_other nodes entry.process j middle other))
-        (subst (λ (es : List (Entry V)). IsLife same n j (nodes j) es (nodes_after j)) (other_first j entry entries (λ e. other (sym e))) (go.lives j less))
+    | inl own ↦ subst (λ k. IsLifeByEntries same n k (put_node nodes entry.process middle k) (of_process k entries) (nodes_after k)) (sym own)
+        (subst (λ (x : Node V). IsLifeByEntries same n entry.process x (of_process entry.process entries) (nodes_after entry.process)) (sym (put_own nodes entry.process entry.process middle refl)) own_life.2)
+    | inr other ↦ subst (λ (x : Node V). IsLifeByEntries same n j x (of_process j entries) (nodes_after j)) (sym (put_other nodes entry.process j middle other))
+        (subst (λ (es : List (Entry V)). IsLifeByEntries same n j (nodes j) es (nodes_after j)) (other_first j entry entries (λ e. other (sym e))) (go.lives j less))
   ]
 
   pub rest_goes_on : GoOn same n (sent ++ entry.outputs) (put_node nodes entry.process middle) entries nodes_after
@@ -78,7 +78,7 @@ module _ {V : Type 0} (same : V → V → Bool) (n : ℕ) (sent : List (Message 
       messages = ap (λ (ms : List (Message V)). ms ++ entry.outputs) refines.messages;
     })
 
-    reachable_on : IsReachableFrom same n (steps same w becomes.events) nodes_after ((sent ++ entry.outputs) ++ outputs_by entries) → IsReachableFrom same n w nodes_after (sent ++ outputs_by (entry ∷ entries))
+    reachable_on : AreNodesReachableFrom same n (steps same w becomes.events) nodes_after ((sent ++ entry.outputs) ++ outputs_by entries) → AreNodesReachableFrom same n w nodes_after (sent ++ outputs_by (entry ∷ entries))
     unfolding outputs_by
     reachable_on reachable = record {
       events = becomes.events ++ reachable.events;
@@ -89,7 +89,7 @@ module _ {V : Type 0} (same : V → V → Bool) (n : ℕ) (sent : List (Message 
 -- ---- all of them
 
 module _ {V : Type 0} (same : V → V → Bool) (n : ℕ) where
-  none_left : (sent : List (Message V)) (nodes nodes_after : ℕ → Node V) (w : World V) → GoOn same n sent nodes [] nodes_after → Refines n nodes sent w → IsReachableFrom same n w nodes_after (sent ++ outputs_by [])
+  none_left : (sent : List (Message V)) (nodes nodes_after : ℕ → Node V) (w : World V) → GoOn same n sent nodes [] nodes_after → Refines n nodes sent w → AreNodesReachableFrom same n w nodes_after (sent ++ outputs_by [])
   unfolding steps of_process outputs_by
   none_left sent nodes nodes_after w go refines = record {
     events = [];
@@ -101,7 +101,7 @@ module _ {V : Type 0} (same : V → V → Bool) (n : ℕ) where
   }
 
   reach_on : (entries : List (Entry V)) (sent : List (Message V)) (nodes nodes_after : ℕ → Node V) (w : World V) → GoOn same n sent nodes entries nodes_after → Refines n nodes sent w →
-      IsReachableFrom same n w nodes_after (sent ++ outputs_by entries)
+      AreNodesReachableFrom same n w nodes_after (sent ++ outputs_by entries)
   reach_on [] sent nodes nodes_after w go refines = none_left sent nodes nodes_after w go refines
   reach_on (entry ∷ entries) sent nodes nodes_after w go refines =
       reachable_on same n sent nodes nodes_after entry entries go w refines
@@ -143,8 +143,8 @@ module _ {V : Type 0} where
     | inr other ↦ other_first i entry (entries ++ later) other ∙ of_both i entries later ∙ ap (λ es. es ++ of_process i later) (sym (other_first i entry entries other))
   ]
 
-  life_in_turn : (same : V → V → Bool) (n i : ℕ) (node now node_after : Node V) (entries later : List (Entry V)) → IsLife same n i node entries now → IsLife same n i now later node_after → IsLife same n i node (entries ++ later) node_after
-  life_in_turn same n i node now node_after [] later life more = subst (λ (x : Node V). IsLife same n i x later node_after) life more
+  life_in_turn : (same : V → V → Bool) (n i : ℕ) (node now node_after : Node V) (entries later : List (Entry V)) → IsLifeByEntries same n i node entries now → IsLifeByEntries same n i now later node_after → IsLifeByEntries same n i node (entries ++ later) node_after
+  life_in_turn same n i node now node_after [] later life more = subst (λ (x : Node V). IsLifeByEntries same n i x later node_after) life more
   life_in_turn same n i node now node_after (entry ∷ entries) later life more = (life.0, life.1, life_in_turn same n i life.0 now node_after entries later life.2 more)
 
   members_in_turn : (n : ℕ) (entries later : List (Entry V)) → AreMembers n entries → AreMembers n later → AreMembers n (entries ++ later)
@@ -160,7 +160,7 @@ module _ {V : Type 0} where
 pub parts_are_one : (V : Type 0) → PartsAreOne V
 parts_are_one V = λ same n sent nodes now nodes_after entries later go more. record {
   members = members_in_turn n entries later go.members more.members;
-  lives = λ i less. subst (λ (es : List (Entry V)). IsLife same n i (nodes i) es (nodes_after i)) (sym (of_both i entries later))
+  lives = λ i less. subst (λ (es : List (Entry V)). IsLifeByEntries same n i (nodes i) es (nodes_after i)) (sym (of_both i entries later))
       (life_in_turn same n i (nodes i) (now i) (nodes_after i) (of_process i entries) (of_process i later) (go.lives i less) (more.lives i less));
   received = received_in_turn sent entries later go.received more.received;
 }

@@ -9,7 +9,7 @@ use Rattle.wf_model.specs.VolatileState.{at_start, nobody, and_node, better, bet
 use Rattle.wf_model.specs.Table.{Input, Propose, Deliver, store, quiet, only_sends, stores, with_proposal, rounds_full, round_known, reject_round, reject_proposal, reject_retry, step_rejection, begin_at, ask_votes, lead, propose_by, on_propose, votes_from, promise_to, prepare_open, on_prepare, votes_at, vote_for, accept_open, on_accept, is_new_response, with_promise, asking_votes, leadership_of, promised, on_promise, with_vote, ended, ends, after_publishing, voted, on_accepted, on_chosen, on_message, transition}
 use Rattle.wf_model.specs.World.{Node, Turn, stored_after, kept_part, turn_running, turn_of}
 use Rattle.wf_trace.specs.Deed.{Takes, IsDone, new_node}
-use Rattle.wf_trace.specs.Trace.{of_process, IsLife, IsTrace}
+use Rattle.wf_trace.specs.Trace.{of_process, IsLifeByEntries, IsTrace}
 use Rattle.wf_trace.specs.Examples.{three_publish, EndsPublished}
 
 -- ---- what an input does
@@ -115,7 +115,7 @@ all = 0
 
 -- ---- the lives
 
-life_0 : IsLife same_map 3 0 new_node (of_process 0 three_publish) published_0
+life_0 : IsLifeByEntries same_map 3 0 new_node (of_process 0 three_publish) published_0
 unfolding all
 life_0 = (
   proposed_0,
@@ -147,7 +147,7 @@ life_0 = (
   ),
 )
 
-life_1 : IsLife same_map 3 1 new_node (of_process 1 three_publish) published_1
+life_1 : IsLifeByEntries same_map 3 1 new_node (of_process 1 three_publish) published_1
 unfolding all
 life_1 = (
   promised_1,
@@ -167,7 +167,7 @@ life_1 = (
   ),
 )
 
-life_2 : IsLife same_map 3 2 new_node (of_process 2 three_publish) published_2
+life_2 : IsLifeByEntries same_map 3 2 new_node (of_process 2 three_publish) published_2
 unfolding all
 life_2 = (
   crashed_2,
@@ -179,7 +179,7 @@ life_2 = (
   ),
 )
 
-lives : (i : ℕ) → i < 3 → IsLife same_map 3 i new_node (of_process i three_publish) (last i)
+lives : (i : ℕ) → i < 3 → IsLifeByEntries same_map 3 i new_node (of_process i three_publish) (last i)
 unfolding last
 lives zero less = life_0
 lives (suc zero) less = life_1

@@ -9,7 +9,7 @@ use Rattle.wf_model.specs.VolatileState.{VolatileState}
 use Rattle.wf_model.specs.Table.{Input, step_rejection, store}
 use Rattle.wf_model.specs.World.{Node, Kept, Before, After, Turn, stored_after, kept_part, turn_running, turn_of}
 use Rattle.wf_trace.specs.Deed.{Deed, Takes, Crashes, Stops, Restarts, IsDone}
-use Rattle.wf_trace.specs.Trace.{Entry, IsLife, node_at}
+use Rattle.wf_trace.specs.Trace.{Entry, IsLifeByEntries, node_at}
 use Rattle.wf_trace.specs.Theorems.{ListsGrow}
 
 -- ---- beginnings of lists
@@ -78,7 +78,7 @@ module _ {V : Type 0} (same : V → V → Bool) (n i : ℕ) where
   deed_grows Restarts before node outputs is =
       subst (λ (x : Node V). IsBeginning before.stored.history x.stored.history) (sym is.node) (begins_itself before.stored.history)
 
-  grows_from_first : (node node_after : Node V) (entries : List (Entry V)) (life : IsLife same n i node entries node_after) (many : ℕ) →
+  grows_from_first : (node node_after : Node V) (entries : List (Entry V)) (life : IsLifeByEntries same n i node entries node_after) (many : ℕ) →
       IsBeginning node.stored.history (node_at same n i node entries node_after life many).stored.history
   grows_from_first node node_after [] life many = begins_itself node.stored.history
   grows_from_first node node_after (entry ∷ entries) life zero = begins_itself node.stored.history
@@ -86,7 +86,7 @@ module _ {V : Type 0} (same : V → V → Bool) (n i : ℕ) where
       begins_through node.stored.history life.0.stored.history (node_at same n i life.0 entries node_after life.2 many).stored.history
       (deed_grows entry.deed node life.0 entry.outputs life.1) (grows_from_first life.0 node_after entries life.2 many)
 
-  grows_on : (node node_after : Node V) (entries : List (Entry V)) (life : IsLife same n i node entries node_after) (many more : ℕ) → many ≤ more →
+  grows_on : (node node_after : Node V) (entries : List (Entry V)) (life : IsLifeByEntries same n i node entries node_after) (many more : ℕ) → many ≤ more →
       IsBeginning (node_at same n i node entries node_after life many).stored.history (node_at same n i node entries node_after life more).stored.history
   grows_on node node_after [] life many more later = begins_itself node.stored.history
   grows_on node node_after (entry ∷ entries) life zero more later = grows_from_first node node_after (entry ∷ entries) life more
@@ -94,14 +94,14 @@ module _ {V : Type 0} (same : V → V → Bool) (n i : ℕ) where
   grows_on node node_after (entry ∷ entries) life (suc many) (suc more) later = grows_on life.0 node_after entries life.2 many more (omega (arith, later))
 
   -- at the end too
-  pub grows_to_last : (node node_after : Node V) (entries : List (Entry V)) (life : IsLife same n i node entries node_after) (many : ℕ) →
+  pub grows_to_last : (node node_after : Node V) (entries : List (Entry V)) (life : IsLifeByEntries same n i node entries node_after) (many : ℕ) →
       IsBeginning (node_at same n i node entries node_after life many).stored.history node_after.stored.history
   grows_to_last node node_after [] life many = subst (λ (x : Node V). IsBeginning node.stored.history x.stored.history) (sym life) (begins_itself node.stored.history)
   grows_to_last node node_after (entry ∷ entries) life zero =
       begins_through node.stored.history life.0.stored.history node_after.stored.history
       (deed_grows entry.deed node life.0 entry.outputs life.1) (from_last life.0 entries life.2)
     where
-      from_last : (x : Node V) (es : List (Entry V)) (l : IsLife same n i x es node_after) → IsBeginning x.stored.history node_after.stored.history
+      from_last : (x : Node V) (es : List (Entry V)) (l : IsLifeByEntries same n i x es node_after) → IsBeginning x.stored.history node_after.stored.history
       from_last x [] l = subst (λ (y : Node V). IsBeginning x.stored.history y.stored.history) (sym l) (begins_itself x.stored.history)
       from_last x (e ∷ es) l =
           begins_through x.stored.history l.0.stored.history node_after.stored.history (deed_grows e.deed x l.0 e.outputs l.1) (from_last l.0 es l.2)

@@ -6,7 +6,7 @@ use Rattle.std.proofs.lemmas.Bool.{cases_eq, cases_lt}
 use Rattle.wf_model.specs.Message.{Message}
 use Rattle.wf_model.specs.World.{Node}
 use Rattle.wf_trace.specs.Deed.{Deed, Takes, Crashes, Stops, Restarts, IsDone, new_node}
-use Rattle.wf_trace.specs.Trace.{Entry, of_process, outputs_by, IsLife, IsInputOf, DeliversOneOf, AreReceived, AreMembers}
+use Rattle.wf_trace.specs.Trace.{Entry, of_process, outputs_by, IsLifeByEntries, IsInputOf, DeliversOneOf, AreReceived, AreMembers}
 use Rattle.wf_trace.specs.Order.{Item, seen_of, seen, items_of, outputs_in, AreCausal, AreOf, LivesAreOneTrace, AreLivesFrom, GoOnAsOne, LivesGoOn}
 use Rattle.wf_trace.proofs.Entries.{own_first, other_first}
 
@@ -29,7 +29,7 @@ done_quiet same n i before after (Crashes input kept) outputs is = tt
 done_quiet same n i before after Stops outputs is = is.silent
 done_quiet same n i before after Restarts outputs is = is.silent
 
-life_quiet : {V : Type 0} (same : V → V → Bool) (n i : ℕ) (before after : Node V) (entries : List (Entry V)) → IsLife same n i before entries after → AreQuiet entries
+life_quiet : {V : Type 0} (same : V → V → Bool) (n i : ℕ) (before after : Node V) (entries : List (Entry V)) → IsLifeByEntries same n i before entries after → AreQuiet entries
 life_quiet same n i before after [] life = tt
 life_quiet same n i before after (entry ∷ entries) life =
     (done_quiet same n i before life.0 entry.deed entry.outputs life.1, life_quiet same n i life.0 after entries life.2)
@@ -347,7 +347,7 @@ module _ {V : Type 0} (same : V → V → Bool) (n : ℕ) (sent : List (Message 
     entries = merged_lives.entries;
     goes_on = record {
       members = merged_lives.members;
-      lives = λ i less. subst (λ (es : List (Entry V)). IsLife same n i (nodes i) es (after i)) (sym (merged_lives.each i less)) (are.life i less);
+      lives = λ i less. subst (λ (es : List (Entry V)). IsLifeByEntries same n i (nodes i) es (after i)) (sym (merged_lives.each i less)) (are.life i less);
       received = merged_lives.received;
     };
     each = merged_lives.each;

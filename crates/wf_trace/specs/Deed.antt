@@ -42,7 +42,7 @@ module _ {V : Type 0} (same : V → V → Bool) (n i : ℕ) (before : Node V) wh
     pub node : after ≡ record { stored = kept_part kept turn; volatile = None }
 
   -- A stop loses the volatile state.
-  pub record IsStopped (outputs : List (Message V)) (after : Node V) : Type 0 where
+  pub record IsNodeStopped (outputs : List (Message V)) (after : Node V) : Type 0 where
     pub silent : outputs ≡ []
     pub node : after ≡ record { stored = before.stored; volatile = None }
 
@@ -56,5 +56,5 @@ module _ {V : Type 0} (same : V → V → Bool) (n i : ℕ) (before : Node V) wh
   abbrev pub IsDone : Deed V → List (Message V) → Node V → Type 0
   IsDone (Takes input) outputs after = Steps input outputs after ⊎ IsIdleDeed before outputs after
   IsDone (Crashes input kept) outputs after = Tears input kept outputs after
-  IsDone Stops outputs after = IsStopped outputs after
+  IsDone Stops outputs after = IsNodeStopped outputs after
   IsDone Restarts outputs after = IsRestarted outputs after

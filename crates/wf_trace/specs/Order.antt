@@ -5,7 +5,7 @@ use Rattle.wf_model.specs.Message.{Message}
 use Rattle.wf_model.specs.Table.{Input}
 use Rattle.wf_model.specs.World.{Node}
 use Rattle.wf_trace.specs.Deed.{Deed, Takes, Crashes, Stops, Restarts, new_node}
-use Rattle.wf_trace.specs.Trace.{Entry, of_process, outputs_by, IsLife, IsInputOf, GoOn, IsTrace}
+use Rattle.wf_trace.specs.Trace.{Entry, of_process, outputs_by, IsLifeByEntries, IsInputOf, GoOn, IsTrace}
 
 -- the process of that number took this input, and sent these messages by it
 pub record Item (V : Type 0) : Type 0 where
@@ -48,7 +48,7 @@ AreOf i (entry ∷ entries) = (entry.process ≡ i) × AreOf i entries
 -- Each process's entries are its life, from a new node on, and what is seen of them are its items.
 pub record AreLives {V : Type 0} (same : V → V → Bool) (n : ℕ) (items : List (Item V)) (lives : ℕ → List (Entry V)) (nodes : ℕ → Node V) : Type 0 where
   pub own : (i : ℕ) → i < n → AreOf i (lives i)
-  pub life : (i : ℕ) → i < n → IsLife same n i new_node (lives i) (nodes i)
+  pub life : (i : ℕ) → i < n → IsLifeByEntries same n i new_node (lives i) (nodes i)
   pub shown : (i : ℕ) → i < n → seen (lives i) ≡ items_of i items
 
 -- One list of entries is a trace: it has each process's entries in their order, and the messages of
@@ -71,7 +71,7 @@ LivesAreOneTrace V = (same : V → V → Bool) (n : ℕ) (items : List (Item V))
 -- items.
 pub record AreLivesFrom {V : Type 0} (same : V → V → Bool) (n : ℕ) (nodes : ℕ → Node V) (items : List (Item V)) (lives : ℕ → List (Entry V)) (after : ℕ → Node V) : Type 0 where
   pub own : (i : ℕ) → i < n → AreOf i (lives i)
-  pub life : (i : ℕ) → i < n → IsLife same n i (nodes i) (lives i) (after i)
+  pub life : (i : ℕ) → i < n → IsLifeByEntries same n i (nodes i) (lives i) (after i)
   pub shown : (i : ℕ) → i < n → seen (lives i) ≡ items_of i items
 
 -- One list of entries goes on from these nodes and messages: it has each process's entries in their

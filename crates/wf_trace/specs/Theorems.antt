@@ -5,10 +5,10 @@ use Rattle.wf_model.specs.Message.{Message}
 use Rattle.wf_model.specs.DurableState.{definition_at}
 use Rattle.wf_model.specs.World.{Node, World, Event, steps, after}
 use Rattle.wf_trace.specs.Deed.{new_node}
-use Rattle.wf_trace.specs.Trace.{Entry, of_process, outputs_by, IsLife, node_at, GoOn, IsTrace, Refines}
+use Rattle.wf_trace.specs.Trace.{Entry, of_process, outputs_by, IsLifeByEntries, node_at, GoOn, IsTrace, Refines}
 
 -- some events of the model lead from the world to these nodes, with exactly these messages sent
-pub record IsReachableFrom {V : Type 0} (same : V → V → Bool) (n : ℕ) (w : World V) (nodes : ℕ → Node V) (sent : List (Message V)) : Type 0 where
+pub record AreNodesReachableFrom {V : Type 0} (same : V → V → Bool) (n : ℕ) (w : World V) (nodes : ℕ → Node V) (sent : List (Message V)) : Type 0 where
   pub events : List (Event V)
   pub refines : Refines n nodes sent (steps same w events)
 
@@ -16,16 +16,16 @@ pub record IsReachableFrom {V : Type 0} (same : V → V → Bool) (n : ℕ) (w :
 -- shows the nodes after, and has all that the entries sent appended, in order.
 abbrev pub EntriesAreEvents : Type 0 → Type 0
 EntriesAreEvents V = (same : V → V → Bool) (n : ℕ) (sent : List (Message V)) (nodes nodes_after : ℕ → Node V) (entries : List (Entry V)) (w : World V) →
-    GoOn same n sent nodes entries nodes_after → Refines n nodes sent w → IsReachableFrom same n w nodes_after (sent ++ outputs_by entries)
+    GoOn same n sent nodes entries nodes_after → Refines n nodes sent w → AreNodesReachableFrom same n w nodes_after (sent ++ outputs_by entries)
 
 -- some events lead from the start of n nodes to these nodes, with exactly these messages sent
-pub record IsReachable {V : Type 0} (same : V → V → Bool) (n : ℕ) (nodes : ℕ → Node V) (sent : List (Message V)) : Type 0 where
+pub record AreNodesReachable {V : Type 0} (same : V → V → Bool) (n : ℕ) (nodes : ℕ → Node V) (sent : List (Message V)) : Type 0 where
   pub events : List (Event V)
   pub refines : Refines n nodes sent (after same n events)
 
 -- A trace is a run of the model: it ends at exactly these nodes, and all that was sent, in order.
 abbrev pub TraceIsRun : Type 0 → Type 0
-TraceIsRun V = (same : V → V → Bool) (n : ℕ) (entries : List (Entry V)) (nodes : ℕ → Node V) → IsTrace same n entries nodes → IsReachable same n nodes (outputs_by entries)
+TraceIsRun V = (same : V → V → Bool) (n : ℕ) (entries : List (Entry V)) (nodes : ℕ → Node V) → IsTrace same n entries nodes → AreNodesReachable same n nodes (outputs_by entries)
 
 -- Two parts of a trace, one after the other, are one.
 abbrev pub PartsAreOne : Type 0 → Type 0
@@ -39,7 +39,7 @@ published_at same n entries nodes trace i is_member many = (node_at same n i new
 
 -- What a process published at one moment is a beginning of what it has published at each later one.
 abbrev pub ListsGrow : Type 0 → Type 0
-ListsGrow V = (same : V → V → Bool) (n i : ℕ) (node node_after : Node V) (entries : List (Entry V)) (life : IsLife same n i node entries node_after) (many more : ℕ) → many ≤ more →
+ListsGrow V = (same : V → V → Bool) (n i : ℕ) (node node_after : Node V) (entries : List (Entry V)) (life : IsLifeByEntries same n i node entries node_after) (many more : ℕ) → many ≤ more →
     IsBeginning (node_at same n i node entries node_after life many).stored.history (node_at same n i node entries node_after life more).stored.history
 
 -- No two processes, at any two moments, have published different definitions under one sequence.

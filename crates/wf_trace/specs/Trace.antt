@@ -26,14 +26,14 @@ outputs_by (entry ∷ entries) = entry.outputs ++ outputs_by entries
 -- ---- one process
 
 -- The entries lead the node of process i of n from the one value to the other, deed by deed.
-abbrev pub IsLife : {V : Type 0} → (V → V → Bool) → ℕ → ℕ → Node V → List (Entry V) → Node V → Type 0
-IsLife same n i before [] after = after ≡ before
-IsLife {V} same n i before (entry ∷ entries) after =
-    (middle : Node V) × IsDone same n i before entry.deed entry.outputs middle × IsLife same n i middle entries after
+abbrev pub IsLifeByEntries : {V : Type 0} → (V → V → Bool) → ℕ → ℕ → Node V → List (Entry V) → Node V → Type 0
+IsLifeByEntries same n i before [] after = after ≡ before
+IsLifeByEntries {V} same n i before (entry ∷ entries) after =
+    (middle : Node V) × IsDone same n i before entry.deed entry.outputs middle × IsLifeByEntries same n i middle entries after
 
 -- the node after so many of its life's entries, or after all if there are fewer
 abbrev pub node_at : {V : Type 0} (same : V → V → Bool) (n i : ℕ) (before : Node V) (entries : List (Entry V)) (after : Node V) →
-    IsLife same n i before entries after → ℕ → Node V
+    IsLifeByEntries same n i before entries after → ℕ → Node V
 node_at same n i before [] after life many = before
 node_at same n i before (entry ∷ entries) after life zero = before
 node_at same n i before (entry ∷ entries) after life (suc many) = node_at same n i life.0 entries after life.2 many
@@ -72,7 +72,7 @@ AreMembers n (entry ∷ entries) = (entry.process < n) × AreMembers n entries
 -- before.
 pub record GoOn {V : Type 0} (same : V → V → Bool) (n : ℕ) (sent : List (Message V)) (nodes : ℕ → Node V) (entries : List (Entry V)) (after : ℕ → Node V) : Type 0 where
   pub members : AreMembers n entries
-  pub lives : (i : ℕ) → i < n → IsLife same n i (nodes i) (of_process i entries) (after i)
+  pub lives : (i : ℕ) → i < n → IsLifeByEntries same n i (nodes i) (of_process i entries) (after i)
   pub received : AreReceived sent entries
 
 -- the entries from the start on: all processes are new, and nothing was sent

@@ -15,12 +15,12 @@ responses_of visitors = visitors.responses.items
 module _ {S : Type 0} (servers : Server S) where
   -- this client, as it was answered, was sent a response of the server to what had come of its
   -- request
-  abbrev pub IsAnswered : S → Client → S → Type 0
-  IsAnswered before client after = servers.responds before client.incoming.bytes client.incoming.is_closed client.outgoing.bytes after
+  abbrev pub IsClientAnswered : S → Client → S → Type 0
+  IsClientAnswered before client after = servers.responds before client.incoming.bytes client.incoming.is_closed client.outgoing.bytes after
 
   -- one more client was answered, or nobody
   abbrev pub AnswersOne : S → List (Client × ℕ) → Bool → S → List (Client × ℕ) → Type 0
-  AnswersOne before responses true after responses_after = (client : Client) × (responses_after ≡ responses ++ (client, 0) ∷ []) × IsAnswered before client after
+  AnswersOne before responses true after responses_after = (client : Client) × (responses_after ≡ responses ++ (client, 0) ∷ []) × IsClientAnswered before client after
   AnswersOne before responses false after responses_after = (responses_after ≡ responses) × ((after ≡ before) ⊎ servers.stays before after)
 
   -- A client was answered, or its request isn't whole; then nothing is to be written to it. In any

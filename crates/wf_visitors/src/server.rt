@@ -28,6 +28,8 @@ pub trait Server {
     /// Reads the request of a client, and writes the response.
     fn answer(&mut self, alloc: Global, incoming: &Incoming, outgoing: &mut Outgoing) -> ServerReply
         requires { outgoing.old ≡ nothing }
-        ensures { IsServerReply (stays self.old self.new) (responds self.old incoming.now.bytes incoming.now.is_closed outgoing.new.bytes self.new)
+        ensures { IsServerReply (stays self.old self.new)
+            (responds self.old incoming.now.bytes incoming.now.is_closed
+            outgoing.new.bytes self.new)
             result outgoing.old outgoing.new };
 }

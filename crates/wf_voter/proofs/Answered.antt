@@ -9,7 +9,7 @@ use Rattle.wf_edge.specs.RequestEffect.{IsOutcome}
 use Rattle.wf_edge.specs.declared.outcome.Outcome.{Outcome}
 use Rattle.wf_node.specs.Node.{Node}
 use Rattle.wf_visitors.specs.ServerReply.{nothing}
-use Rattle.wf_voter.specs.Answer.{AreAnswered, IsResponse}
+use Rattle.wf_voter.specs.Answer.{AreAnswered, IsProcessResponse}
 use Rattle.wf_voter.specs.declared.voter.Voter.{Voter}
 use Rattle.wf_tape.specs.declared.tape.Tape.{Ghosts as Tape}
 
@@ -22,7 +22,7 @@ module _ {T : Type 0} (tapes : Tape T) where
       (subst (λ (xs : List (Voter T tapes × ℕ)). ∥ AreAnswered tapes [] [] xs ∥₁) (sym a) ∣ tt ∣₁))
 
   append_one : (befores : List (Voter T tapes × ℕ)) (clients : List (Client × ℕ)) (afters : List (Voter T tapes × ℕ)) (before : Voter T tapes × ℕ) (client : Client × ℕ) (after : Voter T tapes × ℕ)
-      → IsResponse tapes before.0.process client.0.incoming.bytes client.0.outgoing.bytes after.0.process → AreAnswered tapes befores clients afters
+      → IsProcessResponse tapes before.0.process client.0.incoming.bytes client.0.outgoing.bytes after.0.process → AreAnswered tapes befores clients afters
       → AreAnswered tapes (befores ++ before ∷ []) (clients ++ client ∷ []) (afters ++ after ∷ [])
   unfolding AreAnswered
   append_one [] [] [] before client after is are = (is, tt)
@@ -33,7 +33,7 @@ module _ {T : Type 0} (tapes : Tape T) where
   append_one (b ∷ befores) (c ∷ clients) (a ∷ afters) before client after is are = (are.0, append_one befores clients afters before client after is are.1)
 
   pub one_more_answered : (befores befores' : List (Voter T tapes × ℕ)) (clients clients' : List (Client × ℕ)) (afters afters' : List (Voter T tapes × ℕ)) (before : Voter T tapes) (client : Client) (after : Voter T tapes) (i j k : ℕ)
-      → IsResponse tapes before.process client.incoming.bytes client.outgoing.bytes after.process
+      → IsProcessResponse tapes before.process client.incoming.bytes client.outgoing.bytes after.process
       → befores' ≡ befores ++ (before, i) ∷ [] → clients' ≡ clients ++ (client, j) ∷ [] → afters' ≡ afters ++ (after, k) ∷ []
       → ∥ AreAnswered tapes befores clients afters ∥₁ → ∥ AreAnswered tapes befores' clients' afters' ∥₁
   one_more_answered befores befores' clients clients' afters afters' before client after i j k is b c a are =

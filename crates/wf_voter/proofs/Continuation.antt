@@ -19,11 +19,11 @@ use Rattle.wf_codec.specs.declared.message.Message.{Message}
 use Rattle.wf_edge.specs.declared.outcome.Outcome.{Outcome}
 use Rattle.wf_delivery.specs.Reachability.{outputs_by}
 use Rattle.wf_voter.proofs.Learnt.{asking_asks, questions_more, told_asks}
-use Rattle.wf_mail.specs.Mail.{IsBeginning}
+use Rattle.wf_mail.specs.Mail.{IsFirstPart}
 use Rattle.wf_node.specs.Reopening.{HasStoredAs}
 use Rattle.wf_node.specs.declared.fault.NodeFault.{NodeFault}
 use Rattle.wf_tape.specs.declared.tape.Tape.{Ghosts as Tape}
-use Rattle.wf_voter.specs.Answer.{HasResponded, IsAnswer}
+use Rattle.wf_voter.specs.Answer.{HasResponded, IsProcessAnswer}
 use Rattle.wf_codec.specs.Message.{view}
 use Rattle.wf_voter.specs.Folder.{Stand, with_heard}
 use Rattle.wf_peer.specs.PeerProgressText.{peer_progress_text}
@@ -36,13 +36,13 @@ use Rattle.wf_membership.specs.declared.membership.Membership.{Membership}
 
 -- ---- beginnings of lists
 
-whole : {A : Type 0} (xs ys : List A) → ys ≡ xs → IsBeginning xs ys
+whole : {A : Type 0} (xs ys : List A) → ys ≡ xs → IsFirstPart xs ys
 whole xs ys same = ([], append-nil xs ∙ sym same)
 
-grown : {A : Type 0} (xs more ys : List A) → ys ≡ xs ++ more → IsBeginning xs ys
+grown : {A : Type 0} (xs more ys : List A) → ys ≡ xs ++ more → IsFirstPart xs ys
 grown xs more ys is = (more, sym is)
 
-through : {A : Type 0} (xs ys zs : List A) → IsBeginning xs ys → IsBeginning ys zs → IsBeginning xs zs
+through : {A : Type 0} (xs ys zs : List A) → IsFirstPart xs ys → IsFirstPart ys zs → IsFirstPart xs zs
 through xs ys zs (rest, e) (more, h) = (rest ++ more, sym (append_assoc xs rest more) ∙ subst (λ k. k ++ more ≡ zs) (sym e) h)
 
 -- ---- messages that ask for what is published
@@ -155,7 +155,7 @@ module _ {T : Type 0} (tapes : Tape T) where
   same_actor before after is = record { actor = later_same before.actor after.actor is.actor; among = is.among; ended = is.ended }
 
   going_on : (before after : Process T tapes) (outputs : List Message) → IsGoingOn before after → emitted_by after ≡ emitted_by before ++ outputs
-      → IsBeginning before.actor.given.items after.actor.given.items → StaysInRun tapes before after
+      → IsFirstPart before.actor.given.items after.actor.given.items → StaysInRun tapes before after
   going_on before after outputs goes emitted given = record {
     actor = record {
       number = goes.number;
@@ -431,7 +431,7 @@ module _ {T : Type 0} (tapes : Tape T) where
   post_finished posts before after gate same member kept is = same_node before after gate same member kept (given_still posts before.process after.process is)
 
   -- a client's request, which was answered, or wasn't
-  pub answered : (before : Process T tapes) (came response : List ℕ) (outcome : Outcome) (after : Process T tapes) → IsAnswer tapes before came response outcome after → StaysInRun tapes before after
+  pub answered : (before : Process T tapes) (came response : List ℕ) (outcome : Outcome) (after : Process T tapes) → IsProcessAnswer tapes before came response outcome after → StaysInRun tapes before after
   answered before came response outcome after is = going_on before after _ is.goes_on is.emitted (whole _ _ is.given)
 
   pub responded : (before : Voter T tapes) (came response : List ℕ) (after : Voter T tapes) → ¬ (before.gate ≡ gates.Suspended) → before.is_outvoted ≡ false → before.membership.joins ≡ false

@@ -14,18 +14,18 @@ use Rattle.wf_voter.specs.declared.voter.Voter.{Voter}
 use Rattle.wf_tape.specs.declared.tape.Tape.{Ghosts as Tape}
 
 -- unless a response was written, nothing was
-abbrev pub IsUnsent : Outcome → Outgoing → Outgoing → Type 0
-IsUnsent (outcome.Sent status count) old new = ⊤
-IsUnsent (outcome.WriteFailed status count) old new = ⊤
-IsUnsent outcome.ReadFailed old new = new ≡ old
-IsUnsent outcome.NoRequest old new = new ≡ old
+abbrev pub IsLeftUnwritten : Outcome → Outgoing → Outgoing → Type 0
+IsLeftUnwritten (outcome.Sent status count) old new = ⊤
+IsLeftUnwritten (outcome.WriteFailed status count) old new = ⊤
+IsLeftUnwritten outcome.ReadFailed old new = new ≡ old
+IsLeftUnwritten outcome.NoRequest old new = new ≡ old
 
 module _ {T : Type 0} (tapes : Tape T) where
   -- The process was asked by the bytes that came, and what was written is the response of `wf_edge`
   -- to these by its node as it stood, or a beginning of it where memory failed. What the node sent
   -- by it, the process logged as returned, nothing was given to the node, and the process is that
   -- of this node in this run.
-  pub record IsAnswer (before : Process T tapes) (came response : List ℕ) (outcome : Outcome) (after : Process T tapes) : Type 0 where
+  pub record IsProcessAnswer (before : Process T tapes) (came response : List ℕ) (outcome : Outcome) (after : Process T tapes) : Type 0 where
     pub outputs : Vec Message Global
     pub is_outcome : IsOutcome tapes (Some came) (Some []) (Some response) before.actor.node outputs after.actor.node outcome
     pub emitted : emitted_by after ≡ emitted_by before ++ outputs.items
@@ -33,15 +33,15 @@ module _ {T : Type 0} (tapes : Tape T) where
     pub goes_on : IsGoingOn before after
 
   -- A response of a process, which had lived by its acts.
-  pub record IsResponse (before : Process T tapes) (came response : List ℕ) (after : Process T tapes) : Type 0 where
+  pub record IsProcessResponse (before : Process T tapes) (came response : List ℕ) (after : Process T tapes) : Type 0 where
     pub lived : HasLived tapes before
     pub outcome : Outcome
-    pub answer : IsAnswer before came response outcome after
+    pub answer : IsProcessAnswer before came response outcome after
 
   -- It responds so; whether it is outvoted, what it goes by of replacements, and what the file
   -- `heard` has, stay.
   pub record HasResponded (before : Voter T tapes) (came response : List ℕ) (after : Voter T tapes) : Type 0 where
-    pub answers : IsResponse before.process came response after.process
+    pub answers : IsProcessResponse before.process came response after.process
     pub outvoted : after.is_outvoted ≡ before.is_outvoted
     pub membership : after.membership ≡ before.membership
     pub kept : after.kept ≡ before.kept
@@ -55,4 +55,4 @@ module _ {T : Type 0} (tapes : Tape T) where
   AreAnswered (before ∷ befores) [] afters = ⊥
   AreAnswered (before ∷ befores) (client ∷ clients) [] = ⊥
   AreAnswered (before ∷ befores) (client ∷ clients) (after ∷ afters) =
-      IsResponse before.0.process client.0.incoming.bytes client.0.outgoing.bytes after.0.process × AreAnswered befores clients afters
+      IsProcessResponse before.0.process client.0.incoming.bytes client.0.outgoing.bytes after.0.process × AreAnswered befores clients afters

@@ -9,7 +9,7 @@ use Rattle.wf_codec.specs.declared.message.Message.TheVariants as messages
 use Rattle.wf_voter.specs.declared.voter.Voter.{Voter}
 use Rattle.wf_codec.specs.Message.{view}
 use Rattle.wf_voter.specs.Folder.{Stand}
-use Rattle.wf_mail.specs.Mail.{IsBeginning}
+use Rattle.wf_mail.specs.Mail.{IsFirstPart}
 use Rattle.wf_membership.specs.declared.gate.Gate.TheVariants as gates
 use Rattle.wf_node.specs.Reopening.{HasStoredAs}
 use Rattle.wf_peer.specs.Told.{HearAll, IsHeardOf, IsHeardText}
@@ -23,8 +23,8 @@ pub record IsLater {T : Type 0} (tapes : Tape T) (before after : Actor T tapes) 
   pub number : after.node.id ≡ before.node.id
   pub read_from : after.read_from.items ≡ before.read_from.items
   pub began : after.began.items ≡ before.began.items
-  pub given : IsBeginning before.given.items after.given.items
-  pub emitted : IsBeginning (logged before.emitted.items) (logged after.emitted.items)
+  pub given : IsFirstPart before.given.items after.given.items
+  pub emitted : IsFirstPart (logged before.emitted.items) (logged after.emitted.items)
 
 -- The process goes on in its run: no other run began.
 pub record StaysInRun {T : Type 0} (tapes : Tape T) (before after : Process T tapes) : Type 0 where

@@ -2,7 +2,7 @@
 
 ghost use Rattle.std.specs.Prelude.{◌≡◌};
 ghost use Rattle.wf_visitors.specs.ServerReply.{nothing};
-ghost use Rattle.wf_voter.specs.Answer.{HasResponded, IsAnswer, IsUnsent};
+ghost use Rattle.wf_voter.specs.Answer.{HasResponded, IsProcessAnswer, IsLeftUnwritten};
 ghost use Rattle.wf_voter.specs.Continuation.{StaysInRun, HasOnlyServed};
 
 use crate::voter::Voter;
@@ -49,9 +49,10 @@ fn serve<T: Tape>(
     outgoing: &mut Outgoing,
 ) -> Outcome
     requires { outgoing.old ≡ nothing }
-    ensures sent { IsAnswer T.Tape process.old incoming.now.bytes outgoing.new.bytes result process.new }
+    ensures sent { IsProcessAnswer T.Tape process.old incoming.now.bytes outgoing.new.bytes
+        result process.new }
     ensures on { StaysInRun T.Tape process.old process.new }
-    ensures unsent { IsUnsent result outgoing.old outgoing.new }
+    ensures unsent { IsLeftUnwritten result outgoing.old outgoing.new }
 {
     process.serve(alloc, &mut incoming.reader(), outgoing)
 }

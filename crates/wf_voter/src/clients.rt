@@ -48,7 +48,8 @@ impl<T: Tape + Drop, N: Network> Clients<T, N> {
 
     /// Each client that was answered, always. The call does nothing.
     pub fn always_answered(&self)
-        ensures { ∥ AreAnswered T.Tape self.now.before.items (responses_of self.now.visitors) self.now.after.items ∥₁ }
+        ensures { ∥ AreAnswered T.Tape self.now.before.items
+            (responses_of self.now.visitors) self.now.after.items ∥₁ }
     {
         let _ = &self.before;
     }

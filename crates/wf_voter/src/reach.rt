@@ -49,7 +49,8 @@ fn with_vote_of<T: Tape>(
     ensures no_lower { IsSlot number → (vote : Vote Definition) →
         (stored_of node.now).votes number ≡ Some vote →
         IsNoLowerVote (Some (record { ballot = vote.ballot; sequence = number })) result }
-    ensures is_vote { IsVoteOfNode (stored_of node.now) highest → IsVoteOfNode (stored_of node.now) result }
+    ensures is_vote { IsVoteOfNode (stored_of node.now) highest →
+        IsVoteOfNode (stored_of node.now) result }
 {
     match Slot::new(number) {
         Some(slot) => with_vote_at(node, slot, highest),
@@ -66,7 +67,8 @@ fn with_vote_at<T: Tape>(
     ensures kept { IsNoLowerVote highest result }
     ensures no_lower { (vote : Vote Definition) → (stored_of node.now).votes slot ≡ Some vote →
         IsNoLowerVote (Some (record { ballot = vote.ballot; sequence = slot })) result }
-    ensures is_vote { IsVoteOfNode (stored_of node.now) highest → IsVoteOfNode (stored_of node.now) result }
+    ensures is_vote { IsVoteOfNode (stored_of node.now) highest →
+        IsVoteOfNode (stored_of node.now) result }
 {
     match node.vote_at(slot) {
         Some(vote) => Some(raise_vote(

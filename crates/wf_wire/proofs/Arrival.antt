@@ -11,7 +11,7 @@ use Rattle.wf_codec.specs.declared.message.Message as code
 use Rattle.wf_def.specs.Definition.{Definition}
 use Rattle.wf_mail.specs.Mail.{spelled}
 use Rattle.wf_mail.specs.Receiver as mail
-use Rattle.wf_mail.specs.Receiver.{IsClosed, IsReceived, ReceiverState, came, taken}
+use Rattle.wf_mail.specs.Receiver.{IsClosed, IsPieceReceived, ReceiverState, came, taken}
 use Rattle.wf_mail.specs.Stream.{Reads}
 use Rattle.wf_model.specs.Chosen.{IsIn}
 use Rattle.wf_model.specs.Message.{Message}
@@ -183,11 +183,11 @@ come_from said greeting receiver stream messages others m rest only is reads fir
 
 -- ---- what a receiver makes of a piece
 
-pub taken_on : (messages : Vec code.Message Global) (all all' piece : List ℕ) (receiver receiver' : ReceiverState) → 0 < length piece → all' ≡ all ++ piece → IsReceived receiver piece (map view messages.items) receiver' → taken receiver' ≡ taken receiver ++ piece →
+pub taken_on : (messages : Vec code.Message Global) (all all' piece : List ℕ) (receiver receiver' : ReceiverState) → 0 < length piece → all' ≡ all ++ piece → IsPieceReceived receiver piece (map view messages.items) receiver' → taken receiver' ≡ taken receiver ++ piece →
     AreTakenOn messages all receiver all' receiver'
 taken_on messages all all' piece receiver receiver' some more received takes = record { more = piece; all_is = more; some = some; takes = takes; received = received; among = ∣ seen receiver receiver' received ∣₁ }
   where
-    seen : (r r' : ReceiverState) → IsReceived r piece (map view messages.items) r' → AreAmong (map view messages.items) (came r')
+    seen : (r r' : ReceiverState) → IsPieceReceived r piece (map view messages.items) r' → AreAmong (map view messages.items) (came r')
     seen (mail.Open before rest) (mail.Open after rest') is = λ x there. in_along x (before ++ map view messages.items) after (sym is.0) (in_right x before (map view messages.items) there)
     seen (mail.Open before rest) (mail.Closed after fault) is = absurd is
     seen (mail.Closed before fault) r' is = absurd is
@@ -218,7 +218,7 @@ lost_by (faults.BadGreeting fault) all all' receiver end = absurd end
 lost_by faults.BadMessage all all' receiver end = absurd end
 
 -- a receiver is open after messages came
-pub still_open : (piece : List ℕ) (messages : List (Message Definition)) (receiver receiver' : ReceiverState) → IsReceived receiver piece messages receiver' → takes_more receiver' ≡ true
+pub still_open : (piece : List ℕ) (messages : List (Message Definition)) (receiver receiver' : ReceiverState) → IsPieceReceived receiver piece messages receiver' → takes_more receiver' ≡ true
 still_open piece messages (mail.Open before rest) (mail.Open after rest') is = refl
 still_open piece messages (mail.Open before rest) (mail.Closed after fault) is = absurd is
 still_open piece messages (mail.Closed before fault) receiver' is = absurd is

@@ -3,7 +3,7 @@ use Rattle.std.proofs.Common.{◌≡◌, ◌∙◌, ℕ, List, ◌++◌, drop, l
 use Rattle.std.proofs.Math.Seq.{drop-append_seam}
 use Rattle.std.specs.declared.alloc.Global.{Global}
 use Rattle.wf_def.specs.Definition.{Definition}
-use Rattle.wf_mail.specs.Mail.{IsBeginning, spelled}
+use Rattle.wf_mail.specs.Mail.{IsFirstPart, spelled}
 use Rattle.wf_mail.specs.Receiver.{ReceiverState, came, taken}
 use Rattle.wf_mail.specs.Theorem.{OnlySentCome}
 use Rattle.wf_model.specs.Message.{Message}
@@ -15,7 +15,7 @@ use Rattle.wf_wire.proofs.Offers.{in_along, in_left}
 
 -- what came after the greeting is a beginning of the encodings
 after_greeting : GreetingsAreAsLong → (peer : ℕ) (stream : List (Vec ℕ Global × ReceiverState)) (m : Message Definition) (come : HasComeFrom peer stream m) (sent : List ℕ) (put : List (Message Definition)) →
-    IsSentAs sent put → IsBeginning (bytes_by_then come) sent → IsBeginning (taken come.receiver) (spelled put)
+    IsSentAs sent put → IsFirstPart (bytes_by_then come) sent → IsFirstPart (taken come.receiver) (spelled put)
 after_greeting as_long peer stream m come sent put is begins =
     let said = greeting_bytes come.said in
     let own = greeting_bytes is.own in

@@ -4,7 +4,7 @@ use Rattle.std.specs.Prelude.{if◌then◌else◌, is_ok, is_some}
 use Rattle.std.proofs.lemmas.List.{length-map, length-take, map-append, take_more}
 use Rattle.wf_codec.specs.Encoding.{spelling}
 use Rattle.wf_def.specs.Definition.{Definition}
-use Rattle.wf_mail.specs.Outbox.{OutboxState, IsPut, IsUnchanged}
+use Rattle.wf_mail.specs.Outbox.{OutboxState, IsPut, IsSameOutbox}
 use Rattle.wf_mail.specs.declared.dropped.Dropped.{Dropped}
 use Rattle.wf_mail.specs.declared.dropped.Dropped.TheVariants.{NoRoom, Memory}
 use Rattle.wf_model.specs.Chosen.{IsIn}
@@ -40,7 +40,7 @@ one_more_seen {A} f xs i x lt e = ap (map f) (take_more xs i x lt ∙ ap (λ (y 
 -- ---- an offer
 
 -- what an outbox returns says whether the message was put in
-pub put_or : {U : Type 0} (r : Result U Dropped) (m : Message Definition) (before after : OutboxState) → OnOk r (IsPut before m after) → OnErr r (IsUnchanged before after) →
+pub put_or : {U : Type 0} (r : Result U Dropped) (m : Message Definition) (before after : OutboxState) → OnOk r (IsPut before m after) → OnErr r (IsSameOutbox before after) →
     (IsErrOf r NoRoom → before.limit < length before.waiting + length (spelling m)) → (IsErrOf r Memory → before.spare < length (spelling m)) → IsPutOr (is_ok r) m (Some before) (Some after)
 put_or (Ok u) m before after put same no_room memory = put
 put_or (Err NoRoom) m before after put same no_room memory = record { same = same; why = inl (no_room refl) }

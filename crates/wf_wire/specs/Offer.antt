@@ -2,14 +2,14 @@
 use Rattle.std.specs.Prelude.{◌≡◌, ◌⊎◌, ℕ, ◌+◌, ◌<◌, Bool, true, false, List, [], ◌∷◌, length, if◌then◌else◌, is_some, Option, Some, None}
 use Rattle.wf_codec.specs.Encoding.{spelling}
 use Rattle.wf_def.specs.Definition.{Definition}
-use Rattle.wf_mail.specs.Outbox.{OutboxState, IsPut, IsUnchanged}
+use Rattle.wf_mail.specs.Outbox.{OutboxState, IsPut, IsSameOutbox}
 use Rattle.wf_model.specs.Message.{Message}
 use Rattle.wf_wire.specs.ToPeer.{put_into}
 
 -- The message was dropped: there was no room for its encoding, or it needed an allocation, which
 -- failed. Nothing else changed.
 pub record IsDropped (before : OutboxState) (m : Message Definition) (after : OutboxState) : Type 0 where
-  pub same : IsUnchanged before after
+  pub same : IsSameOutbox before after
   pub why : (before.limit < length before.waiting + length (spelling m)) ⊎ (before.spare < length (spelling m))
 
 -- By whether it was kept: put in whole, or dropped. Where there is no outbox, nothing happens.

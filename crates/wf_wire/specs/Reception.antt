@@ -4,7 +4,7 @@ use Rattle.std.specs.declared.alloc.Global.{Global}
 use Rattle.wf_codec.specs.Message.{view}
 use Rattle.wf_codec.specs.declared.message.Message.{Message}
 use Rattle.wf_codec.specs.declared.fault.DecodeFault.{DecodeFault}
-use Rattle.wf_mail.specs.Receiver.{IsReceived, ReceiverState, came, taken}
+use Rattle.wf_mail.specs.Receiver.{IsPieceReceived, ReceiverState, came, taken}
 use Rattle.wf_mail.specs.Stream.{Breaks}
 use Rattle.wf_peer.specs.Greeting.{IsGreeting, greeting_bytes, greeting_length}
 use Rattle.wf_peer.specs.declared.greeting.Greeting.{Greeting}
@@ -41,7 +41,7 @@ pub record AreTakenOn (messages : Vec Message Global) (all : List ℕ) (receiver
   pub all_is : all_after ≡ all ++ more
   pub some : 0 < length more
   pub takes : taken receiver_after ≡ taken receiver ++ more
-  pub received : IsReceived receiver more (map view messages.items) receiver_after
+  pub received : IsPieceReceived receiver more (map view messages.items) receiver_after
   pub among : ∥ AreAmong (map view messages.items) (came receiver_after) ∥₁
 
 -- so they did, or none came
@@ -112,7 +112,7 @@ module _ {C : Type 0} {connections : Connection C} where
     pub more : List ℕ
     pub some : 0 < length more
     pub came : connections.came after.connection ≡ connections.came before.connection ++ more
-    pub received : IsReceived before.receiver more (map view (waiting_in after)) after.receiver
+    pub received : IsPieceReceived before.receiver more (map view (waiting_in after)) after.receiver
     pub counted : count ≡ length (waiting_in after)
     pub greeting : after.greeting.items ≡ before.greeting.items
     pub said : after.said ≡ before.said

@@ -2,7 +2,7 @@
 use Rattle.std.specs.Prelude.{◌≡◌, ℕ, ◌*◌, Bool, List, [], ◌++◌, map, Option, Some, None, is_some, true, false}
 use Rattle.wf_codec.specs.Message.{view}
 use Rattle.wf_def.specs.Definition.{Definition}
-use Rattle.wf_mail.specs.Mail.{AreMessages, IsBeginning, spelled}
+use Rattle.wf_mail.specs.Mail.{AreMessages, IsFirstPart, spelled}
 use Rattle.wf_mail.specs.Outbox.{OutboxState}
 use Rattle.wf_mail.specs.Stream.{most_message_bytes}
 use Rattle.wf_model.specs.Chosen.{IsIn}
@@ -52,7 +52,7 @@ pub record IsSentAs (sent : List ℕ) (put : List (Message Definition)) : Type 0
   pub own : Greeting
   pub is_greeting : IsGreeting own
   pub messages : AreMessages put
-  pub begins : IsBeginning sent (greeting_bytes own ++ spelled put)
+  pub begins : IsFirstPart sent (greeting_bytes own ++ spelled put)
 
 -- the most bytes that wait for a peer
 abbrev pub most_outbox_bytes : ℕ

@@ -76,7 +76,8 @@ impl Cache {
         requires most { capacity ≤ most_cached }
         ensures empty { IfOk result (λ cache. cache ≡ cache_of (lru_cache [] capacity) 0 0 0) }
         ensures capacity { IfOk result (λ cache. cache.cap ≡ capacity) }
-        ensures cached { IfOk result (λ cache. (history : List Definition) → AllCached history cache) }
+        ensures cached { IfOk result (λ cache. (history : List Definition) →
+            AllCached history cache) }
     {
         let capacity = NonZeroUsize::new(capacity).unwrap();
         Ok(Cache {

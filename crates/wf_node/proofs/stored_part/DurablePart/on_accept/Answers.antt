@@ -1,14 +1,14 @@
 -- The acceptor's transition is this node's, and it publishes nothing.
 use Rattle.std.proofs.Common.{IfOk, OnErr, subst}
 use Rattle.wf_model.specs.Table.{on_accept}
-use Rattle.wf_node.specs.DurablePart.{DurablePart, IsTransition, Stores, stored_of}
+use Rattle.wf_node.specs.DurablePart.{DurablePart, IsTransitionAnswer, Stores, stored_of}
 use Rattle.wf_node.specs.Parts as parts
 use Rattle.wf_node.proofs.PersistentPart.{parts_of, transition_if_ok, stores_if_err, room_if_ok, accept_publishes_nothing}
 use Rattle.wf_node.proofs.stored_part.DurablePart.on_accept.Goals as goal
 
 pub returns-clause-transition : goal.returns-clause-transition
 returns-clause-transition c =
-    subst (λ (k : DurablePart). IfOk c.on_accept.result (IsTransition (λ volatile. on_accept k.id (stored_of k) volatile c.args.slot c.args.ballot c.args.canon))) c.self.view_is
+    subst (λ (k : DurablePart). IfOk c.on_accept.result (IsTransitionAnswer (λ volatile. on_accept k.id (stored_of k) volatile c.args.slot c.args.ballot c.args.canon))) c.self.view_is
     (transition_if_ok c.self.inside.tried c.self.inside.acceptor.part c.self.inside.history.definitions
     (λ stored volatile. on_accept c.self.inside.acceptor.part.id stored volatile c.args.slot c.args.ballot c.args.canon) c.on_accept.result c.self.invariant c.on_accept.ensures.transition)
 
