@@ -70,41 +70,36 @@ def oblique(draw):
 
 
 def cases():
-    comb = [feature(fitting(zigzag, 4))]
+    comb, full = [feature(fitting(zigzag, 4))], "COLOR {color} OUTLINECOLOR {color} WIDTH 16"
     falling = "".join(style(f"COLOR {{color}} OUTLINECOLOR {{color}} WIDTH {16 - k}", k) for k in range(8))
-    yield "one polygon of full-height edges, 8 outlines of falling width", mapfile("POLYGON", falling, comb)
-    yield "one polygon of edges with ends anywhere, 8 outlines of falling width", mapfile(
-        "POLYGON", falling, [feature(fitting(up_and_down(1, 10), 4))])
-    yield "one polygon of distinct edges with ends anywhere, 8 outlines of falling width", mapfile(
-        "POLYGON", falling, [feature(fitting(up_and_down(2, 90, 10), 6))])
-    yield "the same edges, one fill", mapfile("POLYGON", styles("COLOR {color}", 1),
-                                              [feature(fitting(up_and_down(2, 90, 10), 6))])
-    name = "one polygon of edges in nine groups with free columns between, 8 outlines of falling width"
-    yield name, mapfile("POLYGON", falling, [f"FEATURE\n{''.join(grouped(k) for k in range(9))}END\n"])
-    yield "one polygon of oblique edges, 8 outlines of falling width", mapfile(
-        "POLYGON", falling, [feature(fitting(oblique(random.Random(3)), 6))])
-    yield "one polygon of slanted edges, 8 outlines of falling width", mapfile(
-        "POLYGON", falling, [feature(fitting(lambda k: (9 * (k % 2), 7 * (k % 2)), 4))])
-    yield "one polygon of full-height edges, 8 fills and outlines of 16 pixels", mapfile(
-        "POLYGON", styles("COLOR {color} OUTLINECOLOR {color} WIDTH 16"), comb)
-    yield "one polygon of full-height edges, one fill", mapfile("POLYGON", styles("COLOR {color}", 1), comb)
-    yield "one line of full-height segments, 8 styles of falling width", mapfile(
-        "LINE", "".join(style(f"COLOR {{color}} WIDTH {16 - 2 * k}", k) for k in range(8)), comb)
+    distinct, outlines = [feature(fitting(up_and_down(2, 90, 10), 6))], "8 outlines of falling width"
+    groups = [f"FEATURE\n{''.join(grouped(k) for k in range(9))}END\n"]
+    for name, styling, features in (
+            (f"full-height edges, {outlines}", falling, comb),
+            (f"edges with ends anywhere, {outlines}", falling, [feature(fitting(up_and_down(1, 10), 4))]),
+            (f"distinct edges with ends anywhere, {outlines}", falling, distinct),
+            ("distinct edges with ends anywhere, one fill", styles("COLOR {color}", 1), distinct),
+            (f"edges in nine groups with free columns between, {outlines}", falling, groups),
+            (f"oblique edges, {outlines}", falling, [feature(fitting(oblique(random.Random(3)), 6))]),
+            (f"slanted edges, {outlines}", falling,
+             [feature(fitting(lambda k: (9 * (k % 2), 7 * (k % 2)), 4))]),
+            ("full-height edges, 8 fills and outlines of 16 pixels", styles(full), comb),
+            ("full-height edges, one fill", styles("COLOR {color}", 1), comb)):
+        yield f"one polygon of {name}", mapfile("POLYGON", styling, features)
+    narrowing = "".join(style(f"COLOR {{color}} WIDTH {16 - 2 * k}", k) for k in range(8))
+    yield "one line of full-height segments, 8 styles of falling width", mapfile("LINE", narrowing, comb)
     flat = [feature([(y, x) for x, y in fitting(zigzag, 4)])]
     yield "one line of full-width segments, 8 styles", mapfile("LINE", styles("COLOR {color} WIDTH 16"), flat)
     big = fitting(lambda k: feature([(0, 0), (9, 0), (9, 9 - k % 2), (0, 9)]), 56)
     yield "polygons over nearly the whole picture", mapfile("POLYGON", styles("COLOR {color}"), big)
     thin = fitting(lambda k: feature([(0, k % 9), (9, k % 9 + 1), (9, k % 9)]), 52)
-    yield "thin triangles over the whole width", mapfile(
-        "POLYGON", styles("COLOR {color} OUTLINECOLOR {color} WIDTH 2"), thin)
+    yield "thin triangles over the whole width", mapfile("POLYGON", styles(full.replace("16", "2")), thin)
     spots = [feature([(k % 10, k // 10 % 10) for k in range(15_000)])]
     yield "points of 64 pixels", mapfile("POINT", styles("COLOR {color} SIZE 64"), spots)
     names = fitting(lambda k: feature([(k % 9, k % 7)], f'TEXT "{"N" * 40}"\n'), 84)
-    label = "LABEL SIZE GIANT FORCE {} END\n"
-    yield "labels of 40 letters, forced", mapfile("POINT", "", names, label.format("TRUE"))
+    yield "labels of 40 letters, forced", mapfile("POINT", "", names, "LABEL SIZE GIANT FORCE TRUE END\n")
     short = fitting(lambda k: feature([(k % 10, k // 10 % 10)], 'TEXT "N"\n'), 45)
-    yield "many labels of one letter", mapfile("POINT", "", short,
-                                               label.format("FALSE").replace("GIANT", "TINY"))
+    yield "many labels of one letter", mapfile("POINT", "", short, "LABEL SIZE TINY FORCE FALSE END\n")
     yield "64 layers whose names and titles are quotes alone, each six bytes in a document", quotes()
 
 

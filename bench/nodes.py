@@ -39,10 +39,10 @@ import time
 from farmkit.command import add_cases, program_parser
 from farmkit.etcd import Etcd, call, in_base64
 from farmkit.mapfiles import canonical
-from farmkit.measure import disk_of, load, percentile, timed
-from farmkit.processes import nodes_in
+from farmkit.measure import disk_of, load, percentile, rate, timed
+from farmkit.nodes import Nodes
 from farmkit.repository import MAPS
-from farmkit.wanted import seconds_until
+from farmkit.wanted import seconds_until, until
 from farmkit.web import connect, read_answer, request
 from tiles import Map, nginx
 
@@ -78,31 +78,12 @@ class Table:
 
 # ---- nodes
 
-def sequence_in(answer):
-    return int(answer.body.split()[3])
-
-
 @contextlib.contextmanager
 def farm(options, name, count=3, logs=True):
     """Nodes that run, in a folder of their own, each of which has peers."""
-    folder = pathlib.Path(options.room) / name
-    nodes = nodes_in(options.program, folder, name, count)
-    try:
-        for node in nodes:
-            node.start(logs=logs)
-        for node in nodes:
-            wait_for(lambda: node.published() is not None)
-        if count > 1:
-            wait_for(lambda: all(node.metrics().get("wfarm_peers_connected") == count - 1 for node in nodes))
-        yield nodes
-    finally:
-        for node in nodes:
-            node.kill()
-
-
-def wait_for(is_so):
-    if seconds_until(is_so, PATIENCE, 0.02) is None:
-        sys.exit("a node did not start")
+    with Nodes(options.program, pathlib.Path(options.room) / name, count, name, logs=logs) as nodes:
+        until(lambda: all(nodes.connected(i)[0] == count - 1 for i in range(count)), PATIENCE, 0.02)
+        yield nodes.each
 
 
 def connections(nodes):
@@ -113,7 +94,7 @@ def connections(nodes):
 def ask_all(nodes, clients):
     for node, client in zip(nodes, clients):
         client.sendall(request("/status"))
-    return [sequence_in(read_answer(client)) for client in clients]
+    return [int(read_answer(client).body.split()[3]) for client in clients]
 
 
 def publish(nodes, text, sequence, standing=None):
@@ -202,16 +183,6 @@ def syncs_in(trace):
         elif re.search(r" \w*sync\w*\(", line):
             syncs["heard"] += 1
     return syncs
-
-
-def rate(address, path, seconds, clients):
-    """The requests a second by wrk, and what it says of errors."""
-    words = ["wrk", "-t2", f"-c{clients}", f"-d{seconds}s", "-H", "Connection: close",
-             f"http://{address}{path}"]
-    said = subprocess.run(words, capture_output=True, text=True).stdout
-    errors = re.search(r"Socket errors: (.*)|Non-2xx.*: (.*)", said)
-    return float(re.search(r"Requests/sec:\s+([\d.]+)",
-                           said)[1]), int(re.search(r"(\d+) requests in", said)[1]), errors and errors[0]
 
 
 def measure_tiles(options, table):

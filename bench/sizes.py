@@ -10,9 +10,12 @@ Cases, all of them where none is named:
     held      a node opens on a tape of 2,048 maps, before which as many sequences further on get eight
               promises and a vote each
     start     `wfarm serve` with one node starts on a tape of 4,096 maps of 2 KB, and shortens it: the time
+    promise, accept, published   1,024 messages to an acceptor with 4,096 votes, the most there are: a
+              Promise, an Accept that replaces a vote, a published sequence, whose vote goes
 
-Of each the cost of the least input is taken off. `tape` and `held` are asked of the built program of the
-farm's cases (wf_test_farm), and what the same tape takes with a bad first byte is taken off.
+Of each the cost of the least input is taken off. From `tape` on, but for `start`, the built program of the
+farm's cases (wf_test_farm) is asked; what the same tape takes with a bad first byte, or the votes alone, is
+taken off.
 """
 
 import pathlib
@@ -31,7 +34,7 @@ from farmkit.tapes import ACCEPTED, PROMISED, PUBLISHED, record, tape_of
 
 RUNS = 7
 TABLE = TOP / "crates" / "wf_test_farm" / "stdin"
-ENDING = b"1 cases, 0 differ, 0 faults"
+ENDING, UNEXPECTED = b"1 cases, 0 differ, 0 faults", b"1 cases, 1 differ, 0 faults"
 LONGEST = 131_072
 HEAD = b'MAP NAME "bench" EXTENT 0 0 4 4 PROJECTION "init=epsg:4326" END LAYER NAME p TYPE LINE\n'
 TAIL = b"END END\n"
@@ -45,6 +48,7 @@ MESSAGES, LED = 2 * NODES + 3, NODES + 2
 SCRIPT = [f"nodes {NODES}", "map a", 'MAP NAME "a" EXTENT 0 0 4 4 PROJECTION "init=epsg:4326" END END',
           "endmap"]
 PROMISES = 8
+MESSAGES_SENT = 1_024
 QUERY = ("VERSION=1.3.0&REQUEST=GetMap&LAYERS=a&STYLES=&CRS=EPSG:3857&BBOX=0,0,100,100&WIDTH={}&HEIGHT={}"
          "&FORMAT=image/x-portable-pixmap")
 STYLE = "STYLE COLOR 200 220 180 OUTLINECOLOR 90 120 60 WIDTH 2 END"
@@ -169,6 +173,25 @@ def held(options):
     return [(f"{maps} maps", partial(tape_cost, options, maps, maps)) for maps in (512, 1024, 2048)]
 
 
+def table_of_votes(votes, messages):
+    """The table that gives an acceptor so many votes, and then messages of a kind, with a wrong answer, so
+    that each is told."""
+    lines = ["case votes", "ask acceptor 1", "<& the maps a and b",
+             *(f"< accept {slot} 1 0 a" for slot in range(1, votes + 1)), *messages, "> none"]
+    return "\n\n".join([*blocks("text (a|b|the maps a and b)"), "\n".join(lines)]).encode() + b"\n"
+
+
+def messages(form, options):
+    """What messages cost an acceptor that has votes, one at each of so many sequences."""
+    def cost(votes):
+        words, places = [options.cases_program], [1 + it * 2477 % votes for it in range(MESSAGES_SENT)]
+        some = [f"< {form.format(spread=at, next=it + 1, round=it + 2)}" for it, at in enumerate(places)]
+        return cost_of((words, table_of_votes(votes, some), UNEXPECTED),
+                       (words, table_of_votes(votes, []), UNEXPECTED))
+
+    return [(f"{votes} votes", partial(cost, votes)) for votes in (1024, 2048, 4096)]
+
+
 def started(program, tape):
     """The milliseconds of a start on a copy of a tape."""
     with tempfile.TemporaryDirectory() as folder:
@@ -193,7 +216,10 @@ def start(options):
     return [(f"{maps} maps", partial(cost, maps)) for maps in (1024, 2048, 4096)]
 
 
-CASES = {each.__name__: each for each in (canon, features, labels, pixels, script, tape, held, start)}
+CASES = {each.__name__: each for each in (canon, features, labels, pixels, script, tape, held, start)} | {
+    name: partial(messages, form) for name, form in (("promise", "prepare {spread} {round} 0"),
+                                                     ("accept", "accept {spread} {round} 0 b"),
+                                                     ("published", "publish {next} a"))}
 
 
 def measure(name, sizes):

@@ -26,7 +26,7 @@ import tempfile
 
 from farmkit.command import lacks, program_parser, tell_missing
 from farmkit.mapfiles import PIXMAP
-from farmkit.measure import tell, timed
+from farmkit.measure import rate, tell, timed
 from farmkit.nginx import Nginx, whole
 from farmkit.processes import Farm, free_ports, listens
 from farmkit.repository import MAPS
@@ -90,17 +90,6 @@ def measure(port, path, it, rounds):
     return found
 
 
-def rate(port, target, seconds):
-    """Requests a second by wrk, one client, one connection a request; None without wrk."""
-    if not shutil.which("wrk"):
-        return None
-    words = ["wrk", "-t1", "-c1", f"-d{seconds}s", "-H", "Connection: close",
-             f"http://127.0.0.1:{port}{target}"]
-    said = subprocess.run(words, capture_output=True, text=True).stdout
-    found = re.search(r"Requests/sec:\s+([\d.]+)", said)
-    return float(found[1]) if found else None
-
-
 def wait_until(is_there):
     """Waits for a server, which has to be there soon."""
     if seconds_until(is_there, 10) is None:
@@ -159,16 +148,16 @@ def compare(program, it, seconds, alone):
         rounds = max(2, seconds)
         ours = measure(farm.port, "/wms?", it, rounds)
         tile, target = it.tile(2, 1, 1), "/wms?" + it.tile(2, 1, 1)
-        rates = {"wfarm": rate(farm.port, target, seconds)}
-        theirs = {}
+        asked, theirs = {"wfarm": (farm.port, target)}, {}
         with tempfile.TemporaryDirectory(prefix="tiles-") as room, contextlib.ExitStack() as stack:
             os.chmod(room, 0o755)
             if not alone:
                 port, path = stack.enter_context(mapserver(it, pathlib.Path(room)))
                 theirs = measure(port, path, it, rounds)
-                rates["MapServer"] = rate(port, path + tile, seconds)
-                port, path = stack.enter_context(nginx(ask(farm.port, target)[0], pathlib.Path(room)))
-                rates["nginx"] = rate(port, path, seconds)
+                asked["MapServer"] = port, path + tile
+                asked["nginx"] = stack.enter_context(nginx(ask(farm.port, target)[0], pathlib.Path(room)))
+            rates = {name: rate(loopback(port), path, seconds)[0] for name, (port, path) in asked.items()
+                     if shutil.which("wrk")}
         print(f"\n{it.name}: {len(it.text)} bytes")
         for kind, times in ours.items():
             beside = ""
@@ -176,8 +165,7 @@ def compare(program, it, seconds, alone):
                 share = statistics.median(theirs[kind]) / statistics.median(times)
                 beside = f"  MapServer {tell(theirs[kind])}  {share:6.2f} times its rate"
             print(f"  {kind:9} wfarm {tell(times)}{beside}")
-        print("  kept, requests a second: " + ", ".join(f"{name} {got:,.0f}" for name, got in rates.items()
-                                                        if got))
+        print("  kept, requests a second: " + ", ".join(f"{name} {got:,.0f}" for name, got in rates.items()))
     finally:
         farm.kill()
 

@@ -38,6 +38,8 @@ from farmkit.wanted import Wrong, is_so_within, want
 HEALED, NOTICED, ONE_WAY, QUIET = 5, 6, 1, 12
 PATIENCE = 30
 AGAIN = 10
+# processor seconds, many times those of an idle node in that time
+AT_WORK = 0.5
 
 
 def until(is_so, seconds=PATIENCE):
@@ -80,11 +82,25 @@ class Farm:
     def start(self, published):
         for node in self.nodes:
             node.start()
-        want("the nodes don't begin", until(lambda: all(node.published() == published for node in self.nodes),
-                                            4 * PATIENCE + self.options.slack))
-        want("they don't hear one another", until(lambda: self.unlike([]) == []))
+        self.await_health(published)
+        want("they don't hear one another",
+             until(lambda: self.unlike([]) == [], PATIENCE + self.options.slack))
         if not published:
             self.publish(self.nodes[0])
+
+    def await_health(self, published):
+        """Waits until all nodes are well and have published this, as long as one that isn't is at work."""
+        spent, last = {}, time.monotonic()
+        while waiting := [node for node in self.nodes if node.ask_operator("/healthz", 5).status != 200
+                          or node.published() != published]:
+            ended = [node.last_line() for node in waiting if node.ended() is not None]
+            want(f"ended while they started: {ended}", not ended)
+            now = {node: node.processor_seconds() for node in waiting}
+            if any(now[node] > spent.get(node, 0) + AT_WORK for node in waiting):
+                spent, last = now, time.monotonic()
+            want(f"nodes don't begin: {[node.ask_operator('/healthz', 5) for node in waiting]}",
+                 time.monotonic() < last + PATIENCE + self.options.slack)
+            time.sleep(0.5)
 
     def publish(self, node):
         before, answer = self.top(), node.publish(self.next())

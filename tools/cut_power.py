@@ -61,6 +61,7 @@ import sys
 import tempfile
 import threading
 import time
+from functools import partial
 
 from farmkit import ledger
 from farmkit.calls import Unfollowed, Watcher, follow, traced
@@ -478,7 +479,8 @@ def again_and_again(kind, given, draw, numbers):
     what, wanted = ("cuts", given.cuts) if kind.cuts else ("kills", given.kills)
 
     def is_going_on():
-        return done[what] < wanted and time.monotonic() < until and not violations.are_many()
+        is_over = time.monotonic() >= until or violations.total() >= ledger.MOST_VIOLATIONS
+        return done[what] < wanted and not is_over
 
     while is_going_on():
         with tempfile.TemporaryDirectory(dir=given.folder) as above:
@@ -496,14 +498,6 @@ def again_and_again(kind, given, draw, numbers):
     return violations.total()
 
 
-def kills(*given):
-    return again_and_again(Killed, *given)
-
-
-def model(*given):
-    return again_and_again(Modelled, *given)
-
-
 def device(given, *more):
     """Cuts on a device, where one may be made, and the program's own syncs count."""
     if given.without is not None:
@@ -516,7 +510,8 @@ def device(given, *more):
     return again_and_again(OnDevice, given, *more)
 
 
-PARTS = {part.__name__: part for part in (order, kills, model, device, starts)}
+PARTS = {"order": order, "kills": partial(again_and_again, Killed),
+         "model": partial(again_and_again, Modelled), "device": device, "starts": starts}
 
 
 def words():

@@ -5,14 +5,15 @@ first page, and each file of its `specs/`, with what that is about and the words
     python3 tools/definitions.py              prints the index
     python3 tools/definitions.py --all [WORD] prints each definition with its comment, or those whose name
                                               holds WORD
-    python3 tools/definitions.py --check      says which words of public clauses no comment explains, and
-                                              which names in docs/PROVED.md, ARCHITECTURE.md and CHANGES.md
-                                              aren't there
+    python3 tools/definitions.py --check      says which words of public clauses no comment explains, which
+                                              stand in several crates, and which names in docs/PROVED.md,
+                                              ARCHITECTURE.md and CHANGES.md aren't there
 
 All of it is in comments, so each definition is said once: the one at the top of a file says what the file is
 about, a line `-- ..` above a definition what that is.
 """
 
+import graphlib
 import re
 import sys
 
@@ -21,6 +22,11 @@ from farmkit.names import missing
 from farmkit.repository import TOP, dependencies
 
 DEFINED = re.compile(r"(?:(?:unfoldable|abbrev|opaque) )?pub (?!use )(?:(?:record|data) )?(\S+)")
+# in a module, where what has neither word before it is a field
+INNER = re.compile(r"  (?:(?:unfoldable|abbrev|opaque) pub|pub (?:record|data)) (\S+)")
+TYPE = re.compile(r"^pub (?:struct|enum|trait) (\w+)", re.MULTILINE)
+# words and types that may stand in several crates: most mean one thing at several layers
+MOST_SHARED = 74
 
 IMPORT = re.compile(r"ghost use Rattle\.(wf\w*)\.specs\.((?:\w+\.)*\w+)\.\{([^}]*)\}")
 FUNCTION = re.compile(r"^[ ]*(pub (?:const )?fn|fn) (\w+)")
@@ -69,16 +75,20 @@ def about(lines):
 
 def words_of(lines):
     """The public definitions of a file, each with the last comment above it."""
-    found, said, is_open = [], [], False
+    found, said, is_open = [], {0: [], 2: []}, False
     for line in lines:
-        if line.startswith("--"):
-            said = [*said, line.lstrip("- ").rstrip("- ")] if is_open else [line.lstrip("- ").rstrip("- ")]
+        deep = 2 if line.startswith("  ") else 0
+        if line[deep:].startswith("--"):
+            text = line.strip("- ")
+            said[deep] = [*said[deep], text] if is_open else [text]
             is_open = True
             continue
         is_open = False
-        at = DEFINED.match(line)
+        at = INNER.match(line) or DEFINED.match(line)
         if at and at[1] != "mod":
-            found.append((at[1], " ".join(it for it in said if it)))
+            found.append((at[1], " ".join(it for it in said[deep] if it)))
+        if line and not deep:
+            said[2] = []
     return found
 
 
@@ -115,17 +125,9 @@ def print_all(part):
 
 def in_order():
     """The crates, each after those that it depends on."""
-    every, found = dependencies(), []
-
-    def put(name):
-        if name in every and name not in found:
-            for low in every[name]:
-                put(low)
-            found.append(name)
-
-    for name in every:
-        put(name)
-    return found
+    every = dependencies()
+    lower = {name: [low for low in lows if low in every] for name, lows in every.items()}
+    return list(graphlib.TopologicalSorter(lower).static_order())
 
 
 def unexplained():
@@ -142,6 +144,19 @@ def unexplained():
                 if said.get(words[word], "a case of a type") == "":
                     found.setdefault(words[word], f"{file.relative_to(TOP)}, {function}")
     return found
+
+
+def shared():
+    """The capitalized words of definitions, and the public types, that several crates have, with these."""
+    homes = {}
+    for crate in in_order():
+        words = [word for _, text in files_of(crate) for word, _ in words_of(text) if word[0].isupper()]
+        if not crate.startswith("wf_test_"):
+            for file in (TOP / "crates" / crate / "src").rglob("*.rt"):
+                words += [f"type {it}" for it in TYPE.findall(file.read_text(encoding="utf-8"))]
+        for word in words:
+            homes.setdefault(word, {})[crate] = None
+    return {word: list(crates) for word, crates in homes.items() if len(crates) > 1}
 
 
 def main() -> int:
@@ -162,8 +177,12 @@ def main() -> int:
     gone = list(missing())
     for document, line, name, why in gone:
         print(f"docs/{document}.md{f', line {line}' if line else ''}: {name} {why}")
-    print(f"{len(bare)} words without a comment, {len(gone)} names missing")
-    return 1 if bare or gone else 0
+    both = shared()
+    for word, crates in both.items() if len(both) > MOST_SHARED else ():
+        print(f"{word} stands in {' and '.join(crates)}")
+    print(f"{len(bare)} words without a comment, {len(gone)} names missing, {len(both)} words and types in "
+          f"several crates, at most {MOST_SHARED} may be")
+    return 1 if bare or gone or len(both) > MOST_SHARED else 0
 
 
 if __name__ == "__main__":

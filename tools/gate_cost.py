@@ -1,14 +1,17 @@
 #!/usr/bin/env python3
-"""Runs CI, `rt ci`, anew, prints what each crate cost, and writes that into docs/CI.md if the run passed.
+"""Runs CI, `rt ci`, anew, prints what each crate cost, and writes that into docs/CI.md if the run passed and
+proved all.
 
     python3 tools/gate_cost.py [LOG]
+    python3 tools/gate_cost.py --of PID LOG       of an `rt ci` that runs already, and prints to LOG
 
-Everything that CI prints goes to LOG (`gate.log` beside the repository if left out). Printed is the whole
-first: the date, the commit, CI's last line, minutes on the clock, processors, processor minutes; then a table
-of processor minutes, a line per crate: its proof, its tests and its mutants, the longest first. In docs/CI.md
+Everything that CI prints goes to LOG (`gate.log` beside the repository if left out). It has no times, so a
+run that has ended can't be measured, and one that goes on only from then on. Printed is the whole first: the
+date, the commit, CI's last line, minutes on the clock, processors, processor minutes; then a table of
+processor minutes, a line per crate: its proof, its tests and its mutants, the longest first. In docs/CI.md
 they replace what stands between the two marks. The figures are read from the processes as they run, twice a
-second, so a line can miss a second here and there; the whole is the system's own count. Run it on a clean
-clone, with nothing beside it.
+second, so a line can miss a second here and there; the whole of a run that it began is the system's own
+count. Run it on a clean clone, with nothing beside it.
 """
 
 import collections
@@ -21,12 +24,14 @@ import sys
 import time
 
 from farmkit.command import parser
+from farmkit.processes import descendants
 from farmkit.repository import TOP, git
 
 TICKS = os.sysconf("SC_CLK_TCK")
 PARTS = ("proof", "tests", "edits")
 LEAST = 6  # processor minutes of a crate that has a row of its own
 COSTS = TOP / "docs" / "CI.md"
+FROM_NOTHING = "every proof and must-fail edit was done in this run"
 MARKS = "<!-- gate_cost.py: begin -->\n", "<!-- gate_cost.py: end -->\n"
 
 
@@ -52,35 +57,14 @@ def task_of(pid):
     return crate, "tests" if b"--test" in words else "proof"
 
 
-def processes():
-    """What the system reports of each process: its number, and the fields that follow its name."""
-    for name in os.listdir("/proc"):
-        stat = read(f"/proc/{name}/stat").rpartition(b") ")[2].split() if name.isdigit() else ()
-        if len(stat) >= 20:
-            yield int(name), stat
-
-
-def descendants(running, gate):
-    """The processes that CI began, and those that they began."""
-    children = collections.defaultdict(list)
-    for number, stat in running.items():
-        children[int(stat[1])].append(number)
-    found = [gate]
-    for number in found:
-        found.extend(children[number])
-    return found
-
-
 def look(seen, gate):
     """Notes the task of each process of CI and the processor time that it has used so far."""
-    running = dict(processes())
-    for name in descendants(running, gate):
-        stat = running.get(name)
-        if stat is None:
-            continue
-        key = name, stat[19]
-        task = seen[key][0] if key in seen else task_of(name)
-        if task:
+    for number in descendants(gate):
+        # what the system reports of it: the fields that follow its name
+        stat = read(f"/proc/{number}/stat").rpartition(b") ")[2].split()
+        key = number, stat[19] if len(stat) > 19 else None
+        task = seen[key][0] if key in seen else task_of(number)
+        if task and len(stat) > 19:
             seen[key] = task, (int(stat[11]) + int(stat[12])) / TICKS / 60
 
 
@@ -112,24 +96,25 @@ def record(costs):
 def main() -> int:
     words = parser(__doc__, "Exit status: that of `rt ci`.")
     words.add_argument("log", nargs="?", type=pathlib.Path, default=TOP.parent / "gate.log", metavar="LOG")
-    log = words.parse_args().log
-    seen = {}
-    began = time.time()
-    with open(log, "w", encoding="utf-8") as out:
-        gate = subprocess.Popen(["rt", "ci", "--anew"], cwd=TOP, stdout=out, stderr=subprocess.STDOUT)
-        while gate.poll() is None:
-            look(seen, gate.pid)
-            time.sleep(0.5)
+    words.add_argument("--of", type=int, metavar="PID", help="begins none, and watches this one to its end")
+    options, began, seen, gate = words.parse_args(), time.time(), {}, None
+    if options.of is None:
+        with open(options.log, "w", encoding="utf-8") as out:
+            gate = subprocess.Popen(["rt", "ci", "--anew"], cwd=TOP, stdout=out, stderr=subprocess.STDOUT)
+    while os.path.exists(f"/proc/{options.of}") if gate is None else gate.poll() is None:
+        look(seen, gate.pid if gate else options.of)
+        time.sleep(0.5)
     used = resource.getrusage(resource.RUSAGE_CHILDREN)
-    whole = (f"{datetime.date.today()}, commit {git('rev-parse', '--short', 'HEAD').strip()}:"
-             f" `{log.read_text(encoding='utf-8').rstrip().splitlines()[-1]}`,"
-             f" {(time.time() - began) / 60:.0f} minutes on {os.cpu_count()} processors,"
-             f" {(used.ru_utime + used.ru_stime) / 60:.0f} processor minutes.")
-    costs = f"{whole}\n\n{table(seen)}"
+    used = (used.ru_utime + used.ru_stime) / 60 if gate else sum(minutes for _, minutes in seen.values())
+    told = options.log.read_text(encoding="utf-8").rstrip()
+    costs = (f"{datetime.date.today()}, commit {git('rev-parse', '--short', 'HEAD').strip()}: "
+             f"`{told.splitlines()[-1]}`, {(time.time() - began) / 60:.0f} minutes on {os.cpu_count()} "
+             f"processors, {used:.0f} processor minutes.\n\n{table(seen)}")
     print(costs, end="")
-    if gate.returncode == 0:
+    has_passed = told.endswith(" 0 failed")
+    if has_passed and FROM_NOTHING in told:
         record(costs)
-    return gate.returncode
+    return 0 if has_passed else 1
 
 
 if __name__ == "__main__":

@@ -1,14 +1,13 @@
 #!/usr/bin/env python3
 """Shows what input that means harm does to the built program: to `serve`, `node` and `replica` over sockets,
-to `canon` and `draw` as mapfiles and queries.
+to `canon` and `draw` as mapfiles and queries. Each part is left out with 0.
 
 Sockets: 1,000 connections, eight at a time, to a farm of three nodes on tapes in files: silent ones, heads
 that are cut, sent a byte at a time, too large, with more after them, of random bytes, publishes that are no
 map or shorter than they say, connections that are reset, and clients that stay after their answer. A client
-that behaves asks for /status and for one tile all the while: printed is the longest that it waited.
-Afterwards the farm has to be as before: sequence, capabilities, tile and tapes, byte for byte. The program
-serves one connection at a time and gives a client ten seconds, so a client waits for those that came before
-it.
+that behaves asks for /status and for one tile all the while: printed is the longest that it waited (one
+connection is served at a time, for ten seconds at most). Afterwards the farm has to be as before: sequence,
+capabilities, tile and tapes, byte for byte.
 
 Processes: as many connections to two nodes of three and to a replica, at the ports of peers (half greetings,
 a byte at a time, with 64 replaced nodes and more, of other farms and folders; those of the third node, which
@@ -22,8 +21,7 @@ Mutations: N mapfiles through `wfarm canon`, and a fifth as many queries, each w
 together with an error, no answer, an error line of another form, an allocation failure within 64 MB of
 address space, or a canonical text that isn't its own.
 
-Each part is left out with 0. Of its minutes 1,000 sockets take about five, most of them waiting, 1,000 at
-processes as many, and 100,000 mapfiles with 20,000 queries seven.
+1,000 connections take about five minutes, most of them waiting, 100,000 mapfiles with 20,000 queries seven.
 """
 
 import collections
@@ -48,7 +46,7 @@ from farmkit.ledger import Ledger, Watch
 from farmkit.mapfiles import map_of
 from farmkit.mutation import Maps, Queries
 from farmkit.nodes import Nodes
-from farmkit.processes import Farm, Replica, free_ports
+from farmkit.processes import Farm, Replica
 from farmkit.wanted import Wrong, is_so_within, until
 from farmkit.web import CAPABILITIES, ask, connect, loopback
 
@@ -159,10 +157,8 @@ class Attacked:
     that asks a node, and a stranger."""
 
     def __init__(self, program, folder, draw):
-        readers = loopback(free_ports(1)[0])
-        self.nodes = Nodes(program, folder)
-        self.nodes[0].words += ["--readers", readers]
-        self.nodes.begin()
+        self.nodes = Nodes(program, folder, has_readers=True).begin()
+        readers = self.nodes.readers[0]
         self.nodes.publish_whole(0, MAP)
         self.nodes.level()
         own = greeting(self.nodes, 2)

@@ -27,7 +27,7 @@ from pathlib import Path
 from maps import account, fitting, mapfile, options, texts
 from maps.account import Teller, drop_block
 from maps.cutting import cut
-from maps.errors import MapError, Notes, library
+from maps.errors import MapError, Notes, library, saying
 from maps.geometry import DIGITS, checked, on_grid, whole_extent
 from maps.model import EXTENT_DIGITS, MOST_CLASSES, MOST_PIXELS, Feature, Layer, Map
 from maps.preview import MapServer, Painter
@@ -94,12 +94,10 @@ class Importer:
         self.kept = {}  # the attributes that a layer keeps, by its name
 
     def opened(self, path):
-        try:
+        with saying(f"{path}: MapServer can't read it: @", *self.errors):
             the_map = self.script.mapObj(path)
             the_map.applyDefaultSubstitutions()
             return the_map
-        except self.errors as error:
-            raise MapError(f"{path}: MapServer can't read it: {error}") from error
 
     # ---- systems and extent
 
@@ -116,10 +114,8 @@ class Importer:
         if not text:
             raise MapError(f"{what}: it has no PROJECTION, and the map has none: write --source EPSG: and "
                            f"its number")
-        try:
+        with saying(f"{what}: the system {text} isn't known: @", *self.errors):
             return self.script.projectionObj(text)
-        except self.errors as error:
-            raise MapError(f"{what}: the system {text} isn't known: {error}") from error
 
     def is_target(self, text):
         return text.lower().lstrip("+") == OWN[self.crs]
@@ -146,11 +142,9 @@ class Importer:
         return box
 
     def reproject(self, box, source, target):
-        try:
+        with saying(f"{self.asked.mapfile}: its extent can't be reprojected: @: write --extent",
+                    *self.errors):
             box.project(source, target)
-        except self.errors as error:
-            raise MapError(f"{self.asked.mapfile}: its extent can't be reprojected: {error}: write "
-                           f"--extent") from error
 
     def width_and_scale(self):
         """The width of the extent in the map's own units, and the scale: --scale, or that of the whole."""
@@ -391,30 +385,20 @@ class Importer:
         return self.script.rectObj(-ANYWHERE, -ANYWHERE, ANYWHERE, ANYWHERE)
 
     def open(self, layer, name):
-        try:
+        with saying(f"layer {name}: MapServer can't open its data: @: look at DATA and CONNECTION, or choose "
+                    "--layers", *self.errors):
             layer.open()
-        except self.errors as error:
-            raise MapError(f"layer {name}: MapServer can't open its data: {error}: look at DATA and "
-                           f"CONNECTION, or choose --layers") from error
 
     def class_of(self, layer, shape, place):
         """The index of the shape's class, negative if it has none."""
-        try:
+        with saying(f"{place}: MapServer can't choose its class: @: repair the EXPRESSION", *self.errors):
             return layer.getClassIndex(self.map, shape, None, 0)
-        except self.errors as error:
-            raise MapError(f"{place}: MapServer can't choose its class: {error}: repair the "
-                           f"EXPRESSION") from error
 
     def shapes(self, layer, name, box):
-        try:
+        with saying(f"layer {name}: MapServer can't read its data: @: repair them, or choose --layers",
+                    *self.errors):
             layer.whichShapes(box)
-            shape = layer.nextShape()
-            while shape is not None:
-                yield shape
-                shape = layer.nextShape()
-        except self.errors as error:
-            raise MapError(f"layer {name}: MapServer can't read its data: {error}: repair them, or choose "
-                           f"--layers") from error
+            yield from iter(layer.nextShape, None)
 
     def lines_of(self, shapes, system):
         """The lines of each shape in the map's system. All are reprojected in one call, which is slow."""

@@ -25,16 +25,17 @@ python3-gdal and, for filled polygons and to simplify, python3-shapely.
 """
 
 import argparse
+import copy
 import json
 import math
 import re
 import sys
-from dataclasses import dataclass, field
+from dataclasses import dataclass
 from pathlib import Path
 
 from maps import fitting, options, texts
 from maps.cutting import cut
-from maps.errors import MapError, Notes, library
+from maps.errors import MapError, Notes, library, saying
 from maps.geometry import DIGITS, checked, on_grid, whole_extent
 from maps.merging import bounds
 from maps.model import (LABEL_SIZES, LEAST_POINTS, MOST_CLASSES, POSITIONS, Class, Feature, Label, Layer, Map,
@@ -45,17 +46,13 @@ from maps.query import picture_query
 
 KINDS = ("POINT", "LINE", "POLYGON")
 MEMBERS = {"MULTIPOINT", "MULTILINESTRING", "MULTIPOLYGON"}
+# (of the last three the colours between are mixed)
 PALETTES = {
-    "soft": ["#8dd3c7", "#ffffb3", "#bebada", "#fb8072", "#80b1d3", "#fdb462", "#b3de69", "#fccde5",
-             "#d9d9d9", "#bc80bd", "#ccebc5", "#ffed6f"]
-    + ["#a6cee3", "#e5c494", "#cab2d6"],
-    "bright": ["#e41a1c", "#377eb8", "#4daf4a", "#984ea3", "#ff7f00", "#ffd92f", "#a65628", "#f781bf",
-               "#1b9e77", "#666666", "#66c2a5", "#1f78b4"]
-    + ["#b2df8a", "#fb9a99", "#6a3d9a"],
-    "greens": ["#f7fcf5", "#00441b"],
-    "blues": ["#f7fbff", "#08306b"],
-    "heat": ["#ffffcc", "#fd8d3c", "#800026"],
-}  # of the last three the colours between are mixed
+    "soft": "8dd3c7 ffffb3 bebada fb8072 80b1d3 fdb462 b3de69 fccde5 d9d9d9 bc80bd ccebc5 ffed6f a6cee3 "
+            "e5c494 cab2d6",
+    "bright": "e41a1c 377eb8 4daf4a 984ea3 ff7f00 ffd92f a65628 f781bf 1b9e77 666666 66c2a5 1f78b4 b2df8a "
+              "fb9a99 6a3d9a",
+    "greens": "f7fcf5 00441b", "blues": "f7fbff 08306b", "heat": "ffffcc fd8d3c 800026"}
 LISTED = ("soft", "bright")
 OTHER = "other"
 
@@ -63,49 +60,21 @@ OTHER = "other"
 # ---- what is asked for
 
 
-@dataclass
-class LayerOptions:
-    """The options of one layer, as they are without options."""
-
-    path: str
-    table: str = None
-    where: str = None
-    source: str = None
-    encoding: str = None
-    layer_name: str = None
-    layer_title: str = None
-    items: list = field(default_factory=list)
-    label: str = None
-    label_size: str = "MEDIUM"
-    label_position: str = "CC"
-    label_priority: int = 1
-    label_color: tuple = (0, 0, 0)
-    color: tuple = None
-    outline: tuple = None
-    width: int = 1
-    size: int = 5
-    class_by: str = None
-    classes: list = field(default_factory=list)
-    ranges: list = None
-    palette: str = None
-
-
-class BeginLayer(argparse.Action):
-    def __call__(self, parser, namespace, value, option=None):
-        namespace.layers = (namespace.layers or []) + [LayerOptions(value)]
-
-
 class OfLayer(argparse.Action):
-    """An option of the layer that the last --layer began."""
+    """--layer, which begins a layer with what its options are if left out, or an option of the last one."""
+
+    usual = {}
 
     def __call__(self, parser, namespace, value, option=None):
-        if not namespace.layers:
+        if self.dest == "layers":
+            begun = argparse.Namespace(path=value, **copy.deepcopy(self.usual))
+            namespace.layers = [*(namespace.layers or []), begun]
+        elif not namespace.layers:
             parser.error(f"{option} stands before the first --layer")
-        layer = namespace.layers[-1]
-        if self.dest == "classes":
-            layer.classes.append(value)
+        elif self.dest == "classes":
+            namespace.layers[-1].classes.append(value)
         else:
-            setattr(layer, self.dest, value)
+            setattr(namespace.layers[-1], self.dest, value)
 
 
 def class_of(text):
@@ -141,42 +110,38 @@ def arguments():
     parser.add_argument("--skip", action="store_true",
                         help="leave out features that can't be drawn, and count them")
     options.add_common(parser)
-    parser.add_argument("--layer", action=BeginLayer, dest="layers", metavar="FILE", required=True,
+    parser.add_argument("--layer", action=OfLayer, dest="layers", metavar="FILE", required=True,
                         help="data that GDAL reads")
-    layer = parser.add_argument_group("options of a layer")
-    layer.add_argument("--table", action=OfLayer, metavar="NAME",
-                       help="the table of the file, where it has several")
-    layer.add_argument("--where", action=OfLayer, metavar="CONDITION",
-                       help="which features, as in SQL: \"use = 'forest'\"")
-    layer.add_argument("--source", action=OfLayer, metavar="EPSG:N",
-                       help="the data's system (that which the data name)")
-    layer.add_argument("--encoding", action=OfLayer, metavar="NAME",
-                       help="of a shapefile's texts, as ISO-8859-1 or CP1252")
-    layer.add_argument("--layer-name", action=OfLayer, metavar="NAME",
-                       help="its name (the table's, or the file's)")
-    layer.add_argument("--layer-title", action=OfLayer, metavar="TEXT", help="its title (its name)")
-    layer.add_argument("--items", action=OfLayer, type=lambda text: text.split(","), metavar="NAME,..",
-                       help="the attributes to keep (none)")
-    layer.add_argument("--label", action=OfLayer, metavar="NAME",
-                       help="the attribute that is written beside a feature")
-    layer.add_argument("--label-size", action=OfLayer, choices=LABEL_SIZES, help="(MEDIUM)")
-    layer.add_argument("--label-position", action=OfLayer, choices=POSITIONS, help="(CC)")
-    layer.add_argument("--label-priority", action=OfLayer, type=options.whole(1, 10),
-                       help="which label stays where two meet: the higher (1)")
-    layer.add_argument("--label-color", action=OfLayer, type=options.color, metavar="COLOR", help="(black)")
-    layer.add_argument("--color", action=OfLayer, type=options.color, help="R,G,B or #rrggbb")
-    layer.add_argument("--outline", action=OfLayer, type=options.color, metavar="COLOR", help="of polygons")
-    layer.add_argument("--width", action=OfLayer, type=options.whole(1, 16),
-                       help="of lines and outlines, in pixels (1)")
-    layer.add_argument("--size", action=OfLayer, type=options.whole(1, 64), help="of points, in pixels (5)")
-    layer.add_argument("--class-by", action=OfLayer, metavar="NAME",
-                       help="the attribute that chooses a feature's color")
-    layer.add_argument("--class", action=OfLayer, dest="classes", type=class_of, metavar="VALUE=COLOR",
-                       help="may be repeated; others have --color")
-    layer.add_argument("--ranges", action=OfLayer, type=ranges_of, metavar="N,..",
-                       help="numbers that classes of --class-by begin at")
-    layer.add_argument("--palette", action=OfLayer, choices=PALETTES,
-                       help="of --class-by (soft, and heat with --ranges)")
+    group = parser.add_argument_group("options of a layer")
+
+    def of_layer(name, said, default=None, **how):
+        action = group.add_argument(name, action=OfLayer, help=said, **how)
+        OfLayer.usual[action.dest] = default
+        action.default = argparse.SUPPRESS
+
+    of_layer("--table", "the table of the file, where it has several", metavar="NAME")
+    of_layer("--where", "which features, as in SQL: \"use = 'forest'\"", metavar="CONDITION")
+    of_layer("--source", "the data's system (that which the data name)", metavar="EPSG:N")
+    of_layer("--encoding", "of a shapefile's texts, as ISO-8859-1 or CP1252", metavar="NAME")
+    of_layer("--layer-name", "its name (the table's, or the file's)", metavar="NAME")
+    of_layer("--layer-title", "its title (its name)", metavar="TEXT")
+    of_layer("--items", "the attributes to keep (none)", [], type=lambda text: text.split(","),
+             metavar="NAME,..")
+    of_layer("--label", "the attribute that is written beside a feature", metavar="NAME")
+    of_layer("--label-size", "(MEDIUM)", "MEDIUM", choices=LABEL_SIZES)
+    of_layer("--label-position", "(CC)", "CC", choices=POSITIONS)
+    of_layer("--label-priority", "which label stays where two meet: the higher (1)", 1,
+             type=options.whole(1, 10))
+    of_layer("--label-color", "(black)", (0, 0, 0), type=options.color, metavar="COLOR")
+    of_layer("--color", "R,G,B or #rrggbb", type=options.color)
+    of_layer("--outline", "of polygons", type=options.color, metavar="COLOR")
+    of_layer("--width", "of lines and outlines, in pixels (1)", 1, type=options.whole(1, 16))
+    of_layer("--size", "of points, in pixels (5)", 5, type=options.whole(1, 64))
+    of_layer("--class-by", "the attribute that chooses a feature's color", metavar="NAME")
+    of_layer("--class", "may be repeated; others have --color", [], dest="classes", type=class_of,
+             metavar="VALUE=COLOR")
+    of_layer("--ranges", "numbers that classes of --class-by begin at", type=ranges_of, metavar="N,..")
+    of_layer("--palette", "of --class-by (soft, and heat with --ranges)", choices=PALETTES)
     return parser.parse_args()
 
 
@@ -238,11 +203,9 @@ class Source:
         source = self.table.GetSpatialRef()
         if self.asked.source:
             source = osr.SpatialReference()
-            try:
+            with saying(f"{self.path}: {self.asked.source} is no system: write --source EPSG: and a number",
+                        RuntimeError):
                 source.SetFromUserInput(self.asked.source)
-            except RuntimeError as error:
-                raise MapError(f"{self.path}: {self.asked.source} is no system: write --source EPSG: and a "
-                               f"number") from error
         if source is None:
             raise MapError(f"{self.path}: the data name no system: write --source EPSG: and its number")
         for system in (source, target):
@@ -260,7 +223,9 @@ class Source:
                     raise MapError(f"{error}, or write --skip") from error
                 self.notes.add("a feature that can't be drawn was left out", str(error))
                 continue
-            yield Record(name, parts, self.values_of(feature, name))
+            values = {wanted: texts.plain(self.text_of(feature, wanted, name), self.notes, name)
+                      for wanted in self.wanted()}
+            yield Record(name, parts, values)
 
     def features(self):
         """What of the table meets --where."""
@@ -307,10 +272,6 @@ class Source:
             parts.setdefault(kind, []).append(checked(points, crs, kind, place))
         return parts
 
-    def values_of(self, feature, place):
-        return {name: texts.plain(self.text_of(feature, name, place), self.notes, place)
-                for name in self.wanted()}
-
     def text_of(self, feature, name, place):
         """The attribute as a text, empty where it is missing."""
         ogr = self.gdal.ogr
@@ -325,13 +286,11 @@ class Source:
         if definition.GetType() in (ogr.OFTStringList, ogr.OFTIntegerList, ogr.OFTInteger64List,
                                     ogr.OFTRealList):
             return ",".join(map(str, feature.GetField(index)))
-        try:
+        with saying(f"{place}: attribute {name} isn't UTF-8: write its --encoding, as ISO-8859-1",
+                    UnicodeError, AttributeError):
             text = feature.GetFieldAsString(index)
             text.encode()
-        except (UnicodeError, AttributeError) as error:
-            raise MapError(f"{place}: attribute {name} isn't UTF-8: write its --encoding, as "
-                           f"ISO-8859-1") from error
-        return text
+            return text
 
 
 def unread(gdal, path, error):
@@ -383,11 +342,8 @@ def long_enough(kind, points, place):
 
 
 def changed(change, points, place):
-    try:
+    with saying(f"{place}: it can't be reprojected: @: give the data's own system (--source)", RuntimeError):
         return change.TransformPoints([point[:2] for point in points])
-    except RuntimeError as error:
-        raise MapError(f"{place}: it can't be reprojected: {error}: give the data's own system "
-                       f"(--source)") from error
 
 
 # ---- classes
@@ -395,7 +351,7 @@ def changed(change, points, place):
 
 def shades(palette, count):
     """So many colours of a palette."""
-    colors = [options.color(text) for text in PALETTES[palette]]
+    colors = [options.color(f"#{text}") for text in PALETTES[palette].split()]
     if palette in LISTED:
         return [colors[i % len(colors)] for i in range(count)]
     return [mixed(colors, i / max(1, count - 1)) for i in range(count)]

@@ -1,14 +1,14 @@
 #!/usr/bin/env python3
-"""Rehearses what only real hosts show: a farm whose programs are killed, and whose disks lose power or are
+"""Rehearses what only real disks show: a farm whose programs are killed, and whose disks lose power or are
 full, by a seed; and compares every answer. What links do is tried by `tools/cut_links.py`, lost disks by
 `tools/try_nodes.py`, replicas by `tools/try_replicas.py`; all of it is played, with whatever else befalls
 nodes, by the cases of `crates/wf_test_simulation`.
 
-Hosts are network namespaces on a bridge (`farmkit.hosts`): three voters or as --voters says, each with a disk
-of its own, an ext4 on a device whose power can be cut (`farmkit.device`). All the while clients publish at
-every voter and ask it for capabilities and pictures. Compared: no sequence has two pictures, two capabilities
-or two maps, whenever and from whichever voter they come; no published sequence of a voter goes back; what a
-node reported as published stays and is the map that was sent; no voter ends by itself.
+Three voters or as --voters says, each with a disk of its own, an ext4 on a device whose power can be cut
+(`farmkit.device`). All the while clients publish at every voter and ask it for capabilities and pictures.
+Compared: no sequence has two pictures, two capabilities or two maps, whenever and from whichever voter they
+come; no published sequence of a voter goes back; what a node reported as published stays and is the map that
+was sent; no voter ends by itself.
 
 Healing: after each full disk, after every 25th fault and after the last one the clients pause, and five
 seconds after the end of that fault (a disk that has room again, a program that was started) a publish was
@@ -16,8 +16,7 @@ made at each node, none is running, and all have published equally many.
 
 500 faults by default, in T seconds (2,400) at most; fewer in that time is an error. A line per kind of fault,
 with how often and in which time all was healed after it; a line per violation, and their number; status 1
-where there is one. It ends at the twentieth violation. Two rehearsals may run at a time with another
-`--network`. Wants root, iproute2, nftables and FUSE.
+where there is one. It ends at the twentieth violation. Wants root and FUSE.
 """
 
 import collections
@@ -31,59 +30,34 @@ import tempfile
 import threading
 import time
 
-from farmkit import hosts
-from farmkit.command import listed, program_parser, tell_missing
+from farmkit.command import add_slack, listed, program_parser, tell_missing
 from farmkit.device import Machine, fill, formatted, is_permitted, make_room
-from farmkit.hosts import HostedNode
 from farmkit.ledger import MOST_VIOLATIONS, Ledger, Watch
 from farmkit.mapfiles import map_of, picture_of
-from farmkit.processes import STATUS
+from farmkit.nodes import Nodes
+from farmkit.processes import STATUS, UNSIGNALLED
+from farmkit.wanted import is_so_within
 
-FARM, DISK = "rehearsal", 24 << 20
+DISK = 24 << 20
 # after how many faults all has to be healed, and the seconds until it is
 HEALING, SETTLED = 25, 5
 LENGTHS = (0,) * 12 + (4_000,) * 3 + (29_000,)
 
 
-class Voter(HostedNode):
-    def __init__(self, host, above, empty, program, voters):
-        self.above, self.filled = above / host.name, 0
-        self.above.mkdir()
-        self.machine = Machine(self.above, empty)
-        super().__init__(host, self.machine.folder / "state", program, voters, FARM)
-        self.log = self.above / "log"
-
-    def cut_power(self, draw):
-        """Cuts the power: the disk keeps of what wasn't flushed all, nothing, or some."""
-        if self.process is not None:
-            self.pause()
-        self.machine.disk.off()
-        self.kill()
-        share = draw.choice((0, 0.5, 1))
-        content = self.machine.disk.after(lambda: draw.random() < share)
-        self.machine.stop()
-        self.machine = Machine(self.above, content)
-        self.make_room()
-
-    def make_room(self):
-        """Takes away what filled the disk, and what a power cut brought back of it."""
-        if make_room(self.machine.folder):
-            self.filled = time.monotonic()
-
-    def is_proposing(self):
-        line = STATUS.fullmatch(self.ask("/status", seconds=1).body)
-        return line is None or line[3] == b"running"
-
-
 class Rehearsal:
     def __init__(self, options, above):
         self.options, self.draw, above = options, random.Random(options.seed), pathlib.Path(above)
+        self.settled = SETTLED + options.slack
         self.ledger = Ledger(lambda words: print(time.strftime("%H:%M:%S violation: ") + words, flush=True),
                              set())
         self.numbers, self.done, self.over = itertools.count(1), collections.Counter(), threading.Event()
-        self.network, empty = hosts.Network(options.network, options.voters), formatted(DISK, above)
-        self.voters = [Voter(host, above, empty, options.program, self.network.hosts)
-                       for host in self.network.hosts]
+        self.nodes, empty = Nodes(options.program, above, options.voters), formatted(DISK, above)
+        self.voters, self.machines, self.filled = self.nodes.each, [], [0.0] * options.voters
+        for i, voter in enumerate(self.voters):
+            voter.folder.mkdir()
+            self.machines.append(Machine(voter.folder, empty))
+            voter.folder, voter.before = self.machines[i].folder / "state", list(UNSIGNALLED)
+            self.nodes.init(i)
         self.last_fault, self.last_end = "", time.monotonic()
         # clients publish nothing while it is asked how soon all is healed
         self.pausing, self.healed = threading.Event(), collections.defaultdict(list)
@@ -106,17 +80,18 @@ class Rehearsal:
         self.ledger.sent.add(picture_of(number))
         return voter.ask("/publish", map_of(number, length), seconds)
 
+    def proposal(self, voter, seconds):
+        """What a node says of its proposal; None where it doesn't answer."""
+        line = STATUS.fullmatch(voter.ask("/status", seconds=seconds).body)
+        return line and line[3]
+
     def follow(self, voter, number, sequence):
         """Asks a node for ten seconds what became of the map that it accepted for a sequence."""
-        until = time.monotonic() + 10
-        while time.monotonic() < until and not self.over.wait(0.03):
-            line = STATUS.fullmatch(voter.ask("/status", seconds=5).body)
-            if line and line[3] == b"published %d" % sequence:
-                self.ledger.counts["maps reported as published"] += 1
-                self.ledger.same("the map published at", sequence, picture_of(number))
-                self.ledger.same("the picture at", sequence, picture_of(number))
-            if line and line[3] != b"running":
-                return
+        is_so_within(lambda: self.proposal(voter, 5) not in (None, b"running") or self.over.is_set(), 10)
+        if self.proposal(voter, 5) == b"published %d" % sequence:
+            self.ledger.counts["maps reported as published"] += 1
+            self.ledger.same("the map published at", sequence, picture_of(number))
+            self.ledger.same("the picture at", sequence, picture_of(number))
 
     # ---- faults
 
@@ -138,16 +113,30 @@ class Rehearsal:
 
     def power(self, voter, pause):
         """a disk keeps of what wasn't flushed all, nothing or some; the node is started again"""
-        voter.cut_power(self.draw)
+        machine = self.machines[voter.number]
+        if voter.process is not None:
+            voter.pause()
+        machine.disk.off()
+        voter.kill()
+        share = self.draw.choice((0, 0.5, 1))
+        content = machine.disk.after(lambda: self.draw.random() < share)
+        machine.stop()
+        self.machines[voter.number] = Machine(voter.folder.parents[1], content)
+        self.make_room(voter)
         time.sleep(pause)
         voter.start()
 
     def full(self, voter, pause):
         """a disk is full for a while"""
-        voter.filled = time.monotonic()
-        fill(voter.machine.folder)
+        self.filled[voter.number] = time.monotonic()
+        fill(self.machines[voter.number].folder)
         time.sleep(pause)
-        voter.make_room()
+        self.make_room(voter)
+
+    def make_room(self, voter):
+        """Takes away what filled the disk, and what a power cut brought back of it."""
+        if make_room(self.machines[voter.number].folder):
+            self.filled[voter.number] = time.monotonic()
 
     # ---- what is judged
 
@@ -157,7 +146,8 @@ class Rehearsal:
             code, line = voter.ended(), voter.last_line()
             if code is None:
                 continue
-            if voter.answered < voter.started < voter.filled and re.match("the (tape|folder)", line):
+            was_full = voter.answered < voter.started < self.filled[voter.number]
+            if was_full and re.match("the (tape|folder)", line):
                 self.ledger.counts["starts that a full disk ended"] += 1
             else:
                 self.ledger.violation(f"{voter.known_as} ended by itself with {code} after "
@@ -171,10 +161,11 @@ class Rehearsal:
         self.watch()
         self.pausing.set()
         waiting, running, told, is_healed = list(self.voters), [], [], False
-        while not is_healed and (took := time.monotonic() - self.last_end) <= SETTLED:
+        while not is_healed and (took := time.monotonic() - self.last_end) <= self.settled:
             waiting = [voter for voter in waiting if not self.is_taken(voter)]
             told = [voter.published(1) for voter in self.voters]
-            running = [voter.known_as for voter in self.voters if voter.is_proposing()]
+            running = [voter.known_as for voter in self.voters
+                       if self.proposal(voter, 1) in (None, b"running")]
             is_healed = not waiting and not running and None not in told and len(set(told)) == 1
             time.sleep(0.05)
         self.pausing.clear()
@@ -191,8 +182,7 @@ class Rehearsal:
         return status == 202 or (status, body.strip()) == (409, b"N3")
 
     def run(self):
-        for voter in self.voters:
-            voter.start()
+        self.nodes.start_all()
         readers = Watch(self.voters, self.ledger)
         clients = [threading.Thread(target=self.publish, args=(voter,)) for voter in self.voters]
         for client in clients:
@@ -211,18 +201,15 @@ class Rehearsal:
                 client.join()
 
     def stop(self):
-        for voter in self.voters:
-            voter.kill()
-            voter.machine.stop()
-        self.network.stop()
+        self.nodes.end()
+        for machine in self.machines:
+            machine.stop()
 
     def report(self):
-        for kind, count in sorted(self.done.items()):
-            print(f"{count:5} {kind}")
-        for kind, times in sorted(self.healed.items()):
-            print(f"{len(times):5} times healed after {kind}: {sum(times) / len(times):.1f} s, "
-                  f"{max(times):.1f} at most")
-        for what, count in sorted(self.ledger.counts.items()):
+        healed = {f"times healed after {kind}: {sum(times) / len(times):.1f} s, {max(times):.1f} at most":
+                  len(times) for kind, times in self.healed.items()}
+        counts = {**self.done, **healed, **self.ledger.counts}
+        for what, count in sorted(counts.items()):
             print(f"{count:5} {what}")
         print(f"seed {self.options.seed}: {sum(self.done.values())} faults, "
               f"{max(self.ledger.most.values(), default=0)} sequences, "
@@ -239,12 +226,11 @@ def main():
     asked.add_argument("--seconds", type=float, default=2_400, help="how long the faults may take")
     asked.add_argument("--kinds", type=lambda words: words.split(","), default=[*KINDS],
                        help="which faults, with commas between them")
-    asked.add_argument("--network", type=int, default=0, help="the number of the network, 0 to 255")
     asked.add_argument("--voters", type=int, default=3)
+    add_slack(asked)
     options, above, begun = asked.parse_args(), tempfile.mkdtemp(prefix="rehearsal-"), time.monotonic()
-    lacking = hosts.missing(options.network)
-    if lacking or not is_permitted(above):
-        return tell_missing(lacking or ["losetup, mkfs.ext4, or a device over FUSE"])
+    if not is_permitted(above):
+        return tell_missing(["root, losetup, mkfs.ext4, or a device over FUSE"])
     # (the threads of the disks have to come in between those of the clients)
     sys.setswitchinterval(0.0002)
     rehearsal = Rehearsal(options, above)

@@ -59,10 +59,12 @@ def plan_of(seed: int) -> Plan:
     draw = random.Random(seed)
     kinds = {kind: draw.randint(1, 10) for kind in WEIGHTS if draw.random() < 0.6}
     kinds |= {kind: draw.randint(1, most) for kind, most in PER_MILLION.items() if draw.random() < 0.5}
-    kinds |= {"delay": draw.choice((1, 10, 40, 200)), "pause": draw.choice((300, 1_500, 4_000))}
-    plan = Plan(draw.choice((1, 2, 3, 3, 3, 4, 5, 5, 7)), draw.choice((5, 10, 20, 40)), kinds)
+    kinds |= {"delay": draw.choice((1, 10, 40, 200)), "pause": draw.choice((60, 300, 1_500, 4_000))}
+    plan = Plan(draw.choice((1, 2, 3, 3, 3, 4, 5, 5, 6, 7)), draw.choice((5, 10, 20, 40)), kinds)
     if plan.nodes > 2 and draw.random() < 0.2:
         plan = plan.having(**{draw.choice(RELAPSES): 1})
+    if draw.random() < 0.2:
+        plan = plan.having(all=1)
     if draw.random() < 0.5:
         plan = plan.having(replicas=draw.randint(1, 3), emptied=draw.randint(0, 1))
     return plan
@@ -108,7 +110,7 @@ def smaller(seed: int, plan: Plan, violates: Callable[[int, Plan], bool]) -> Pla
     plan = plan.having(last=last)
     first = last + 1 - least(0, last, lambda number: violates(seed, plan.having(first=last + 1 - number)))
     plan = plan.having(first=first)
-    for kind in [*WEIGHTS, *PER_MILLION, "emptied", "replicas"]:
+    for kind in [*WEIGHTS, *PER_MILLION, "all", "emptied", "replicas"]:
         fewer = plan.having(**{f"no-{kind}": 1}) if kind in WEIGHTS else plan.without(kind)
         if kind in plan.kinds and violates(seed, fewer):
             plan = fewer

@@ -15,6 +15,7 @@ from concurrent.futures import ThreadPoolExecutor
 from pathlib import Path
 
 from farmkit.command import of_debian, program_parser
+from maps.errors import MapError
 
 
 def tried(asked):
@@ -37,7 +38,10 @@ def tried(asked):
 
 def in_a_folder(way):
     with tempfile.TemporaryDirectory() as folder:
-        return way(Path(folder))
+        try:
+            return way(Path(folder))
+        except MapError as wrong:
+            return str(wrong)
 
 
 def main():
@@ -47,6 +51,8 @@ def main():
     asked = words.parse_args()
     for name in ("osgeo", "mapscript", "shapely"):
         of_debian(name)
+    if asked.keep:
+        asked.keep.mkdir(parents=True, exist_ok=True)
     count, wrong = tried(asked)
     print(f"{count} tried, {wrong} wrong")
     return 1 if wrong else 0

@@ -8,54 +8,37 @@ Wants promtool (package prometheus).
 
 import pathlib
 import re
-import shutil
 import subprocess
 import sys
 import tempfile
 
 from farmkit.command import lacks, program_parser, tell_missing
-from farmkit.processes import Replica, free_ports, nodes_in
+from farmkit.nodes import Nodes
+from farmkit.processes import Replica
 from farmkit.repository import EXAMPLES
 from farmkit.trial import Trial
 from farmkit.wanted import seconds_until
 
 RULES = EXAMPLES / "three" / "alerts.yml"
 DOCUMENT = EXAMPLES.parent / "docs" / "OPERATING.md"
-# what is told of two nodes and a replica that are well; and per alert what is told otherwise
+# what is told of two nodes and a replica that are well, and of another farm; and per alert what is told
+# otherwise. Behind the name of a metric stands of whom
 WELL = {
-    'up{job="wfarm-county",instance="a"}': 1, 'up{job="wfarm-county",instance="b"}': 1,
-    'up{job="wfarm-county",instance="r"}': 1, 'up{job="other",instance="x"}': 0,
-    'wfarm_majority_connected{job="wfarm-county",instance="a"}': 1,
-    'wfarm_majority_connected{job="wfarm-county",instance="b"}': 1,
-    'wfarm_halted{job="wfarm-county",instance="a"}': 0, 'wfarm_suspended{job="wfarm-county",instance="a"}': 0,
-    'wfarm_history_differs{job="wfarm-county",instance="a"}': 0,
-    'wfarm_tape_failed{job="wfarm-county",instance="r"}': 0,
-    'wfarm_published_sequence{job="wfarm-county",instance="a"}': 41,
-    'wfarm_published_sequence{job="wfarm-county",instance="b"}': 41,
-    'wfarm_published_sequence{job="wfarm-county",instance="r"}': 41,
-    'wfarm_published_sequence{job="wfarm-roads",instance="z"}': 77,
-    'wfarm_peers_connected{job="wfarm-county",instance="a"}': 1,
-    'wfarm_nodes{job="wfarm-county",instance="a"}': 2,
-    'wfarm_sources_connected{job="wfarm-county",instance="r"}': 1,
-    'wfarm_rejected_peers_total{job="wfarm-county",instance="a",peer="1"}': 3,
-    'wfarm_sequences_left{job="wfarm-county",instance="a"}': 4055,
-    'wfarm_sequences_left{job="wfarm-roads",instance="z"}': 4019,
+    "up a": 1, "up b": 1, "up r": 1, "up x": 0, "majority_connected a": 1, "majority_connected b": 1,
+    "halted a": 0, "suspended a": 0, "history_differs a": 0, "tape_failed r": 0, "published_sequence a": 41,
+    "published_sequence b": 41, "published_sequence r": 41, "published_sequence z": 77,
+    "peers_connected a": 1, "nodes a": 2, "sources_connected r": 1, "rejected_peers_total a": 3,
+    "sequences_left a": 4055, "sequences_left z": 4019,
 }
 CASES = {
-    "WfarmCannotPublish": {'wfarm_majority_connected{job="wfarm-county",instance="a"}': 0,
-                           'wfarm_majority_connected{job="wfarm-county",instance="b"}': 0},
-    "WfarmNoMajority": {'wfarm_majority_connected{job="wfarm-county",instance="b"}': 0},
-    "WfarmDown": {'up{job="wfarm-county",instance="b"}': 0},
-    "WfarmHalted": {'wfarm_halted{job="wfarm-county",instance="a"}': 1},
-    "WfarmTapeFailed": {'wfarm_tape_failed{job="wfarm-county",instance="r"}': 1},
-    "WfarmSuspended": {'wfarm_suspended{job="wfarm-county",instance="a"}': 1},
-    "WfarmHistoryDiffers": {'wfarm_history_differs{job="wfarm-county",instance="a"}': 1},
-    "WfarmBehind": {'wfarm_published_sequence{job="wfarm-county",instance="b"}': 40},
-    "WfarmPeerMissing": {'wfarm_peers_connected{job="wfarm-county",instance="a"}': 0},
-    "WfarmNoSource": {'wfarm_sources_connected{job="wfarm-county",instance="r"}': 0},
-    "WfarmPeerRejected": {'wfarm_rejected_peers_total{job="wfarm-county",instance="a",peer="1"}': "3+1"},
-    "WfarmSequencesRunOut": {'wfarm_sequences_left{job="wfarm-county",instance="a"}': 95},
+    "WfarmCannotPublish": {"majority_connected a": 0, "majority_connected b": 0},
+    "WfarmNoMajority": {"majority_connected b": 0}, "WfarmDown": {"up b": 0}, "WfarmHalted": {"halted a": 1},
+    "WfarmTapeFailed": {"tape_failed r": 1}, "WfarmSuspended": {"suspended a": 1},
+    "WfarmHistoryDiffers": {"history_differs a": 1}, "WfarmBehind": {"published_sequence b": 40},
+    "WfarmPeerMissing": {"peers_connected a": 0}, "WfarmNoSource": {"sources_connected r": 0},
+    "WfarmPeerRejected": {"rejected_peers_total a": "3+1"}, "WfarmSequencesRunOut": {"sequences_left a": 95},
 }
+JOBS = {"x": "other", "z": "wfarm-roads"}
 # an alert that comes along with another
 ALONG = {"WfarmCannotPublish": {"WfarmNoMajority"}}
 PATIENCE = 30
@@ -66,10 +49,17 @@ def promtool(*words, told=""):
     return ended.returncode, ended.stdout + ended.stderr
 
 
+def series_of(short):
+    name, instance = short.split()
+    more = ',peer="1"' if name == "rejected_peers_total" else ""
+    return (f"{'' if name == 'up' else 'wfarm_'}{name}"
+            f'{{job="{JOBS.get(instance, "wfarm-county")}",instance="{instance}"{more}}}')
+
+
 def case_of(alerts, series):
     """A test of promtool: after ten minutes of these samples each of these alerts is there, and no other."""
-    rows = "".join(f"      - series: '{name}'\n        values: '{value}x60'\n" for name,
-                   value in series.items())
+    rows = "".join(f"      - series: '{series_of(name)}'\n        values: '{value}x60'\n"
+                   for name, value in series.items())
     names = re.findall(r"alert: (\w+)", RULES.read_text())
     tests = "".join(f"      - eval_time: 10m\n        alertname: {name}\n        exp_alerts: []\n"
                     for name in names if name not in alerts)
@@ -84,8 +74,8 @@ def try_rules(trial, folder):
     file = folder / "cases.yml"
 
     def passes(alerts, series):
-        file.write_text(f"rule_files: ['{RULES}']\nevaluation_interval: 15s\ntests:\n" + case_of(alerts,
-                                                                                                 series))
+        file.write_text(f"rule_files: ['{RULES}']\nevaluation_interval: 15s\ntests:\n"
+                        + case_of(alerts, series))
         return promtool("test", "rules", file)
 
     code, told = passes(set(), WELL)
@@ -103,17 +93,14 @@ def metrics_of(process):
 
 
 def try_metrics(trial, program, folder):
-    readers = free_ports(1)
-    node, = nodes_in(program, folder / "farm", "farm", count=1, readers=readers)
-    replica = Replica(program, folder / "replica", "farm", f"127.0.0.1:{readers[0]}")
-    try:
-        node.start()
+    with Nodes(program, folder / "farm", 1, has_readers=True) as nodes:
+        replica = Replica(program, folder / "replica", nodes.called, *nodes.readers)
         replica.start()
-        seconds_until(lambda: all(map(metrics_of, (node, replica))), PATIENCE, 0.1)
-        texts = {"a node": metrics_of(node), "a replica": metrics_of(replica)}
-    finally:
-        node.kill()
-        replica.kill()
+        try:
+            seconds_until(lambda: metrics_of(replica), PATIENCE, 0.1)
+            texts = {"a node": metrics_of(nodes[0]), "a replica": metrics_of(replica)}
+        finally:
+            replica.kill()
     told = set(re.findall(r"(?m)^# TYPE (wfarm_\w+)", "".join(texts.values())))
     lacks = set(re.findall(r"\bwfarm_\w+", RULES.read_text())) - told
     trial.see("each metric that the rules name is told", not lacks, lacks)
@@ -126,18 +113,17 @@ def try_metrics(trial, program, folder):
 
 
 def try_rejection(trial, program, folder):
-    node, other = nodes_in(program, folder / "pair", "farm", count=2)
-    shutil.rmtree(other.folder)
-    other.init("roads")
+    nodes = Nodes(program, folder / "pair", 2)
+    nodes.init(0)
+    nodes[1].init("roads")
     counted = re.compile(r'(?m)^wfarm_rejected_peers_total\{peer="1"\} [1-9]')
     try:
-        node.start()
-        other.start()
-        is_counted = seconds_until(lambda: counted.search(metrics_of(node)), PATIENCE, 0.1) is not None
+        for i in range(2):
+            nodes.start(i)
+        is_counted = seconds_until(lambda: counted.search(metrics_of(nodes[0])), PATIENCE, 0.1) is not None
         trial.see("a peer of another farm is counted as rejected", is_counted)
     finally:
-        node.kill()
-        other.kill()
+        nodes.end()
 
 
 def main():

@@ -8,26 +8,26 @@
     python3 tools/try_edits.py --applies                    only whether each mutant of every crate applies
 
 CI tries a mutant in `must-fail/NAME.edit`; those of the table `must-fail/by-hand.edits.md` are tried only
-here. Each is applied to a copy of the crate, and the prover has to reject the copy: the test is CI's own. In
-the table a mutant is a line `mutant: NAME` and then the lines of an edit, and an empty line comes before the
-next. A crate that was checked before (`rt check`) lends its kept work, so a mutant costs what it changes. Run
-it over a crate whenever a clause or a definition of that crate changes. The last line counts; the status is 0
-where every mutant was rejected.
+here. In the table a mutant is a line `mutant: NAME` and then the lines of an edit, and an empty line comes
+before the next. In a copy of the crates each becomes a file as CI's are, and `rt must-fail` has the prover
+reject them. It begins with what checks of this machine kept, tries some side by side, and keeps what it
+found: a mutant is tried again only once something that it stands on was changed. Run it over a crate whenever
+a clause or a definition of that crate changes. The last line counts; the status is 0 where every mutant was
+rejected.
 """
 
-import os
 import pathlib
-import queue
 import re
 import shutil
+import subprocess
 import sys
 import tempfile
-from concurrent.futures import ThreadPoolExecutor
 from dataclasses import dataclass
 
 from farmkit.command import parser as parser_of
-from farmkit.repository import TOP, changed_files
-from kit import load_rt, remember_stamps
+from farmkit.repository import TOP, changed_files, dependencies
+
+CRATES = TOP / "crates"
 
 
 @dataclass(frozen=True)
@@ -37,89 +37,63 @@ class Mutant:
     name: str
     text: str
 
-    def written(self, room):
-        """The path of a file with this edit, which CI's own test reads."""
-        path = pathlib.Path(room) / f"{self.name}.edit"
-        path.write_text(self.text)
-        return str(path)
-
 
 def mutants_of(folder, only_by_hand=False):
     """The mutants of a crate: CI's first, then those of its table."""
     by_ci = [] if only_by_hand else sorted((folder / "must-fail").glob("*.edit"))
     table = folder / "must-fail" / "by-hand.edits.md"
-    blocks = table.read_text().strip().split("\n\n") if table.exists() else []
+    blocks = re.split(r"\n{2,}", table.read_text().strip()) if table.exists() else []
     rest = [block.removeprefix("mutant: ").partition("\n") for block in blocks]
     return [*(Mutant(it.stem, it.read_text()) for it in by_ci),
             *(Mutant(name, text + "\n") for name, _, text in rest)]
 
 
-def fault_of(rt, mutant, folder, room):
-    """Why a mutant can't be applied to the code as it is, or None."""
-    unread = [it for it in mutant.text.splitlines() if it.strip()
-              and not re.match(r"file: |old: |new:|#|--|//", it)]
-    if unread:
-        return ("it can't be applied, since a text of it has several lines, and only the first of them is "
-                "read: " + unread[0].strip()[:60])
-    return rt.read_edit(mutant.written(room), str(folder))[1]
+def fault_of(mutant, folder):
+    """Why a mutant can't be applied to the code as it is; nothing where it can."""
+    path, old, texts = "", "", {}
+    for line in mutant.text.splitlines():
+        word, _, rest = line.partition(":")
+        rest = rest.removeprefix(" ")
+        if word == "file":
+            path = rest.strip()
+        elif word == "old":
+            old = rest
+        elif word == "new":
+            text = texts.get(path) or ((folder / path).read_text() if (folder / path).is_file() else "")
+            if not old or text.count(old) != 1 or old == rest:
+                return f"{old.strip()[:60]!r} is in {path} {text.count(old)} times, or isn't changed"
+            texts[path] = text.replace(old, rest)
+        elif line.strip() and not line.startswith(("#", "--", "//")):
+            return f"a text of it has several lines, and only the first of them is read: {line.strip()[:60]}"
+    return "" if texts else "it has no 'old:' and 'new:'"
 
 
-def look(rt):
-    count = bad = 0
-    with tempfile.TemporaryDirectory(prefix="try-edits-") as room:
-        for folder in sorted((TOP / "crates").iterdir()):
-            for mutant in mutants_of(folder):
-                count += 1
-                why = fault_of(rt, mutant, folder, room)
-                if why:
-                    bad += 1
-                    print(f"{folder.name} {mutant.name}: {why}")
-    print(f"{count} mutants, {bad} do not apply")
-    return bad
+def unapplied(chosen):
+    """Prints which of these mutants, by crates, don't apply. How many."""
+    wrong = [f"{name} {mutant.name}: {why}" for name, mutants in chosen.items() for mutant in mutants
+             if (why := fault_of(mutant, CRATES / name))]
+    print("\n".join([*wrong, f"{sum(map(len, chosen.values()))} mutants, {len(wrong)} do not apply"]))
+    return len(wrong)
 
 
-def try_all(rt, crate, mutants, lanes):
-    """Tries the mutants, each lane over its own copy of what the crate's last check kept."""
-    kept = pathlib.Path(crate.folder) / "out" / "incremental"
-    refused = 0
-    with tempfile.TemporaryDirectory(prefix="try-edits-") as room:
-        rooms = queue.Queue()
-        for lane in range(lanes):
-            if kept.is_dir():
-                shutil.copytree(kept, f"{room}/{lane}")
-            else:
-                os.mkdir(f"{room}/{lane}")
-            rooms.put(f"{room}/{lane}")
-
-        def try_one(mutant):
-            why = fault_of(rt, mutant, pathlib.Path(crate.folder), room)
-            if why:
-                return False, f"must-fail {crate.name}/{mutant.name}: BAD EDIT: {why}"
-            lane = rooms.get()
-            try:
-                verdict, text = rt.must_fail(crate, mutant.written(room), ["--jobs", "1"], lane)
-                return verdict in (rt.REFUSED, rt.AT_LIMIT), text
-            finally:
-                rooms.put(lane)
-
-        with ThreadPoolExecutor(lanes) as pool:
-            for is_refused, text in pool.map(try_one, mutants):
-                print(text, flush=True)
-                refused += is_refused
-    print(f"{crate.name}: {len(mutants)} mutants, {refused} rejected", flush=True)
-    return refused
-
-
-def try_crate(rt, name, given):
-    """Tries a crate's mutants, and returns how many were not rejected."""
-    crate = next(it for it in rt.rtlib.crates_below(str(TOP)) if it.name == name)
-    mutants = mutants_of(TOP / "crates" / name, given.by_hand)
-    mutants = [it for it in mutants if not given.names or it.name in given.names]
-    if not all(low.is_built() or not low.build_rlib(["--jobs", "1"], anew=False) for low in crate.below()):
-        print(f"{name}: a library below it failed")
-        return 1
-    refused = try_all(rt, crate, mutants, given.lanes)
-    return len(mutants) - refused
+def rejected(chosen):
+    """How many of these mutants, by crates, `rt must-fail` rejects, in a copy that has them as files."""
+    with tempfile.TemporaryDirectory(prefix="try-edits-", dir=TOP.parent) as room:
+        for name in ("crates.txt", "HANDLES"):
+            shutil.copy(TOP / name, room)
+        shutil.copytree(CRATES, f"{room}/crates", ignore=shutil.ignore_patterns("out", "must-fail"))
+        for name, mutants in chosen.items():
+            folder = pathlib.Path(room) / "crates" / name / "must-fail"
+            folder.mkdir()
+            for mutant in mutants:
+                (folder / f"{mutant.name}.edit").write_text(mutant.text)
+        count = 0
+        words = ["rt", "must-fail", *chosen]
+        with subprocess.Popen(words, cwd=room, stdout=subprocess.PIPE, text=True) as process:
+            for line in process.stdout:
+                print(line, end="", flush=True)
+                count += ": refused, " in line
+    return count
 
 
 def main() -> int:
@@ -127,27 +101,25 @@ def main() -> int:
     parser.add_argument("crate", nargs="?")
     parser.add_argument("names", nargs="*")
     parser.add_argument("--changed", metavar="BASE")
-    parser.add_argument("--lanes", type=int, default=2, metavar="N", help="how many side by side (2)")
     parser.add_argument("--by-hand", action="store_true", help="leaves out those that CI tries")
     parser.add_argument("--applies", action="store_true")
     given = parser.parse_args()
-    rt = load_rt()
-    remember_stamps(rt)
-    os.chdir(TOP)
-    if given.applies:
-        return 1 if look(rt) else 0
-    # (what another checkout here made of the same files serves)
-    rt.share_work(False)
-    rt.rtlib.guarded()
-    every = [it.name for it in rt.rtlib.crates_below(str(TOP))]
-    chosen = sorted(changed_files(given.changed, ("src", "specs"), None)) if given.changed else [given.crate]
-    if not all(it in every for it in chosen):
-        parser.error("crates.txt lists no such crate")
-    lost = {*given.names} - {it.name for name in chosen
-                             for it in mutants_of(TOP / "crates" / name, given.by_hand)}
-    if lost:
+    names = [given.crate] if given.crate else sorted(dependencies())
+    if given.changed:
+        names = sorted(changed_files(given.changed, ("src", "specs"), None))
+    if not set(names) <= dependencies().keys() or not (given.crate or given.changed or given.applies):
+        parser.error("name a crate of crates.txt, --changed or --applies")
+    chosen = {name: [it for it in mutants_of(CRATES / name, given.by_hand)
+                     if not given.names or it.name in given.names] for name in names}
+    chosen = {name: mutants for name, mutants in chosen.items() if mutants}
+    if lost := {*given.names} - {it.name for mutants in chosen.values() for it in mutants}:
         parser.error(f"no mutant is named {', '.join(sorted(lost))}")
-    return 1 if sum(try_crate(rt, it, given) for it in chosen) else 0
+    if given.applies:
+        return 1 if unapplied(chosen) else 0
+    count = sum(map(len, chosen.values()))
+    found = rejected(chosen) if count else 0
+    print(f"{count} mutants, {found} rejected")
+    return 0 if found == count else 1
 
 
 if __name__ == "__main__":

@@ -106,7 +106,7 @@ def main():
         trial, proxy = Trial(options.program, folder), None
         try:
             trial.begin(RED)
-            trial.publish_text((EXAMPLES / "roads.map").read_bytes(), 2)
+            trial.publish((EXAMPLES / "roads.map").read_bytes())
             trial.nginx.start(trial.configuration("county"))
             proxy = MapProxy(folder, trial.nginx)
             attempt(trial, proxy, options.picture)
@@ -114,7 +114,7 @@ def main():
             if proxy is not None:
                 proxy.end()
             trial.nginx.end()
-            trial.end_nodes()
+            trial.nodes.end()
     return trial.conclude()
 
 

@@ -13,29 +13,29 @@ import time
 from farmkit import mapfiles, trial
 from farmkit.command import lacks, program_parser, tell_missing
 from farmkit.nginx import Nginx, certificate, changed, whole
-from farmkit.processes import nodes_in
-from farmkit.wanted import until
+from farmkit.nodes import Nodes
 
-MAP = """MAP NAME "it" EXTENT 0 0 4 4 PROJECTION "init=epsg:3857" END
-LAYER NAME it TYPE POLYGON CLASS STYLE COLOR {} END END FEATURE POINTS 0 0 4 0 4 4 0 4 0 0 END END END END"""
 RED, BLUE = "255 0 0", "0 0 255"
 FIRST = mapfiles.PICTURE[1:] % 1
 PICTURE = FIRST.removesuffix("&MAPSEQ=1")
+
+
+def of_colour(colour):
+    return mapfiles.MAP.format(name="it", words="", color=colour).encode()
 
 
 class Trial(trial.Trial):
     def __init__(self, program, folder):
         super().__init__()
         self.program, self.folder = program, folder
-        self.nodes = nodes_in(program, folder / "county", "county")
-        self.addresses = [(node.clients, node.operator) for node in self.nodes]
+        self.nodes = Nodes(program, folder / "county", farm="county").init_all()
         self.files = certificate(folder)
         self.nginx = Nginx(folder)
 
     def configuration(self, farm):
         """The example, with this farm's name in it."""
         cert, key = self.files
-        nodes = [(f"10.0.0.{number}:8080", clients) for number, (clients, _) in enumerate(self.addresses, 1)]
+        nodes = [(f"10.0.0.{number}:8080", node.clients) for number, node in enumerate(self.nodes.each, 1)]
         site = changed(
             "three/nginx.conf",
             [("listen 443 ssl", f"listen 127.0.0.1:{self.nginx.port} ssl"),
@@ -46,29 +46,18 @@ class Trial(trial.Trial):
         return whole(self.folder, site)
 
     def begin(self, colour):
-        for node in self.nodes:
-            node.start()
-        until(lambda: all(node.published() == 0 for node in self.nodes))
-        self.publish(colour, 1)
+        self.nodes.start_all()
+        self.publish(of_colour(colour))
 
-    def publish(self, colour, sequence):
-        self.publish_text(MAP.format(colour).encode(), sequence)
-
-    def publish_text(self, text, sequence):
+    def publish(self, text):
         """Publishes a map at the first node, and waits until all have it."""
-        self.nodes[0].ask("/publish", text)
-        until(lambda: all(node.published() == sequence for node in self.nodes))
-
-    def end_nodes(self):
-        for node in self.nodes:
-            node.kill()
+        self.nodes.publish_whole(0, text)
+        self.nodes.level()
 
     def anew(self, farm):
         """A new farm at the addresses of the old one."""
-        self.end_nodes()
-        self.nodes = nodes_in(self.program, self.folder / farm, farm)
-        for node, (clients, operator) in zip(self.nodes, self.addresses):
-            node.clients, node.operator = clients, operator
+        self.nodes.end()
+        self.nodes = Nodes(self.program, self.folder / farm, farm=farm, ports=self.nodes.ports).init_all()
 
     def shows(self, colour, path=FIRST, **headers):
         body = self.nginx.ask(path, **headers)[2]
@@ -86,16 +75,14 @@ def try_kept(seen):
     status, headers, body = seen.nginx.ask(PICTURE + "&MAPSEQ=2")
     seen.see("an exception has none, and isn't kept", b"Exception" in body and headers["ETag"] is None
              and headers["Cache-Control"] == "no-store", headers)
-    seen.publish(BLUE, 2)
+    seen.publish(of_colour(BLUE))
     seen.see("the sequence that is published later is shown", seen.shows(BLUE, PICTURE + "&MAPSEQ=2"))
     seen.see("the first one stays", seen.shows(RED))
     time.sleep(2.1)
     seen.see("after two seconds a picture without MAPSEQ is the new map's", seen.shows(BLUE, PICTURE))
-    seen.end_nodes()
+    seen.nodes.end()
     seen.see("a picture that was kept is there without a node", seen.shows(RED))
-    for node in seen.nodes:
-        node.start()
-    until(lambda: all(node.published() == 2 for node in seen.nodes))
+    seen.nodes.start_all()
 
 
 def try_anew(seen):
@@ -125,7 +112,7 @@ def main():
                 attempt(seen)
         finally:
             seen.nginx.end()
-            seen.end_nodes()
+            seen.nodes.end()
     return seen.conclude()
 
 

@@ -6,13 +6,11 @@ of `crates/wf_test_simulation`.
 """
 
 import collections
-import contextlib
 import os
 import random
 import re
 import selectors
 import shutil
-import socket
 import subprocess
 import sys
 import threading
@@ -21,11 +19,12 @@ import time
 from farmkit.command import add_cases, listed, program_parser
 from farmkit.mapfiles import PIXEL, map_of
 from farmkit.measure import percentile
-from farmkit.processes import UNSIGNALLED, Replica, free_ports, limited, nodes_in
+from farmkit.nodes import Nodes
+from farmkit.processes import UNSIGNALLED, Replica, free_ports, limited
 from farmkit.tapes import MOST_MAPS, tape_of
 from farmkit.trial import chosen, go_through
 from farmkit.wanted import is_so_within, want, want_none
-from farmkit.web import connect
+from farmkit.web import Listener, connect, loopback
 
 VOTERS = 3
 PATIENCE = 60
@@ -35,67 +34,47 @@ def until(is_so, seconds=PATIENCE):
     return is_so_within(is_so, seconds, 0.01)
 
 
-class Farm:
-    """Voters that run, three of them or so many, and their readers' ports."""
+class Farm(Nodes):
+    """Voters that run, three of them or so many, perhaps with this tape, and replicas of theirs."""
 
     def __init__(self, options, top, name, tape=None, farm="tried", voters=VOTERS):
-        self.options, self.folder = options, top / name
-        ports = free_ports(voters)
-        self.readers = ",".join(f"127.0.0.1:{port}" for port in ports)
-        self.voters = nodes_in(options.program, self.folder, farm, voters, ports, tape)
-        self.replicas = []
+        super().__init__(options.program, top / name, voters, farm, has_readers=True)
+        self.tape, self.replicas = tape, []
 
     def __enter__(self):
-        for voter in self.voters:
-            voter.start()
-        for voter in self.voters:
-            self.await_answer(voter)
-        return self
+        return self.begin(*(["--from", str(self.tape)] if self.tape else []))
 
     def __exit__(self, *_):
-        for process in self.voters + self.replicas:
+        for process in self.each + self.replicas:
             process.kill()
 
-    @staticmethod
-    def await_answer(process):
-        """Waits until a process answers."""
-        is_there = until(lambda: process.published() is not None)
-        want(f"{process.folder.name} doesn't begin: {process.log.read_text()[-300:]}", is_there)
-
     def replica(self, name, sources=None):
-        made = Replica(self.options.program, self.folder / name, "tried", sources or self.readers)
+        made = Replica(self.program, self.folder / name, "tried", sources or ",".join(self.readers))
         made.start()
         self.replicas.append(made)
         return made
 
     def some(self, count):
         made = [self.replica(f"replica-{number}") for number in range(count)]
-        for replica in made:
-            self.await_answer(replica)
+        want("a replica doesn't begin",
+             until(lambda: all(replica.published() is not None for replica in made)))
         return made
 
     def top(self):
         """The highest sequence that a voter tells."""
-        return max(voter.published() or 0 for voter in self.voters)
-
-    def publish(self, text, voter, seconds=5):
-        """Publishes a map at a voter; whether it has published another sequence since."""
-        before = voter.published()
-        if before is None or voter.ask("/publish", text, 5).status != 202:
-            return False
-        return until(lambda: (voter.published() or 0) > before, seconds)
+        return max(map(self.published, range(self.count)))
 
     def publish_all(self, *numbers):
         """Publishes the maps of these numbers at the first voter."""
         for number in numbers:
-            want("no publish", self.publish(map_of(number), self.voters[0]))
+            self.publish_whole(0, map_of(number))
 
 
 def mislead(farm, other):
     replica = farm.replica("misled")
     want("the replica doesn't begin", until(lambda: (replica.published() or 0) >= 1))
     replica.kill()
-    replica.words[replica.words.index("--peers") + 1] = other.readers
+    replica.words[replica.words.index("--peers") + 1] = ",".join(other.readers)
     replica.start()
     until(lambda: replica.ended() is not None, 20)
     return replica.ended(), replica.last_line()
@@ -129,29 +108,15 @@ def pieces_of(connection, count):
     return came
 
 
-class Repeater:
+class Repeater(Listener):
     """A source that asks a voter's readers' port what it is asked, and sends each reply twice."""
 
     def __init__(self, voter):
         self.voter, self.brought = voter, 0
-        self.server = socket.create_server(("127.0.0.1", 0))
-        self.address = "127.0.0.1:%d" % self.server.getsockname()[1]
-        threading.Thread(target=self.run, daemon=True).start()
-
-    def __enter__(self):
-        return self
-
-    def __exit__(self, *_):
-        self.server.close()
-
-    def run(self):
-        with contextlib.suppress(OSError):
-            while True:
-                connection, _ = self.server.accept()
-                threading.Thread(target=self.serve, args=(connection,), daemon=True).start()
+        super().__init__()
 
     def serve(self, asker):
-        with contextlib.suppress(OSError), asker, connect(self.voter, PATIENCE) as voter:
+        with connect(self.voter, PATIENCE) as voter:
             while len(question := pieces_of(asker, QUESTION_BYTES)) == QUESTION_BYTES:
                 voter.sendall(question)
                 head = pieces_of(voter, 4)
@@ -171,7 +136,7 @@ def differences(farm, replica):
     published, top = replica.published() or 0, farm.top()
     if published > top:
         return [f"it says published {published}, and the voters have {top}"]
-    voter = max(farm.voters, key=lambda voter: voter.published() or 0)
+    voter = max(farm.each, key=lambda voter: voter.published() or 0)
     return [f"another picture at {sequence}" for sequence in range(1, published + 1)
             if replica.ask(PIXEL % sequence) != voter.ask(PIXEL % sequence)]
 
@@ -198,17 +163,17 @@ def twice(options, top):
     found = []
     with Farm(options, top, "twice") as farm:
         farm.publish_all(0)
-        readers = farm.readers.split(",")
-        for name, others in (("alone", []), ("among three", readers[1:])):
-            with Repeater(readers[0]) as source:
-                replica = farm.replica(f"replica {name}", ",".join([source.address, *others]))
-                until(lambda: replica.published(), 5)
-                # a source that brings nothing for a second isn't asked again before the others
-                first = farm.top()
-                wrong = follows(farm, replica, range(first, first + 30), 1.3, lambda: source.brought >= 3)
-                want("the source that repeats was never asked for maps", source.brought)
-                found += [f"{name}: {what}" for what in wrong]
-                replica.kill()
+        for name, others in (("alone", []), ("among three", farm.readers[1:])):
+            source = Repeater(farm.readers[0])
+            replica = farm.replica(f"replica {name}", ",".join([loopback(source.port), *others]))
+            until(lambda: replica.published(), 5)
+            # a source that brings nothing for a second isn't asked again before the others
+            first = farm.top()
+            wrong = follows(farm, replica, range(first, first + 30), 1.3, lambda: source.brought >= 3)
+            want("the source that repeats was never asked for maps", source.brought)
+            found += [f"{name}: {what}" for what in wrong]
+            replica.kill()
+            source.end()
     want_none(found)
     print("twice: a source that sends each reply twice, alone and among three: followed")
 
@@ -237,9 +202,8 @@ def beside(ours, foreign_farm, name):
     replica = ours.replica(name)
     want("it doesn't begin", until(lambda: replica.published() == ours.top(), 20))
     replica.kill()
-    own, place = ours.readers.split(","), replica.words.index("--peers") + 1
-    source = foreign_farm.readers.split(",")[0]
-    replica.words[place] = ",".join([own[0], source, own[1]])
+    place, (first, second, _) = replica.words.index("--peers") + 1, ours.readers
+    replica.words[place] = ",".join([first, *foreign_farm.readers, second])
     replica.log.write_bytes(b"")
     replica.start()
     until(lambda: replica.ended() is not None, 5)
@@ -285,7 +249,7 @@ def begin_with(farm, replica, content, left, told):
     want(f"not {left} maps without a source", until(lambda: replica.published() == left, 20))
     want(f"no line {told}", told in replica.log.read_text())
     replica.kill()
-    replica.words[place] = farm.readers
+    replica.words[place] = ",".join(farm.readers)
     replica.start()
     want("the rest doesn't come", until(lambda: replica.published() == 3, 20))
     replica.kill()
@@ -354,22 +318,18 @@ class Lines(threading.Thread):
 def lag(options, top):
     """from a voter's publication until each replica has learned it, by their logs, in a quiet farm: p99 below
     100 ms"""
-    lines, draw = Lines(), random.Random(1)
+    lines, draw, count = Lines(), random.Random(1), 300
     with Farm(options, top, "lag") as farm:
-        for voter in farm.voters:
-            voter.kill()
-            lines.pipe(voter)
         replicas = farm.some(options.replicas)
-        for replica in replicas:
-            replica.kill()
-            lines.pipe(replica)
+        for process in farm.each + replicas:
+            process.kill()
+            lines.pipe(process)
         lines.start()
-        for process in farm.voters + replicas:
+        for process in farm.each + replicas:
             until(lambda: process.published() is not None)
         time.sleep(2)
-        count = 0
-        for number in range(1, 301):
-            count += farm.publish(map_of(number, 2_000), draw.choice(farm.voters))
+        for number in range(1, count + 1):
+            farm.publish_whole(draw.randrange(VOTERS), map_of(number, 2_000))
             time.sleep(draw.uniform(0, 0.06))
         time.sleep(1)
     lags = lags_in(lines.seen)
@@ -425,10 +385,10 @@ def rest(options, top):
     with Farm(options, top, "rest") as farm:
         farm.publish_all(1, 2, 3)
         time.sleep(2)
-        alone = spent_by(farm.voters, 10)
+        alone = spent_by(farm.each, 10)
         replicas = farm.some(options.replicas)
         time.sleep(2)
-        both = spent_by(farm.voters + replicas, 10)
+        both = spent_by(farm.each + replicas, 10)
     beside, own = both[:VOTERS], both[VOTERS:]
     print(f"rest: a voter costs {max(alone):.2f} % of a core alone, {max(beside):.2f} % with {len(replicas)} "
           f"replicas; a replica {max(own):.2f} %")

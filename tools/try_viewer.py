@@ -17,7 +17,6 @@ import base64
 import json
 import pathlib
 import re
-import socket
 import sys
 import tempfile
 import threading
@@ -27,10 +26,11 @@ import urllib.request
 
 from farmkit.command import add_slack, lacks, of_debian, program_parser, tell_missing
 from farmkit.nginx import Nginx, certificate, changed, whole
-from farmkit.processes import Farm, nodes_in
+from farmkit.nodes import Nodes
+from farmkit.processes import Farm
 from farmkit.repository import EXAMPLES
 from farmkit.trial import Trial
-from farmkit.web import ask, loopback, received
+from farmkit.web import Listener, ask, connect, loopback, received
 
 NODES = 3
 # keys as a WebDriver sends them
@@ -49,43 +49,32 @@ LAYER NAME ground TYPE POLYGON CLASS STYLE COLOR 90 90 190 END END FEATURE POINT
 END"""
 
 
-class Relay:
+class Relay(Listener):
     """Stands before the farm and counts its connections: node c mod n answers connection c."""
 
     def __init__(self):
         self.lock = threading.Lock()
         self.target, self.count, self.asked, self.behind = None, 0, [], None
-        self.socket = socket.create_server(("127.0.0.1", 0))
-        self.port = self.socket.getsockname()[1]
-        threading.Thread(target=self.accept, daemon=True).start()
+        super().__init__()
 
     def aim(self, port):
         """A farm that has had no connection yet."""
         with self.lock:
             self.target, self.count, self.asked = port, 0, []
 
-    def accept(self):
-        while True:
-            client, _ = self.socket.accept()
-            threading.Thread(target=self.hand_on, args=(client,), daemon=True).start()
-
-    def hand_on(self, client):
-        with client:
-            try:
-                asked = self.request(client)
-                with self.lock:
-                    farm = socket.create_connection(("127.0.0.1", self.target), timeout=60)
-                    node, self.count = self.count % NODES, self.count + 1
-                    self.asked.append((node, asked.split(b"\r\n")[0].decode("latin-1")))
-                with farm:
-                    farm.sendall(asked)
-                    came = received(farm)
-                is_good = came.startswith(b"HTTP/1.1 200")
-                if self.behind is not None and is_good and b"\r\n\r\nnode %d " % self.behind in came:
-                    came = re.sub(rb"published \d", b"published 0", came, count=1)
-                client.sendall(came)
-            except OSError:
-                pass
+    def serve(self, client):
+        asked = self.request(client)
+        with self.lock:
+            farm = connect(loopback(self.target), 60)
+            node, self.count = self.count % NODES, self.count + 1
+            self.asked.append((node, asked.split(b"\r\n")[0].decode("latin-1")))
+        with farm:
+            farm.sendall(asked)
+            came = received(farm)
+        is_good = came.startswith(b"HTTP/1.1 200")
+        if self.behind is not None and is_good and b"\r\n\r\nnode %d " % self.behind in came:
+            came = re.sub(rb"published \d", b"published 0", came, count=1)
+        client.sendall(came)
 
     @staticmethod
     def request(client):
@@ -129,9 +118,6 @@ class PageNginx(Nginx):
                                 "location = /other { proxy_pass %s; }\n    location / {"
                                 % wms.partition("?")[0])
         self.start(whole(folder, site))
-
-    def publish_from(self, origin):
-        return self.ask("publish", b"MAP", Origin=origin)[0]
 
 
 class LocalNginx(Nginx):
@@ -344,7 +330,7 @@ def try_publishing(page, relay, look, folder, nginx):
     look.wait("a map is accepted", lambda: "sequence 3" in page.text("answer"), 8)
     look.wait("and published, as the page says",
               lambda: page.text("answer") == "Published as sequence 3." and page.text("shown") == "3 of 3", 8)
-    look.see("a page of another site can't publish", nginx.publish_from("https://elsewhere.example") == 403)
+    look.see("a page of another site can't publish", nginx.ask("publish", b"MAP", Origin="https://elsewhere.example")[0] == 403)
 
 
 def try_keyboard(page, look):
@@ -454,9 +440,7 @@ def lines_of(page):
 
 def try_nodes(page, look, folder, program):
     """Three nodes in processes of their own, each at an address of its own."""
-    nodes = nodes_in(program, folder / "nodes", "viewer")
-    for node in nodes:
-        node.start()
+    nodes = Nodes(program, folder / "nodes").begin().each
     nginx = LocalNginx(folder, nodes)
     try:
         page.browser.get(f"{nginx.address}?nodes=node/0,node/1,node/2")

@@ -20,7 +20,8 @@ from farmkit import trial
 from farmkit.command import add_slack, program_parser
 from farmkit.control import command, wfarmctl, write_nodes
 from farmkit.mapfiles import canonical
-from farmkit.processes import Replica, free_ports, nodes_in
+from farmkit.nodes import Nodes
+from farmkit.processes import Replica
 from farmkit.repository import EXAMPLES
 
 MAP = ('MAP NAME "{}" EXTENT 0 0 4 4 PROJECTION "init=epsg:3857" END '
@@ -35,11 +36,11 @@ class Trial(trial.Trial):
 
     def farm(self, name):
         """A new farm that isn't started, and its file of nodes."""
-        self.readers = free_ports(3)
-        nodes = nodes_in(self.program, self.folder / name, name, readers=self.readers)
+        nodes = Nodes(self.program, self.folder / name, farm=name, has_readers=True).init_all()
         file = self.folder / f"{name}.nodes"
-        write_nodes(file, nodes)
-        return nodes, file
+        write_nodes(file, nodes.each)
+        self.readers = ",".join(nodes.readers)
+        return nodes.each, file
 
     def map(self, name, title=""):
         path = self.folder / f"{name}.map"
@@ -165,8 +166,7 @@ def try_file_of_nodes(trial):
 
 
 def try_replica(trial):
-    readers = ",".join(f"127.0.0.1:{port}" for port in trial.readers)
-    replica = Replica(trial.program, trial.folder / "first" / "replica", "first", readers)
+    replica = Replica(trial.program, trial.folder / "first" / "replica", "first", trial.readers)
     file = trial.folder / "replica.nodes"
     file.write_text(trial.file.read_text() + f"replica {replica.clients} {replica.operator}\n")
     replica.start()
@@ -295,7 +295,7 @@ def try_verify(trial):
     code, told, error = trial.call("verify", *folders)
     trial.see("verify: whole tapes of one farm", code == 0 and told.count(": whole, published 7") == 3,
               (told, error))
-    trial.tells("verify: folders of two farms", "verify", folders[0], trial.folder / "second" / "node-1",
+    trial.tells("verify: folders of two farms", "verify", folders[0], trial.folder / "second" / "1",
                 code=1, error="not folders of one farm")
     tape = folders[0] / "node-0.tape"
     whole = tape.read_bytes()

@@ -5,14 +5,13 @@ import random
 import select
 import socket
 import struct
-import threading
 import time
 from collections.abc import Callable, Sequence
 
 from farmkit.greetings import GREETING_BYTES, REJECTION
 from farmkit.mapfiles import GET_MAP
 from farmkit.tapes import record
-from farmkit.web import CAPABILITIES
+from farmkit.web import CAPABILITIES, Listener
 
 Attack = Callable[[socket.socket, random.Random], None]
 MAP = b"""MAP NAME "it" EXTENT 0 0 4 4 PROJECTION "init=epsg:3857" END
@@ -130,15 +129,35 @@ def operators(peer: socket.socket, draw: random.Random) -> None:
     drain(peer)
 
 
-# ---- at a node's port for peers
+# ---- at a node's port for peers, and at one for readers
 
-class Peers:
-    """What strangers send there: greetings of nodes that aren't let in, and a node's own, which doesn't run,
-    with what is no message behind them."""
+class Strangers:
+    """What strangers send there: something whole, which is of no use there, or a part of it."""
+
+    def whole(self, draw: random.Random) -> bytes:
+        raise NotImplementedError
+
+    def half(self, peer: socket.socket, draw: random.Random) -> None:
+        part(peer, draw, self.whole(draw))
+
+    def in_pieces(self, peer: socket.socket, draw: random.Random) -> None:
+        pieces(peer, self.whole(draw))
+
+    def noise(self, peer: socket.socket, draw: random.Random) -> None:
+        peer.sendall(draw.choice((GOOD, bytes(200), draw.randbytes(5_000), self.whole(draw)[:8] * 1_000)))
+        drain(peer)
+
+
+class Peers(Strangers):
+    """Greetings of nodes that aren't let in, and a node's own, which doesn't run, with what is no message
+    behind them."""
 
     def __init__(self, own: bytes) -> None:
         self.own, self.starts = own, itertools.count(int.from_bytes(own[60:64], "big") + 1)
         self.kinds: tuple[Attack, ...] = (self.half, self.in_pieces, self.replaced, self.behind, self.noise)
+
+    def whole(self, draw: random.Random) -> bytes:
+        return self.rejected(draw, draw.choice((0, 64)))
 
     def rejected(self, draw: random.Random, replaced: int = 0) -> bytes:
         """A greeting that is rejected, which tells of so many replaced nodes."""
@@ -147,12 +166,6 @@ class Peers:
         told = b"".join(bytes([node]) + draw.randbytes(20) for node in range(replaced))
         whole = self.own[:131] + bytes([replaced]) + told + (b"\0\1" if told else b"")
         return whole[:at] + value + whole[at + len(value):]
-
-    def half(self, peer: socket.socket, draw: random.Random) -> None:
-        part(peer, draw, self.rejected(draw, draw.choice((0, 64))))
-
-    def in_pieces(self, peer: socket.socket, draw: random.Random) -> None:
-        pieces(peer, self.rejected(draw))
 
     def replaced(self, peer: socket.socket, draw: random.Random) -> None:
         """64 nodes were replaced, or more than a farm has."""
@@ -171,15 +184,9 @@ class Peers:
             record(3, b"\0\2" + (9).to_bytes(4, "big") + b"\2MAP"))))
         drain(peer)
 
-    def noise(self, peer: socket.socket, draw: random.Random) -> None:
-        peer.sendall(draw.choice((GOOD, bytes(200), draw.randbytes(5_000), self.own[:8] * 1_000)))
-        drain(peer)
 
-
-# ---- at a port for readers
-
-class Readers:
-    """What strangers ask there."""
+class Readers(Strangers):
+    """Questions of readers."""
 
     def __init__(self, farm: str) -> None:
         self.farm = farm.encode().ljust(32, b"\0")
@@ -188,11 +195,8 @@ class Readers:
     def question(self, sequence: int = 0, digest: bytes = bytes(32)) -> bytes:
         return b"wf-read\n\0\1" + self.farm + sequence.to_bytes(2, "big") + digest
 
-    def half(self, peer: socket.socket, draw: random.Random) -> None:
-        part(peer, draw, self.question())
-
-    def in_pieces(self, peer: socket.socket, _: random.Random) -> None:
-        pieces(peer, self.question())
+    def whole(self, draw: random.Random) -> bytes:
+        return self.question()
 
     def other(self, peer: socket.socket, draw: random.Random) -> None:
         """Of another farm or version, with another history, or further on than anybody."""
@@ -208,45 +212,25 @@ class Readers:
         peer.sendall(self.question() * 2_000)
         time.sleep(3)
 
-    def noise(self, peer: socket.socket, draw: random.Random) -> None:
-        peer.sendall(draw.choice((GOOD, bytes(500), draw.randbytes(5_000), self.question()[:8] * 1_000)))
-        drain(peer)
-
 
 # ---- where a node or a replica connects
 
-class Impostor:
+class Impostor(Listener):
     """Listens at a port of this machine, and answers what comes there by one of these in turn."""
 
     def __init__(self, port: int, answers: Sequence[bytes]) -> None:
-        self.server, self.answers, self.count = socket.create_server(("127.0.0.1", port)), answers, 0
-        self.port = self.server.getsockname()[1]
-        threading.Thread(target=self.run, daemon=True).start()
+        self.answers, self.count = itertools.cycle(answers), 0
+        super().__init__(port)
 
-    def run(self) -> None:
-        for answer in itertools.cycle(self.answers):
-            try:
-                client, _ = self.server.accept()
-            except OSError:
-                return
-            self.count += 1
-            threading.Thread(target=self.answer, args=(client, answer), daemon=True).start()
-
-    def answer(self, client: socket.socket, answer: bytes) -> None:
-        with client:
-            try:
-                client.settimeout(10)
-                client.recv(1 << 16)
-                client.sendall(answer)
-                # (half of the answers are followed by the end, the others by silence)
-                if len(answer) % 2:
-                    drain(client, 10)
-            except OSError:
-                return
-
-    def end(self) -> None:
-        self.server.shutdown(socket.SHUT_RDWR)
-        self.server.close()
+    def serve(self, client: socket.socket) -> None:
+        self.count += 1
+        answer = next(self.answers)
+        client.settimeout(10)
+        client.recv(1 << 16)
+        client.sendall(answer)
+        # (half of the answers are followed by the end, the others by silence)
+        if len(answer) % 2:
+            drain(client, 10)
 
 
 def peer_answers(own: bytes, draw: random.Random) -> list[bytes]:

@@ -1,4 +1,4 @@
-"""Hosts on one machine: network namespaces on a bridge, whose links are cut or silent, and nodes on them.
+"""Hosts on one machine: network namespaces on a bridge, whose links may be silent, and nodes on them.
 
 Wants root, iproute2 and nftables.
 """
@@ -10,8 +10,8 @@ from collections.abc import Iterable
 from farmkit.command import lacks
 from farmkit.processes import UNSIGNALLED, Node
 
-# where a host's programs listen: for nodes, for readers, for clients, for operators
-PEERS, READERS, CLIENTS, OPERATOR = 7000, 7001, 8080, 9090
+# where a host's programs listen: for nodes, for clients, for operators
+PEERS, CLIENTS, OPERATOR = 7000, 8080, 9090
 
 
 def run(*words: str, check: bool = True) -> str:
@@ -79,38 +79,20 @@ class Host:
         self.inside("ip", "address", "add", f"{self.address}/24", "dev", "eth0")
         self.inside("ip", "link", "set", "eth0", "up")
         self.inside("ip", "link", "set", "lo", "up")
-        self.inside("nft", "add table ip cuts; add chain ip cuts out { type filter hook output priority 0; }")
 
     def at(self, port: int) -> str:
         return f"{self.address}:{port}"
 
-    @property
-    def before(self) -> list[str]:
-        """The words before those of a program that runs here, and whose failing writes are no signal."""
-        return [*self.entering, *UNSIGNALLED]
-
     def inside(self, *words: str) -> str:
         return run(*self.entering, *words)
-
-    def cut(self, others: "Iterable[Host]") -> None:
-        for other in others:
-            self.inside("nft", f"add rule ip cuts out ip daddr {other.address} drop")
-
-    def mend(self) -> None:
-        self.inside("nft", "flush chain ip cuts out")
-
-
-def addresses(hosts: Iterable[Host], port: int) -> str:
-    """The addresses of a port of these hosts, with commas between them."""
-    return ",".join(host.at(port) for host in hosts)
 
 
 class HostedNode(Node):
     """A node on a host of its own."""
 
-    def __init__(self, host: Host, folder: pathlib.Path, program: str, hosts: Iterable[Host], farm: str,
-                 has_readers: bool = False) -> None:
+    def __init__(self, host: Host, folder: pathlib.Path, program: str, hosts: Iterable[Host],
+                 farm: str) -> None:
         self.host = host
-        super().__init__(program, host.number, folder, addresses(hosts, PEERS), host.at(CLIENTS),
-                         host.at(OPERATOR), host.at(READERS) if has_readers else None, host.before)
+        super().__init__(program, host.number, folder, ",".join(each.at(PEERS) for each in hosts),
+                         host.at(CLIENTS), host.at(OPERATOR), before=[*host.entering, *UNSIGNALLED])
         self.init(farm)

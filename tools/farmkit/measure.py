@@ -60,6 +60,15 @@ def instructions(words: Sequence[str | pathlib.Path], given: bytes = b"",
     return int(found[1]) if found else None
 
 
+def rate(address: str, path: str, seconds: int, clients: int = 1) -> tuple[float, int, str | None]:
+    """The requests a second by wrk, one connection a request; how many they were; what it says of errors."""
+    said = ran(["wrk", f"-t{min(2, clients)}", f"-c{clients}", f"-d{seconds}s", "-H", "Connection: close",
+                f"http://{address}{path}"]).stdout.decode()
+    found = re.search(r"(\d+) requests in(?:.|\n)*Requests/sec:\s+([\d.]+)", said)
+    errors = re.search(r"Socket errors: (.*)|Non-2xx.*: (.*)", said)
+    return float(found[2]) if found else 0, int(found[1]) if found else 0, errors[0] if errors else None
+
+
 def ratios(costs: Sequence[float], least: float = 0.1) -> list[float]:
     """How many times the one before each cost is, of one that is nearly nothing as if it were `least`."""
     return [after / max(before, least) for before, after in zip(costs, costs[1:])]

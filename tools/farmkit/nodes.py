@@ -19,16 +19,26 @@ VOTES, NO_MAJORITY = (200, "votes"), (503, "no majority")
 
 
 class Nodes:
-    """The nodes of a farm, each with its folder, ports and log."""
+    """The nodes of a farm, each with its folder, ports and log. Within a `with` they run. The ports are those
+    of peers, clients and operators, and of readers, whom nodes answer only where that is asked for."""
 
-    def __init__(self, program: str | pathlib.Path, folder: pathlib.Path, count: int = NODES) -> None:
-        self.program, self.folder, self.count = program, folder, count
-        ports = free_ports(3 * count)
-        self.peer, self.http, self.admin = ports[:count], ports[count:2 * count], ports[2 * count:]
+    def __init__(self, program: str | pathlib.Path, folder: pathlib.Path, count: int = NODES,
+                 farm: str = "tried", has_readers: bool = False, ports: Sequence[int] | None = None,
+                 logs: bool = True) -> None:
+        self.program, self.folder, self.count, self.called, self.logs = program, folder, count, farm, logs
+        self.ports = list(ports or free_ports(4 * count))
+        self.peer, self.http, self.admin, reading = (self.ports[k * count:(k + 1) * count] for k in range(4))
+        self.readers = list(map(loopback, reading))
         peers = ",".join(map(loopback, self.peer))
-        self.each = [Node(program, i, folder / str(i), peers, loopback(self.http[i]), loopback(self.admin[i]))
-                     for i in range(count)]
+        self.each = [Node(program, i, folder / str(i), peers, loopback(self.http[i]), loopback(self.admin[i]),
+                          self.readers[i] if has_readers else None) for i in range(count)]
         self.writers: list[subprocess.Popen[Any]] = []
+
+    def __enter__(self) -> "Nodes":
+        return self.begin()
+
+    def __exit__(self, *_: object) -> None:
+        self.end()
 
     def __getitem__(self, i: int) -> Node:
         return self.each[i]
@@ -48,7 +58,12 @@ class Nodes:
     # ---- processes
 
     def init(self, i: int, *more: str) -> None:
-        self[i].init("tried", *more)
+        self[i].init(self.called, *more)
+
+    def init_all(self, *more: str) -> "Nodes":
+        for i in range(self.count):
+            self.init(i, *more)
+        return self
 
     def run(self, *words: object) -> "subprocess.CompletedProcess[str]":
         """What a command of the program does."""
@@ -59,7 +74,7 @@ class Nodes:
             raise Wrong(f"{' '.join(command)}: not in time") from late
 
     def start(self, i: int, *more: str) -> None:
-        self[i].start(more=more)
+        self[i].start(logs=self.logs, more=more)
 
     def start_all(self, those: Sequence[int] | None = None) -> None:
         """Starts all nodes or these, and waits until they answer."""
@@ -69,10 +84,9 @@ class Nodes:
         for i in numbers:
             self.wait(i)
 
-    def begin(self) -> None:
-        for i in range(self.count):
-            self.init(i)
-        self.start_all()
+    def begin(self, *more: str) -> "Nodes":
+        self.init_all(*more).start_all()
+        return self
 
     def start_limitable(self, i: int) -> None:
         """Starts a node whose files may be kept from growing (`limit`), with its log through a pipe."""

@@ -68,6 +68,11 @@ def children(number: int) -> list[int]:
     return found
 
 
+def descendants(number: int) -> list[int]:
+    """The processes that a process of this number started, and that these started in turn."""
+    return [each for child in children(number) for each in (child, *descendants(child))]
+
+
 def limited(most: int) -> Callable[[], None]:
     """What `preexec_fn` may be: no file of the program grows over so many bytes."""
     return lambda: resource.setrlimit(resource.RLIMIT_FSIZE, (most, most))
@@ -269,18 +274,3 @@ class Replica(Process):
         words = ["replica", "--farm", farm, "--peers", readers, "--readers", self.readers]
         super().__init__(program, folder, clients, operator, words)
         self.folder.mkdir(parents=True)
-
-
-def nodes_in(program: str | pathlib.Path, folder: str | pathlib.Path, farm: str, count: int = 3,
-             readers: Sequence[int] | None = None, tape: pathlib.Path | None = None,
-             ports: Sequence[int] | None = None) -> list[Node]:
-    """New nodes of a farm, not started: with these ports for readers and this tape, where given, and these
-    for peers, clients and operators."""
-    addresses = list(map(loopback, ports or free_ports(3 * count)))
-    peers, clients, operators = addresses[:count], addresses[count:2 * count], addresses[2 * count:]
-    nodes = [Node(program, number, pathlib.Path(folder) / f"node-{number}", ",".join(peers), clients[number],
-                  operators[number],
-                  loopback(readers[number]) if readers else None) for number in range(count)]
-    for node in nodes:
-        node.init(farm, *(["--from", str(tape)] if tape else []))
-    return nodes

@@ -66,9 +66,6 @@ class Violations(Counter[str]):
             print("violation: " + words, flush=True)
         self[words] += 1
 
-    def are_many(self) -> bool:
-        return self.total() >= MOST_VIOLATIONS
-
 
 class StartFollower(Follower):
     """Follows a command that makes its folder, where that is there already."""
@@ -222,9 +219,8 @@ class Following(Alone):
 
     def __init__(self, given: Namespace, above: str) -> None:
         super().__init__(given, above)
-        self.node, = Nodes(given.program, pathlib.Path(above), 1).each
-        self.readers = loopback(free_ports(1)[0])
-        self.node.words += ["--readers", self.readers]
+        nodes = Nodes(given.program, pathlib.Path(above), 1, has_readers=True)
+        self.node, self.readers = nodes[0], nodes.readers[0]
 
     def words(self, command: str) -> list[str]:
         return [self.given.program, "replica", "--state", self.path, "--farm", "tried", "--peers",

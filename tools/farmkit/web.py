@@ -1,8 +1,10 @@
 """HTTP to a program at an address like `127.0.0.1:8080`, a connection per request, over sockets: so a bench
 times little else."""
 
+import contextlib
 import re
 import socket
+import threading
 from typing import NamedTuple
 
 CAPABILITIES = "/wms?SERVICE=WMS&REQUEST=GetCapabilities"
@@ -15,6 +17,32 @@ class Answer(NamedTuple):
 
     status: int
     body: bytes
+
+
+class Listener:
+    """Listens at a port of this machine, and attends to each connection in a thread of its own."""
+
+    def __init__(self, port: int = 0) -> None:
+        self.server = socket.create_server(("127.0.0.1", port))
+        self.port: int = self.server.getsockname()[1]
+        threading.Thread(target=self.accept, daemon=True).start()
+
+    def accept(self) -> None:
+        with contextlib.suppress(OSError):
+            while True:
+                threading.Thread(target=self.attend, args=self.server.accept()[:1], daemon=True).start()
+
+    def attend(self, client: socket.socket) -> None:
+        with contextlib.suppress(OSError), client:
+            self.serve(client)
+
+    def serve(self, client: socket.socket) -> None:
+        """Serves a client, whose connection is closed behind it."""
+        raise NotImplementedError
+
+    def end(self) -> None:
+        self.server.shutdown(socket.SHUT_RDWR)
+        self.server.close()
 
 
 class Unanswered(Exception):

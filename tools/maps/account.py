@@ -54,7 +54,7 @@ class Teller:
         """Tells once that the keyword was changed."""
         if keyword is None or (keyword, what) not in self.told:
             self.told.add((keyword, what))
-            self.add(f"{keyword}{what}" if keyword else what.lstrip(": "), place_of(keyword))
+            self.add(f"{keyword}{what}" if keyword else what.lstrip(": "), keyword.place if keyword else "")
         mark([keyword], CHANGED)
 
     def drop(self, keyword, why=""):
@@ -63,10 +63,6 @@ class Teller:
             self.told.add((keyword, None))
             self.lost(f"{keyword}{why}", keyword.place)
         mark([keyword], LEFT_OUT)
-
-
-def place_of(keyword):
-    return keyword.place if keyword else ""
 
 
 def mark(keywords, fate):

@@ -150,30 +150,24 @@ class Lines:
     def __init__(self, arcs):
         self.line_of = library("shapely.geometry", "python3-shapely").LineString
         self.arcs = arcs
-        self.answers = {}  # to questions about arcs before anything was left out, by their indices
+        self.answers = {}  # of `were_apart`, by the indices
 
     def crossing(self, tolerance):
         """The arcs that cross another at this distance, or themselves, and don't where nothing is left out."""
         kept = {i: arc.kept(tolerance) for i, arc in enumerate(self.arcs)}
         left = [i for i, points in kept.items() if points[0] != points[-1] or len(points) > 3]
         lines = [self.line_of(kept[i]) for i in left]
-        found = {i for i, line in zip(left, lines) if not line.is_simple and self.was_simple(i)}
+        found = {i for i, line in zip(left, lines) if not line.is_simple and self.were_apart(i)}
         for k, m in meetings(lines):
             if not lines[k].relate_pattern(lines[m], APART) and self.were_apart(left[k], left[m]):
                 found |= {left[k], left[m]}
         return [self.arcs[i] for i in found]
 
-    def was_simple(self, i):
-        """Whether the arc didn't cross itself before anything was left out."""
-        return self.before((i,), lambda line: line.is_simple)
-
-    def were_apart(self, i, j):
-        """Whether the two arcs didn't cross before anything was left out."""
-        return self.before((i, j), lambda one, other: one.relate_pattern(other, APART))
-
-    def before(self, indices, question):
+    def were_apart(self, *indices):
+        """Whether one arc didn't cross itself, or two not one another, before anything was left out."""
         if indices not in self.answers:
-            self.answers[indices] = question(*(self.line_of(self.arcs[i].points) for i in indices))
+            one, *others = (self.line_of(self.arcs[i].points) for i in indices)
+            self.answers[indices] = one.relate_pattern(others[0], APART) if others else one.is_simple
         return self.answers[indices]
 
 

@@ -48,7 +48,8 @@ def box_of(the_map):
 
 
 def cut_features(layer, box):
-    ways = {"POINT": cut_points, "LINE": cut_line, "POLYGON": cut_ring}
+    ways = {"POINT": lambda part, box: [[point for point in part if all(is_kept(point, side) for side in sides_of(box))]],
+            "LINE": cut_line, "POLYGON": cut_ring}
     for feature in layer.features:
         if all(is_inside(part, box) for part in feature.parts):
             yield feature
@@ -96,10 +97,6 @@ def crossing(one, other, side):
     return (where, across) if axis == 0 else (across, where)
 
 
-def cut_points(part, box):
-    return [[point for point in part if all(is_kept(point, side) for side in sides_of(box))]]
-
-
 def cut_line(line, box):
     lines = [line]
     for side in sides_of(box):
@@ -111,14 +108,19 @@ def cut_line_at(line, side):
     """The pieces of the line on the kept side."""
     result, piece = [], [line[0]] if is_kept(line[0], side) else []
     for before, point in zip(line, line[1:]):
-        if is_kept(before, side) != is_kept(point, side):
-            add(piece, crossing(before, point, side))
-        if is_kept(point, side):
-            add(piece, point)
-        elif piece:
+        step(piece, before, point, side)
+        if piece and not is_kept(point, side):
             result.append(piece)
             piece = []
     return [piece for piece in [*result, piece] if len(piece) > 1]
+
+
+def step(piece, before, point, side):
+    """Adds what of a line between two points is on the kept side."""
+    if is_kept(before, side) != is_kept(point, side):
+        add(piece, crossing(before, point, side))
+    if is_kept(point, side):
+        add(piece, point)
 
 
 def add(piece, point):
@@ -131,10 +133,7 @@ def cut_ring(ring, box):
     for side in sides_of(box):
         piece = []
         for before, point in zip(ring, ring[1:]):
-            if is_kept(before, side) != is_kept(point, side):
-                add(piece, crossing(before, point, side))
-            if is_kept(point, side):
-                add(piece, point)
+            step(piece, before, point, side)
         if len(piece) < 3:
             return []
         ring = piece if piece[0] == piece[-1] else [*piece, piece[0]]

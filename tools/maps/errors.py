@@ -1,5 +1,6 @@
 """Errors in one line, notes on what was changed, and the libraries of Debian that the tools need."""
 
+import contextlib
 import importlib
 import sys
 import warnings
@@ -10,6 +11,15 @@ class MapError(Exception):
 
     def __init__(self, message):
         super().__init__(" ".join(str(message).split()))
+
+
+@contextlib.contextmanager
+def saying(words, *errors):
+    """Has these errors of a library end the tool, in one line: the words, with what it says in the place of @."""
+    try:
+        yield
+    except errors as error:
+        raise MapError(words.replace("@", str(error))) from error
 
 
 class Notes:

@@ -4,6 +4,7 @@ An expression stands in parentheses: strings, [ITEM] as a number, "[ITEM]" as a 
 tostring, round, upper, lower, initcap and firstcap.
 """
 
+import ast
 import re
 
 TOKEN = re.compile(r"""\s*(?:("(?:[^"\\]|\\.)*"|'(?:[^'\\]|\\.)*'|`[^`]*`)|(\[[^\]]*\])|(\d+(?:\.\d*)?)|([A-Za-z]+)|([-+*/(),]))""")
@@ -27,7 +28,7 @@ def text_of(expression, item_of):
         if len(expression) > 1 and quote in "\"'" and expression.endswith(quote):
             expression = expression[1:-1]
         return filled(expression, item_of)
-    return written(Reader(expression, item_of).whole())
+    return written(read(expression, item_of))
 
 
 def written(value):
@@ -58,87 +59,38 @@ FUNCTIONS = {
 }
 
 
-class Reader:
-    """Reads an expression from left to right."""
+OPERATORS = {
+    ast.Add: lambda one, other: one + other if isinstance(one, float) and isinstance(other, float) else written(one) + written(other),
+    ast.Sub: lambda one, other: number(one) - number(other),
+    ast.Mult: lambda one, other: number(one) * number(other),
+    ast.Div: lambda one, other: number(one) / number(other),
+}
 
-    def __init__(self, expression, item_of):
-        self.item_of = item_of
-        self.tokens = []
-        place = 0
-        while place < len(expression.rstrip()):
-            found = TOKEN.match(expression, place)
-            if found is None:
-                raise Unknown(expression[place:])
-            self.tokens.append(found)
-            place = found.end()
 
-    def take(self, sign):
-        """Whether the next token is the sign, which is then behind."""
-        if self.tokens and self.tokens[0][5] == sign:
-            self.tokens.pop(0)
-            return True
-        return False
+def read(expression, item_of):
+    """The value of an expression. What Python's own parser reads are its signs, and words in the place of what it holds."""
+    words, values, place = [], {}, 0
+    while place < len(expression.rstrip()):
+        found = TOKEN.match(expression, place)
+        if found is None:
+            raise Unknown(expression[place:])
+        string, item, digits, function, sign = found.groups()
+        words.append(sign or function and function.lower() or f"value{place}")
+        if not sign and not function:
+            values[words[-1]] = (filled(string[1:-1], item_of) if string is not None
+                                 else number(item_of(item[1:-1]) if item is not None else digits))
+        place = found.end()
+    try:
+        return value_of(ast.parse(" ".join(words), mode="eval").body, values)
+    except (SyntaxError, TypeError, ValueError, ArithmeticError, RecursionError) as error:
+        raise Unknown(str(error)) from error
 
-    def need(self, sign):
-        if not self.take(sign):
-            raise Unknown(f"{sign} is missing")
 
-    def whole(self):
-        value = self.sum()
-        if self.tokens:
-            raise Unknown(self.tokens[0][0])
-        return value
-
-    def sum(self):
-        value = self.product()
-        while True:
-            if self.take("+"):
-                other = self.product()
-                texts = isinstance(value, str) or isinstance(other, str)
-                value = written(value) + written(other) if texts else value + other
-            elif self.take("-"):
-                value = number(value) - number(self.product())
-            else:
-                return value
-
-    def product(self):
-        value = self.term()
-        while True:
-            if self.take("*"):
-                value = number(value) * number(self.term())
-            elif self.take("/"):
-                divisor = number(self.term())
-                if divisor == 0:
-                    raise Unknown("a division by zero")
-                value = number(value) / divisor
-            else:
-                return value
-
-    def term(self):
-        if self.take("("):
-            value = self.sum()
-            self.need(")")
-            return value
-        if not self.tokens:
-            raise Unknown("it ends too early")
-        string, item, digits, function, _ = self.tokens.pop(0).groups()
-        if string is not None:
-            return filled(string[1:-1], self.item_of)
-        if item is not None:
-            return number(self.item_of(item[1:-1]))
-        if digits is not None:
-            return float(digits)
-        return self.called(function)
-
-    def called(self, name):
-        if name is None or name.lower() not in FUNCTIONS:
-            raise Unknown(f"the function {name}")
-        self.need("(")
-        values = [self.sum()]
-        while self.take(","):
-            values.append(self.sum())
-        self.need(")")
-        try:
-            return FUNCTIONS[name.lower()](*values)
-        except TypeError as error:
-            raise Unknown(f"{name} with {len(values)} values") from error
+def value_of(node, values):
+    if isinstance(node, ast.Name) and node.id in values:
+        return values[node.id]
+    if isinstance(node, ast.BinOp) and type(node.op) in OPERATORS:
+        return OPERATORS[type(node.op)](value_of(node.left, values), value_of(node.right, values))
+    if isinstance(node, ast.Call) and isinstance(node.func, ast.Name) and node.func.id in FUNCTIONS:
+        return FUNCTIONS[node.func.id](*(value_of(each, values) for each in node.args))
+    raise Unknown(f"{type(node).__name__} {getattr(node, 'id', '')}".strip())

@@ -2,6 +2,7 @@
 
 import math
 import sys
+from bisect import bisect_left
 from dataclasses import dataclass, replace
 
 from .borders import Borders, joined
@@ -102,14 +103,8 @@ class Fitting:
                 f"even with the simplest shapes the map has {excess}: take a part by --extent, leave out layers or small features, write "
                 "--by-class or fewer labels, or make two maps (docs/MAPFILES.md, \"Two maps\")"
             )
-        low, high = 0, len(distances) - 1
-        while low < high:
-            middle = (low + high) // 2
-            if self.written(distances[middle]).measure.excess() is None:
-                high = middle
-            else:
-                low = middle + 1
-        return self.without_crossings(distances[low], distances[-1])
+        least = bisect_left(distances, True, hi=len(distances) - 1, key=lambda it: self.written(it).measure.excess() is None)
+        return self.without_crossings(distances[least], distances[-1])
 
     def without_crossings(self, tolerance, greatest):
         """From the distance on, the least at which the map is within the limits with borders that don't cross."""

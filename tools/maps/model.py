@@ -97,11 +97,8 @@ class Measure:
 
     def excess(self):
         """Which limit the map is over, or None."""
-        counts = (
-            (self.features, MOST_FEATURES, "features"),
-            (self.points, MOST_POINTS, "points"),
-            (self.size, MOST_BYTES, "bytes of canonical text"),
-        )
+        counts = ((self.features, MOST_FEATURES, "features"), (self.points, MOST_POINTS, "points"),
+                  (self.size, MOST_BYTES, "bytes of canonical text"))
         return next((f"{count:,} {what}, over the limit of {most:,}" for count, most, what in counts if count > most), None)
 
 
@@ -115,19 +112,14 @@ def measure(the_map, text):
 
 
 def style_lines(style):
-    lines = ["STYLE"]
-    for keyword, color in (("COLOR", style.color), ("OUTLINECOLOR", style.outline)):
-        if color is not None:
-            lines.append("{} {} {} {}".format(keyword, *color))
-    return lines + [f"WIDTH {style.width}", f"SIZE {style.size}", "END"]
+    colors = [" ".join(map(str, (keyword, *color)))
+              for keyword, color in (("COLOR", style.color), ("OUTLINECOLOR", style.outline)) if color is not None]
+    return ["STYLE", *colors, f"WIDTH {style.width}", f"SIZE {style.size}", "END"]
 
 
 def label_lines(label):
-    force = "TRUE" if label.force else "FALSE"
-    return [
-        "LABEL", "COLOR {} {} {}".format(*label.color), f"SIZE {label.size}", f"POSITION {label.position}",
-        f"PRIORITY {label.priority}", f"FORCE {force}", f"BUFFER {label.buffer}", "END",
-    ]  # fmt: skip
+    return ["LABEL", "COLOR {} {} {}".format(*label.color), f"SIZE {label.size}", f"POSITION {label.position}",
+            f"PRIORITY {label.priority}", f"FORCE {str(label.force).upper()}", f"BUFFER {label.buffer}", "END"]
 
 
 def class_lines(layer, index):
@@ -136,14 +128,9 @@ def class_lines(layer, index):
     what = f"layer {layer.name}: class {group.name}"
     if len(group.styles) > MOST_STYLES:
         raise MapError(f"{what}: {len(group.styles)} styles, over the limit of {MOST_STYLES}: draw it with fewer")
-    lines = ["CLASS", f"NAME {quoted(group.name, what)}"]
-    if len(layer.classes) > 1:
-        lines.append(f'EXPRESSION "{index + 1}"')
-    for style in group.styles:
-        lines += style_lines(style)
-    if group.label is not None:
-        lines += label_lines(group.label)
-    return lines + ["END"]
+    expression = [f'EXPRESSION "{index + 1}"'] if len(layer.classes) > 1 else []
+    inside = [line for style in group.styles for line in style_lines(style)] + (label_lines(group.label) if group.label else [])
+    return ["CLASS", f"NAME {quoted(group.name, what)}", *expression, *inside, "END"]
 
 
 def feature_lines(layer, place, feature, digits):

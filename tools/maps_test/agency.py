@@ -54,24 +54,19 @@ def coverage(columns, rows, depth):
 
 
 def polygon(ring):
-    shape, outer = ogr.Geometry(ogr.wkbPolygon), ogr.Geometry(ogr.wkbLinearRing)
-    for x, y in ring:
-        outer.AddPoint_2D(x, y)
-    shape.AddGeometry(outer)
-    return shape
+    return ogr.CreateGeometryFromWkt(f"POLYGON ({listed(ring)})")
 
 
 def line(points):
-    shape = ogr.Geometry(ogr.wkbLineString)
-    for x, y in points:
-        shape.AddPoint_2D(x, y)
-    return shape
+    return ogr.CreateGeometryFromWkt(f"LINESTRING {listed(points)}")
 
 
 def point(x, y):
-    shape = ogr.Geometry(ogr.wkbPoint)
-    shape.AddPoint_2D(x, y)
-    return shape
+    return ogr.CreateGeometryFromWkt(f"POINT {listed([(x, y)])}")
+
+
+def listed(points):
+    return "(" + ", ".join(f"{x!r} {y!r}" for x, y in points) + ")"
 
 
 def write_table(path, driver, table, kind, fields, rows, epsg=2056, options=()):

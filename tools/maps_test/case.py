@@ -6,6 +6,8 @@ import sys
 from dataclasses import dataclass, field
 from pathlib import Path
 
+from maps.errors import MapError
+
 TOOLS = Path(__file__).resolve().parent.parent
 
 
@@ -28,6 +30,14 @@ class Case:
 
 def run(tool, words, folder):
     return subprocess.run([sys.executable, str(TOOLS / tool), *words], cwd=folder, capture_output=True)
+
+
+def made(tool, words, folder):
+    """The map that a tool has to make, and what it says."""
+    done = run(tool, words, folder)
+    if done.returncode != 0:
+        raise MapError(done.stderr.decode().strip() or f"{tool} ended with status {done.returncode}")
+    return done.stdout.decode(), done.stderr.decode().strip()
 
 
 def canonical(program, text):

@@ -15,10 +15,11 @@ from maps.preview import CAPTION, GAP
 from maps.texts import number
 
 from . import agency, pictures
-from .case import TOOLS, canonical, run
+from .case import TOOLS, canonical, made
 from .constructs import table_of_the_page
 from .keywords import a_map_of_each_keyword, keywords_of_the_page
 
+COMMUNES = ["--name", "a", "--crs", "3857", "--layer", "communes.shp", "--label", "NAME", "--ascii"]
 EXAMPLES = TOOLS.parent / "examples"
 DATA = TOOLS / "geojson"
 
@@ -39,20 +40,16 @@ def rings_of(text):
     return features
 
 
-def said(done):
-    return done.stderr.decode().strip()
-
-
 # ---- borders
 
 
 def borders_stay_shared(folder, program, keep):
     """Communes in labelled polygons, simplified until they fit: no overlap, no gap between them, in square metres."""
     agency.write_data(folder, depth=5, roads=1, towns=1)
-    done = run("make_map.py", ["--name", "a", "--crs", "3857", "--fit", "--layer", "communes.shp", "--label", "NAME", "--ascii"], folder)
-    if done.returncode != 0 or "simplified by" not in said(done):
-        return said(done)
-    polygons = [Polygon(rings[0]) for rings in rings_of(done.stdout.decode())]
+    text, said = made("make_map.py", ["--fit", *COMMUNES], folder)
+    if "simplified by" not in said:
+        return said
+    polygons = [Polygon(rings[0]) for rings in rings_of(text)]
     union = unary_union(polygons)
     overlap = sum(polygon.area for polygon in polygons) - union.area
     outlines = [union.exterior] if union.geom_type == "Polygon" else [part.exterior for part in union.geoms]
@@ -69,10 +66,8 @@ def borders_do_not_cross(folder, program, keep):
     rows = [(agency.polygon([(2600000 + 100 * x, 1200000 + 100 * y) for x, y in ring]), ()) for ring in (tongue, inner)]
     agency.write_table(folder / "a.gpkg", "GPKG", "a", ogr.wkbPolygon, [], rows)
     for distance in (100, 200, 500, 1000, 2000, 4000):
-        done = run("make_map.py", ["--name", "a", "--crs", "3857", "--simplify", str(distance), "--layer", "a.gpkg"], folder)
-        if done.returncode != 0:
-            return said(done)
-        polygons = [Polygon(rings[0]) for rings in rings_of(done.stdout.decode())]
+        text, _ = made("make_map.py", ["--name", "a", "--crs", "3857", "--simplify", str(distance), "--layer", "a.gpkg"], folder)
+        polygons = [Polygon(rings[0]) for rings in rings_of(text)]
         if not all(polygon.is_valid for polygon in polygons) or (len(polygons) == 2 and polygons[0].intersection(polygons[1]).area > 1):
             return f"at {distance} m the polygons cross"
     return None
@@ -105,12 +100,9 @@ SHAPED = {
 def one_shape_looks_alike(folder, program, keep):
     """Features that became one shape have the picture of each by itself, and fewer bytes where any did."""
     for name, words in SHAPED.items():
-        one = run("make_map.py", ["--name", name, *words], DATA)
-        each = run("make_map.py", ["--name", name, "--apart", *words], DATA)
-        if one.returncode or each.returncode:
-            return f"{name}: {said(one)} {said(each)}"
-        drawn = [pictures.drawn_by_wfarm(program, done.stdout.decode(), 500) for done in (one, each)]
-        if drawn[0] != drawn[1] or len(one.stdout) > len(each.stdout):
+        one, each = (made("make_map.py", ["--name", name, *more, *words], DATA)[0] for more in ((), ("--apart",)))
+        drawn = {pictures.drawn_by_wfarm(program, text, 500) for text in (one, each)}
+        if len(drawn) != 1 or len(one) > len(each):
             return f"{name}: another picture, or more bytes"
     return None
 
@@ -120,11 +112,9 @@ def neighbours_as_one_look_alike(folder, program, keep):
     rows = [(agency.polygon(ring), (agency.USES[i * 7 // 3 % 4],)) for i, ring in enumerate(agency.coverage(12, 6, 3))]
     agency.write_table(folder / "a.gpkg", "GPKG", "a", ogr.wkbPolygon, [("use", ogr.OFTString)], rows)
     words = ["--name", "a", "--crs", "3857", "--by-class", "--layer", "a.gpkg", "--class-by", "use"]
-    one, each = run("make_map.py", words, folder), run("make_map.py", ["--apart", *words], folder)
-    drawn = [pictures.drawn_by_wfarm(program, done.stdout.decode(), 800) for done in (one, each)]
-    if drawn[0] != drawn[1] or len(one.stdout) > len(each.stdout) * 0.8:
-        return f"another picture, or {len(one.stdout)} bytes for {len(each.stdout)}"
-    return None
+    one, each = (made("make_map.py", [*more, *words], folder)[0] for more in ((), ("--apart",)))
+    drawn = {pictures.drawn_by_wfarm(program, text, 800) for text in (one, each)}
+    return None if len(drawn) == 1 and len(one) <= len(each) * 0.8 else f"another picture, or {len(one)} bytes for {len(each)}"
 
 
 # ---- beside MapServer
@@ -134,15 +124,11 @@ def own_maps_stay(folder, program, keep):
     """Maps of wfarm go through MapServer's library and back with every pixel."""
     for name in ("roads", "parcels", "lakes", "towns"):
         strict = ["--strict"] if name == "roads" else []  # the others have points without symbols, double quotes, other metadata
-        done = run("import_mapfile.py", [*strict, "--digits", "6", str(EXAMPLES / f"{name}.map")], folder)
-        if done.returncode != 0:
-            return f"{name}: {said(done)}"
+        text, _ = made("import_mapfile.py", [*strict, "--digits", "6", str(EXAMPLES / f"{name}.map")], folder)
         own = canonical(program, (EXAMPLES / f"{name}.map").read_bytes()).stdout.decode()
         (folder / "own.map").write_text(own)
-        again = run("import_mapfile.py", [*strict, "--digits", "6", "own.map"], folder)
-        if again.returncode != 0:
-            return f"{name}: {said(again)}"
-        before, after = (pictures.drawn_by_wfarm(program, text, 1024) for text in (own, done.stdout.decode()))
+        made("import_mapfile.py", [*strict, "--digits", "6", "own.map"], folder)
+        before, after = (pictures.drawn_by_wfarm(program, each, 1024) for each in (own, text))
         if before != after:
             return f"{name}: {pictures.share_equal(pictures.pixels_of(before), pictures.pixels_of(after)):.4%} of the pixels are equal"
     return None
@@ -151,17 +137,13 @@ def own_maps_stay(folder, program, keep):
 def shown(folder, program, keep, name, words, least, layers=None):
     """Imports agency.map and looks how many pixels of the pictures are equal. Told, too, is how many are if MapServer's
     smoothed borders count as the nearer colour."""
-    done = run("import_mapfile.py", [*words, "agency.map"], folder)
-    if done.returncode != 0:
-        return said(done)
-    text = done.stdout.decode()
+    text, said = made("import_mapfile.py", [*words, "agency.map"], folder)
     original = pictures.drawn_by_mapserver(folder / "agency.map", text, 1024, layers)
     theirs, ours = pictures.pixels_of(original), pictures.pixels_of(pictures.drawn_by_wfarm(program, text, 1024))
     colors = set(pictures.pixels(ours))
     plain, share = pictures.share_equal(ours, theirs), pictures.share_equal(ours, pictures.nearest(theirs, colors))
-    print(f"{name}: {plain:.2%} of the pixels are equal, {share:.2%} without MapServer's smoothing; {said(done).splitlines()[-1]}")
+    print(f"{name}: {plain:.2%} of the pixels are equal, {share:.2%} without MapServer's smoothing; {said.splitlines()[-1]}")
     if keep is not None:
-        keep.mkdir(parents=True, exist_ok=True)
         (keep / f"{name}-mapserver.ppm").write_bytes(original)
         (keep / f"{name}.ppm").write_bytes(pictures.drawn_by_wfarm(program, text, 1024))
         (keep / f"{name}.map").write_text(text)
@@ -185,22 +167,19 @@ def whole_map_beside_mapserver(folder, program, keep):
 # ---- parts and previews
 
 
-def largest(done):
+def largest(said):
     """The largest displacement that a tool tells, in metres."""
-    return float(re.search(r"the largest displacement is ([\d.,]+) m", said(done))[1].replace(",", ""))
+    return float(re.search(r"the largest displacement is ([\d.,]+) m", said)[1].replace(",", ""))
 
 
 PART = "--extent=880000,5960000,930000,5985000"  # a ninth of the agency's area
-COMMUNES = ["--name", "a", "--crs", "3857", "--layer", "communes.shp", "--label", "NAME", "--ascii"]
 
 
 def cut_borders_stay_shared(folder, program, keep):
     """Communes cut at an extent and simplified: no overlap, no gap, and they fill the extent and its margin."""
     agency.write_data(folder, depth=5, roads=1, towns=1)
-    done = run("make_map.py", [PART, "--simplify", "100", *COMMUNES], folder)
-    if done.returncode != 0:
-        return said(done)
-    polygons = [Polygon(ring) for rings in rings_of(done.stdout.decode()) for ring in rings]
+    text, _ = made("make_map.py", [PART, "--simplify", "100", *COMMUNES], folder)
+    polygons = [Polygon(ring) for rings in rings_of(text) for ring in rings]
     union = unary_union(polygons)
     overlap, gaps = sum(polygon.area for polygon in polygons) - union.area, union.envelope.area - union.area
     wide = union.bounds[2] - union.bounds[0]
@@ -210,11 +189,9 @@ def cut_borders_stay_shared(folder, program, keep):
 def a_part_has_more_detail(folder, program, keep):
     """A ninth of the area is simplified by a third of the whole's distance, or less."""
     agency.write_data(folder, depth=7, roads=1, towns=1)
-    whole, part = run("make_map.py", ["--fit", *COMMUNES], folder), run("make_map.py", [PART, "--fit", *COMMUNES], folder)
-    if whole.returncode or part.returncode:
-        return f"{said(whole)} {said(part)}"
-    print(f"a ninth of the area: displaced by {largest(part):,.1f} m at most, the whole by {largest(whole):,.1f} m")
-    return None if largest(part) < largest(whole) / 3 else "less than three times the detail"
+    whole, part = (largest(made("make_map.py", [*more, "--fit", *COMMUNES], folder)[1]) for more in ((), (PART,)))
+    print(f"a ninth of the area: displaced by {part:,.1f} m at most, the whole by {whole:,.1f} m")
+    return None if part < whole / 3 else "less than three times the detail"
 
 
 def panels(path, width, height):
@@ -227,10 +204,8 @@ def panels(path, width, height):
 def preview_of_data(folder, program, keep):
     """Where nothing is simplified, both sides are the map's own picture; else the right one is, with the red frame."""
     words = ["--name", "a", "--preview", str(folder / "p.png"), "--program", program, "--layer", "wards.geojson", "--class-by", "party", "--label", "ward"]
-    done = run("make_map.py", words, DATA)
-    if done.returncode != 0:
-        return said(done)
-    ours = pictures.pixels_of(pictures.drawn_by_wfarm(program, done.stdout.decode(), 400))
+    text, _ = made("make_map.py", words, DATA)
+    ours = pictures.pixels_of(pictures.drawn_by_wfarm(program, text, 400))
     source, right = panels(folder / "p.png", 400, 267)
     return None if source == right == ours else "the preview has another picture"
 
@@ -240,15 +215,12 @@ def preview_of_many_points(folder, program, keep):
     rows = [(agency.polygon(ring), (f"Ö{i}", i % 7)) for i, ring in enumerate(agency.coverage(20, 10, 6))]
     agency.write_table(folder / "a.gpkg", "GPKG", "a", ogr.wkbPolygon, [("name", ogr.OFTString), ("use", ogr.OFTInteger)], rows)
     words = ["--name", "a", "--crs", "3857", "--fit", "--preview", "p.png", "--program", program, "--layer", "a.gpkg", "--class-by", "use"]
-    took, done = seconds_of("make_map.py", words, folder)
-    if done.returncode != 0:
-        return said(done)
-    text = done.stdout.decode()
+    took, (text, said) = seconds_of("make_map.py", words, folder)
     width, height, _ = pictures.size_and_pixels(folder / "p.png")
     tall = pictures.height_of(pictures.extent_of(text), 400)
     ours = pictures.pixels_of(pictures.drawn_by_wfarm(program, text, 400))
     shares = [pictures.share_equal(side, ours) for side in panels(folder / "p.png", 400, tall)]
-    print(f"preview of 51,200 points: {took:.1f} seconds, {shares[0]:.2%} of the source's pixels are the map's; {said(done).splitlines()[-1]}")
+    print(f"preview of 51,200 points: {took:.1f} seconds, {shares[0]:.2%} of the source's pixels are the map's; {said.splitlines()[-1]}")
     size = (width, height) == (2 * 400 + GAP, 2 * tall + 2 * CAPTION)
     return None if size and shares[1] > 0.995 and 0.95 < shares[0] < shares[1] else f"{width} by {height}, {shares}"
 
@@ -257,14 +229,11 @@ def preview_of_a_mapfile(folder, program, keep):
     """MapServer's picture on one side and the map's on the other."""
     agency.write_data(folder, columns=4, rows=2, depth=6, roads=9, towns=5)
     agency.write_mapfile(folder)
-    done = run("import_mapfile.py", ["--crs", "3857", "--simplify", "900", "--preview", "p.png", "--program", program, "agency.map"], folder)
-    if done.returncode != 0:
-        return said(done)
+    text, _ = made("import_mapfile.py", ["--crs", "3857", "--simplify", "900", "--preview", "p.png", "--program", program, "agency.map"], folder)
     if keep is not None:
-        keep.mkdir(parents=True, exist_ok=True)
         (keep / "preview.png").write_bytes((folder / "p.png").read_bytes())
-    tall = pictures.height_of(pictures.extent_of(done.stdout.decode()), 400)
-    ours = pictures.pixels_of(pictures.drawn_by_wfarm(program, done.stdout.decode(), 400))
+    tall = pictures.height_of(pictures.extent_of(text), 400)
+    ours = pictures.pixels_of(pictures.drawn_by_wfarm(program, text, 400))
     shares = [pictures.share_equal(side, ours) for side in panels(folder / "p.png", 400, tall)]
     return None if shares[1] > 0.99 and 0.6 < shares[0] < shares[1] else f"{shares} of the pixels are the map's"
 
@@ -275,9 +244,9 @@ def own_map_of_mapserver(folder, program, keep):
     if path is None:
         print("MapServer's own test.map isn't in /usr/src: not tried")
         return None
-    done = run("import_mapfile.py", [str(path)], folder)
+    _, said = made("import_mapfile.py", [str(path)], folder)
     wanted = ("layer RASTER: left out: all of it", "layer POINT: left out: FONT Vera of LABEL", "layer POINT: changed: SYMBOL 1 of STYLE")
-    return None if done.returncode == 0 and all(line in said(done) for line in wanted) else said(done)
+    return None if all(line in said for line in wanted) else said
 
 
 # ---- speed, and the whole way
@@ -285,7 +254,7 @@ def own_map_of_mapserver(folder, program, keep):
 
 def seconds_of(tool, words, folder):
     start = time.monotonic()
-    done = run(tool, words, folder)
+    done = made(tool, words, folder)
     return time.monotonic() - start, done
 
 
@@ -293,30 +262,28 @@ def fast_enough(folder, program, keep):
     """200 communes, 300 roads and 60 towns by --fit in 15 seconds; 100,000 points of a GeoPackage in a minute."""
     agency.write_data(folder, depth=4)
     agency.write_mapfile(folder)
-    took, done = seconds_of("import_mapfile.py", ["--crs", "3857", "--fit", "--ascii", "agency.map"], folder)
+    took, _ = seconds_of("import_mapfile.py", ["--crs", "3857", "--fit", "--ascii", "agency.map"], folder)
     rows = [(agency.polygon(ring), (f"C{i}",)) for i, ring in enumerate(agency.coverage(20, 10, 7))]
     agency.write_table(folder / "big.gpkg", "GPKG", "big", ogr.wkbPolygon, [("name", ogr.OFTString)], rows)
-    long, big = seconds_of("make_map.py", ["--name", "a", "--fit", "--layer", "big.gpkg", "--label", "name"], folder)
+    long, _ = seconds_of("make_map.py", ["--name", "a", "--fit", "--layer", "big.gpkg", "--label", "name"], folder)
     print(f"speed: the agency's map in {took:.1f} seconds, 102,400 points in {long:.1f}")
-    if done.returncode or big.returncode:
-        return f"{said(done)} {said(big)}"
     return None if took < 15 and long < 60 else "too slow"
 
 
 def query_of_the_map(folder, program, keep):
     """--query writes a query that draws the whole map."""
-    done = run("make_map.py", ["--name", "a", "--query", str(folder / "query"), "--layer", "wards.geojson", "--label", "ward"], DATA)
+    text, _ = made("make_map.py", ["--name", "a", "--query", str(folder / "query"), "--layer", "wards.geojson", "--label", "ward"], DATA)
     query = (folder / "query").read_text().strip()
-    drawn = pictures.picture(program, query, done.stdout)
+    drawn = pictures.picture(program, query, text.encode())
     return None if re.match(rb"P6\n400 267\n", drawn) else f"{query}: {drawn[:40]}"
 
 
 def report_of_what_is_lost(folder, program, keep):
     agency.write_data(folder, columns=4, rows=2, depth=3, roads=9, towns=5)
     agency.write_mapfile(folder)
-    done = run("import_mapfile.py", ["--crs", "4326", "--report", "lost.txt", "agency.map"], folder)
+    _, said = made("import_mapfile.py", ["--crs", "4326", "--report", "lost.txt", "agency.map"], folder)
     report = (folder / "lost.txt").read_text()
-    return None if report.strip() == said(done) and "layer roads: left out: PATTERN 4 2 of STYLE (net.inc, line 10)" in report else report
+    return None if report.strip() == said and "layer roads: left out: PATTERN 4 2 of STYLE (net.inc, line 10)" in report else report
 
 
 # ---- the report of `wfarm check` as JSON

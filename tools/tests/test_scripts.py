@@ -5,7 +5,7 @@ import hashlib
 import importlib.machinery
 import importlib.util
 import io
-import json
+import os
 import pathlib
 import re
 import subprocess
@@ -13,6 +13,7 @@ import sys
 import tempfile
 import types
 import unittest
+from concurrent.futures import ThreadPoolExecutor
 
 import check_python
 import ci
@@ -27,40 +28,23 @@ def scripts() -> list[pathlib.Path]:
     """The scripts of tools/ and bench/, and the demo."""
     every = [*(TOP / "tools").glob("*.py"), *(TOP / "bench").glob("*.py"), TOP / "demo",
              TOP / "tools" / "wfarmctl"]
-    return sorted(it for it in every if it.name != "kit.py")
-
-
-# run in a process for each folder: what each script of it writes for --help, and on standard error
-HELP = """
-import contextlib, io, json, os, runpy, sys
-for path in sys.argv[1:]:
-    sys.path[0], out, error = os.path.dirname(path), io.StringIO(), io.StringIO()
-    sys.argv, status = [path, "--help"], None
-    with contextlib.redirect_stdout(out), contextlib.redirect_stderr(error):
-        try:
-            runpy.run_path(path, run_name="__main__")
-        except SystemExit as end:
-            status = end.code
-        except ImportError as lacking:
-            error.write(str(lacking))
-    print(json.dumps([path, status, out.getvalue(), error.getvalue()]))
-"""
+    return sorted(every)
 
 
 class Help(unittest.TestCase):
     def test_each_script_says_what_it_is_for(self) -> None:
-        for folder in {path.parent for path in scripts()}:
-            own = [str(path) for path in scripts() if path.parent == folder]
-            ran = subprocess.run([sys.executable, "-B", "-c", HELP, *own], capture_output=True, text=True)
-            self.assertEqual((ran.stderr, ran.stdout.count("\n")), ("", len(own)))
-            for path, status, told, error in map(json.loads, ran.stdout.splitlines()):
+        def helped(path: pathlib.Path) -> "subprocess.CompletedProcess[str]":
+            return subprocess.run([sys.executable, "-B", path, "--help"], capture_output=True, text=True)
+
+        with ThreadPoolExecutor(os.cpu_count()) as pool:
+            for path, ran in zip(scripts(), pool.map(helped, scripts())):
                 # (what Debian packages, as git, GDAL or Selenium, need not be here)
-                lacking = re.search(r"No module named '(\w+)'|^missing: |directory: '(git)'", error)
+                lacking = re.search(r"No module named '(\w+)'|^missing: |directory: '(git)'", ran.stderr)
                 if lacking and not list((TOP / "tools").glob(f"{lacking[1]}*")):
                     continue
                 with self.subTest(path):
-                    self.assertEqual((status, error), (0, ""))
-                    self.assertRegex(told, r"(?m)^[A-Z].*[a-z]")
+                    self.assertEqual((ran.returncode, ran.stderr), (0, ""))
+                    self.assertRegex(ran.stdout, r"(?m)^[A-Z].*[a-z]")
 
     def test_each_script_stands_in_a_page(self) -> None:
         pages = {"tools": TOP / "CONTRIBUTING.md", "bench": TOP / "bench" / "README.md"}

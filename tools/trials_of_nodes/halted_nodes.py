@@ -253,16 +253,12 @@ def check_each(nodes, changes):
     return wrong
 
 
-def has_promised(nodes, i):
-    return any(kind == PROMISED for kind, _ in records(nodes[i].tape.read_bytes())[0])
-
-
 def exchanged(nodes):
     """a tape that failed, and another one in its place"""
     for k in range(9):
         nodes.publish_whole(0, a_map(f"first{k}"))
         nodes.level()
-        if has_promised(nodes, 2):
+        if any(kind == PROMISED for kind, _ in records(nodes[2].tape.read_bytes())[0]):
             break
     older = nodes[1].tape.read_bytes()
     nodes.kill(2, 0)

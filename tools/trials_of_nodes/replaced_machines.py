@@ -53,6 +53,17 @@ def begun_replacement(nodes, i):
                             stdout=subprocess.PIPE, stderr=subprocess.STDOUT, text=True)
 
 
+def see_through(nodes, running, word):
+    """Waits until a `wfarmctl replace` of node 1 has ended, runs it again where it wasn't done, and publishes
+    at each node: what it wrote."""
+    told = running.communicate(timeout=4 * PATIENCE)[0]
+    if running.returncode != 0:
+        give_vote(nodes, 1)
+    publish_at_each(nodes, word)
+    nodes.level()
+    return told
+
+
 def publish_at_each(nodes, word):
     for i in range(nodes.count):
         nodes.publish_whole(i, a_map(f"{word}{i}"))
@@ -122,6 +133,13 @@ def standing(node):
     lines = node.ask_operator("/replacements").body.decode().splitlines()
     known = [line.split()[1:] for line in lines if line.startswith("replaced ")]
     return dict(line.split(" ", 1) for line in lines if " " in line), known
+
+
+def one_replacement(nodes):
+    """The one replacement that all nodes know of."""
+    counts = {told for node in nodes.each for told in map(tuple, standing(node)[1])}
+    want(f"what they know: {counts}", len(counts) == 1)
+    return counts
 
 
 def agree_at_once(i, pairs):
@@ -208,13 +226,8 @@ def stopped(nodes):
             until(lambda: nodes[0].ended() is not None)
             ended = nodes[0].ended()
             nodes.start(0)
-            told = running.communicate(timeout=4 * PATIENCE)[0]
-            want(f"{call} {path}: node 0 ended with {ended}; {told}", ended != 0)
-            if running.returncode != 0:
-                give_vote(nodes, 1)
-            said.append(f"{call} {path} {told.splitlines()[-1]}")
-            publish_at_each(nodes, f"{call}{path}")
-            nodes.level()
+            want(f"{call} {path}: node 0 ended with {ended}", ended != 0)
+            said.append(f"{call} {path} {see_through(nodes, running, f'{call}{path}').splitlines()[-1]}")
     return ", ".join(said)
 
 
@@ -244,11 +257,7 @@ def joining(nodes):
                 killed += 1
                 nodes[1].before = usual
                 nodes.start(1)
-                running.communicate(timeout=4 * PATIENCE)
-                if running.returncode != 0:
-                    give_vote(nodes, 1)
-                publish_at_each(nodes, f"{call}{when}")
-                nodes.level()
+                see_through(nodes, running, f"{call}{when}")
     return f"{killed} times killed, and each time it votes"
 
 
@@ -287,9 +296,7 @@ def resumed(nodes):
                 said.append(f"{last}{' and a lost disk' if is_lost else ''}")
                 nodes.level()
         publish_at_each(nodes, "after")
-        counts = {told for node in nodes.each for told in map(tuple, standing(node)[1])}
-        want(f"what they know: {counts}", len(counts) == 1)
-    return f"ended after {'; '.join(said)}; then {counts}"
+        return f"ended after {'; '.join(said)}; then {one_replacement(nodes)}"
 
 
 def operators(nodes):
@@ -309,9 +316,7 @@ def operators(nodes):
             said.append(f"{statuses} {told if 0 in statuses else ''}")
             publish_at_each(nodes, f"after{len(said)}")
             nodes.level()
-        counts = {told for node in nodes.each for told in map(tuple, standing(node)[1])}
-        want(f"what they know: {counts}", len(counts) == 1)
-    return f"{', '.join(said)}; then {counts}"
+        return f"{', '.join(said)}; then {one_replacement(nodes)}"
 
 
 CASES = [replaced, rivals, stopped, joining, resumed, operators]
