@@ -77,7 +77,7 @@ own_by i emitted (act ∷ acts) [] received = absurd received
 own_by i emitted (act ∷ acts) (origin ∷ origins) received = (received.0, own_by i (emitted ++ act.outputs) acts origins received.1)
 
 pub life_is_part : {T : Type 0} (tapes : Tape T) → LifeIsPart tapes
-life_is_part tapes = λ read_from began given emitted node life. record {
+life_is_part tapes = λ read_from stood given emitted node life. record {
   run = life.run;
   origins = life.origins;
   tape = life.opened.tape;
@@ -90,14 +90,14 @@ life_is_part tapes = λ read_from began given emitted node life. record {
         record { id = sym life.number; among = sym life.among; runs = there.runs; stored = there.stored; idle = there.idle };
     done = life.done;
   };
-  first = life.first;
+  values = life.values;
   now = life.now;
   shown = shown_by node.id [] life.run.acts life.origins life.received;
   own = own_by node.id [] life.run.acts life.origins life.received;
 }
 
 pub part_is_first : {T : Type 0} (tapes : Tape T) → PartIsFirst tapes
-part_is_first tapes = λ read_from began node part durable empty. subst (λ bytes. IsRun tapes node.n node.id bytes part.run) (part.same durable ∙ empty) part.is_run
+part_is_first tapes = λ read_from stood node part durable empty. subst (λ bytes. IsRun tapes node.n node.id bytes part.run) (part.same durable ∙ empty) part.is_run
 
 -- ---- runs one after the other
 

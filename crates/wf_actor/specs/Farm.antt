@@ -5,7 +5,7 @@ use Rattle.wf_career.specs.Run.{Act, Input, Run, IsRun, given_to, last}
 use Rattle.wf_codec.specs.declared.message.Message.{Message}
 use Rattle.wf_node.specs.Node.{Node}
 use Rattle.wf_tape.specs.declared.tape.Tape.{Ghosts as Tape}
-use Rattle.wf_actor.specs.Life.{AreOwnAmong, IsLife}
+use Rattle.wf_actor.specs.Life.{AreOwnAmong, AreValuesOf, IsLife}
 use Rattle.wf_wire.specs.Post.{AreAmong}
 use Rattle.wf_actor.specs.declared.actor.Origin.{Origin}
 use Rattle.wf_actor.specs.declared.actor.Origin.TheVariants.{Own, Peer}
@@ -77,7 +77,7 @@ ProcessesAreFarm {T} tapes = (n : ℕ) (careers : ℕ → Career T) (steps : Lis
 -- One run's part of that: a run of `wf_career` up to the node as it is, from the bytes that were
 -- read of the tape from which it was opened, which are its content if it is durable. Its items are
 -- these steps, which hear only their own messages.
-pub record IsRunPart {T : Type 0} (tapes : Tape T) (read_from : List (T × ℕ)) (began : List (Node T × ℕ)) (node : Node T) : Type 0 where
+pub record IsRunPart {T : Type 0} (tapes : Tape T) (read_from : List (T × ℕ)) (stood : List (Node T × ℕ)) (node : Node T) : Type 0 where
   pub run : Run T
   pub origins : List Origin
   pub tape : T
@@ -85,19 +85,19 @@ pub record IsRunPart {T : Type 0} (tapes : Tape T) (read_from : List (T × ℕ))
   pub bytes : List ℕ
   pub same : tapes.durable → bytes ≡ tapes.content tape
   pub is_run : IsRun tapes node.n node.id bytes run
-  pub first : began ≡ (run.first, 0) ∷ []
+  pub values : AreValuesOf stood run node
   pub now : last run ≡ node
   pub shown : items (steps_by node.id run.acts origins) ≡ items_by node.id run.acts
   pub own : AreOwn [] (steps_by node.id run.acts origins)
 
 -- What a process promises after each call is its part.
 abbrev pub LifeIsPart : {T : Type 0} → Tape T → Type 0
-LifeIsPart {T} tapes = (read_from : List (T × ℕ)) (began : List (Node T × ℕ)) (given : List (Message × Origin)) (emitted : List Message) (node : Node T) →
-    IsLife tapes read_from began given emitted node → IsRunPart tapes read_from began node
+LifeIsPart {T} tapes = (read_from : List (T × ℕ)) (stood : List (Node T × ℕ)) (given : List (Message × Origin)) (emitted : List Message) (node : Node T) →
+    IsLife tapes read_from stood given emitted node → IsRunPart tapes read_from stood node
 
 -- Where the tape is durable and was empty, that is the first run of a process of `wf_career`.
 abbrev pub PartIsFirst : {T : Type 0} → Tape T → Type 0
-PartIsFirst {T} tapes = (read_from : List (T × ℕ)) (began : List (Node T × ℕ)) (node : Node T) (part : IsRunPart tapes read_from began node) → tapes.durable → tapes.content part.tape ≡ [] →
+PartIsFirst {T} tapes = (read_from : List (T × ℕ)) (stood : List (Node T × ℕ)) (node : Node T) (part : IsRunPart tapes read_from stood node) → tapes.durable → tapes.content part.tape ≡ [] →
     IsCareer tapes node.n node.id (record { ended = []; now = Some part.run })
 
 -- Runs one after the other hear only their own messages, if each of them does.

@@ -1,6 +1,7 @@
 -- The life of a node in a process: its acts since it was opened, and where its inputs came from.
 use Rattle.std.specs.Prelude.{◌≡◌, ℕ, ⊤, List, [], ◌∷◌, ◌++◌, map}
 use Rattle.wf_codec.specs.declared.message.Message.{Message}
+use Rattle.wf_career.specs.Career.{values_in}
 use Rattle.wf_career.specs.Run.{Act, Run, AreDone, IsOpenedFromTape, given_to, last, outputs}
 use Rattle.wf_model.specs.Chosen.{IsIn}
 use Rattle.wf_node.specs.Node.{Node}
@@ -31,6 +32,20 @@ AreOwnReceived emitted [] (origin ∷ origins) = ⊥
 AreOwnReceived emitted (act ∷ acts) [] = ⊥
 AreOwnReceived emitted (act ∷ acts) (origin ∷ origins) = AreOwnAmong emitted origin (given_to act.input) × AreOwnReceived (emitted ++ act.outputs) acts origins
 
+-- each node of the log was one of these
+abbrev pub AreAmongValues : {T : Type 0} → List (Node T × ℕ) → List (Node T) → Type 0
+AreAmongValues [] values = ⊤
+AreAmongValues (entry ∷ log) values = IsIn entry.0 values × AreAmongValues log values
+
+-- The log begins with the node as the run began, and ends with it as it is; each node of the log is
+-- a value that it had in the run.
+pub record AreValuesOf {T : Type 0} (stood : List (Node T × ℕ)) (run : Run T) (node : Node T) : Type 0 where
+  pub later : List (Node T × ℕ)
+  pub first : stood ≡ (run.first, 0) ∷ later
+  pub earlier : List (Node T × ℕ)
+  pub now : stood ≡ earlier ++ (node, 0) ∷ []
+  pub each : AreAmongValues stood (values_in run)
+
 module _ {T : Type 0} (tapes : Tape T) where
   -- The node was opened from the tape that the log has, and from no other: from what was read of
   -- it, which is its content if it is durable.
@@ -39,18 +54,18 @@ module _ {T : Type 0} (tapes : Tape T) where
     pub only : read_from ≡ (tape, 0) ∷ []
     pub opened : IsOpenedFromTape tapes node.n node.id tape node
 
-  -- A node that was opened from the tape that `read_from` has, as the node that `began` has, is
-  -- this one by now, by the acts of a run of `wf_career`. By them it was given exactly these
+  -- A node that was opened from the tape that `read_from` has is this one by now, by the acts of a
+  -- run of `wf_career`, with the values that `stood` has. By them it was given exactly these
   -- messages, and returned exactly these, and of its own messages it was given only what it had
   -- returned.
-  pub record IsLife (read_from : List (T × ℕ)) (began : List (Node T × ℕ)) (given : List (Message × Origin)) (emitted : List Message) (node : Node T) : Type 0 where
+  pub record IsLife (read_from : List (T × ℕ)) (stood : List (Node T × ℕ)) (given : List (Message × Origin)) (emitted : List Message) (node : Node T) : Type 0 where
     pub run : Run T
     pub origins : List Origin
     pub opened : IsOpenedFromLog read_from run.first
     pub number : node.id ≡ run.first.id
     pub among : node.n ≡ run.first.n
     pub done : AreDone tapes run.first run.acts
-    pub first : began ≡ (run.first, 0) ∷ []
+    pub values : AreValuesOf stood run node
     pub now : last run ≡ node
     pub sends : outputs run.acts ≡ emitted
     pub takes : delivered run.acts origins ≡ given

@@ -40,7 +40,7 @@ waiting_in process = process.backlog.messages.items
 
 -- Its node was just opened: nothing was given to it or returned by it, and nothing waits.
 pub record IsJustOpened {T : Type 0} {tapes : Tape T} (process : Process T tapes) : Type 0 where
-  pub began : process.actor.began.items ≡ (process.actor.node, 0) ∷ []
+  pub stood : process.actor.stood.items ≡ (process.actor.node, 0) ∷ []
   pub given : process.actor.given.items ≡ []
   pub emitted : emitted_by process ≡ []
   pub waiting : waiting_in process ≡ []
@@ -60,10 +60,11 @@ HaveOneEnd (Ok x) (Err why) = ⊥
 HaveOneEnd (Err why) (Ok y) = ⊥
 HaveOneEnd (Err why) (Err other) = other ≡ why
 
--- The logs of how its run began and of ended runs, and how many nodes there are, stay.
+-- The node as it is now is one more in the log of what it was in its run. How that began, the log
+-- of ended runs, and how many nodes there are, stay.
 pub record IsGoingOn {T : Type 0} {tapes : Tape T} (before after : Process T tapes) : Type 0 where
   pub read_from : after.actor.read_from.items ≡ before.actor.read_from.items
-  pub began : after.actor.began.items ≡ before.actor.began.items
+  pub stood : after.actor.stood.items ≡ before.actor.stood.items ++ (after.actor.node, 0) ∷ []
   pub ended : after.ended.items ≡ before.ended.items
   pub number : after.actor.node.id ≡ before.actor.node.id
   pub among : after.n ≡ before.n

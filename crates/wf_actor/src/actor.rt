@@ -27,16 +27,17 @@ pub enum Origin {
 }
 
 /// A node and its life since it was opened. A clause sees the node, and logs that only proofs read:
-/// the tape from which it was opened, as the tape was then; the node as it was opened; each message
-/// that it was given, with where that came from; and all messages that it returned.
+/// the tape from which it was opened, as the tape was then; the node as it was opened, and after
+/// each call since; each message that it was given, with where that came from; and all messages
+/// that it returned.
 #[derive(Drop)]
 pub struct Actor<T: Tape> {
     pub(crate) node: CachedNode<T>,
     pub(crate) read_from: Past<T, usize>,
-    pub(crate) began: Past<Node<T>, usize>,
+    pub(crate) stood: Past<Node<T>, usize>,
     pub(crate) given: Past<Message, Origin>,
     pub(crate) emitted: Past<Vec<Message>, usize>,
-    ghost lived: { ∥ IsLife T.Tape read_from.items began.items given.items (logged emitted.items) node ∥₁ },
+    ghost lived: { ∥ IsLife T.Tape read_from.items stood.items given.items (logged emitted.items) node ∥₁ },
     ghost received: { ∥ AreGivenCome given.items ∥₁ },
 }
 
@@ -75,7 +76,7 @@ impl<T: Tape> Actor<T> {
         requires cache { (history : List Definition) → AllCached history cache }
         ensures opened { IfOk result (λ actor. IsOpened T.Tape tape id n actor.node) }
         ensures read_from { IfOk result (λ actor. actor.read_from.items ≡ (tape, 0) ∷ []) }
-        ensures began { IfOk result (λ actor. actor.began.items ≡ (actor.node, 0) ∷ []) }
+        ensures stood { IfOk result (λ actor. actor.stood.items ≡ (actor.node, 0) ∷ []) }
         ensures given { IfOk result (λ actor. actor.given.items ≡ []) }
         ensures emitted { IfOk result (λ actor. logged actor.emitted.items ≡ []) }
         ensures unchanged { T.durable →
@@ -105,7 +106,7 @@ impl<T: Tape> Actor<T> {
         ensures opened { IsOpened T.Tape node.tape node.id node.n result.node }
         ensures node { result.node ≡ node }
         ensures read_from { result.read_from.items ≡ (node.tape, 0) ∷ [] }
-        ensures began { result.began.items ≡ (result.node, 0) ∷ [] }
+        ensures stood { result.stood.items ≡ (result.node, 0) ∷ [] }
         ensures given { result.given.items ≡ [] }
         ensures emitted { logged result.emitted.items ≡ [] }
     {
@@ -119,18 +120,18 @@ impl<T: Tape> Actor<T> {
         requires cache { (history : List Definition) → AllCached history cache }
         ensures node { result.node ≡ node }
         ensures read_from { result.read_from.items ≡ read_from.items }
-        ensures began { result.began.items ≡ (node, 0) ∷ [] }
+        ensures stood { result.stood.items ≡ (node, 0) ∷ [] }
         ensures given { result.given.items ≡ [] }
         ensures emitted { logged result.emitted.items ≡ [] }
     {
-        let began = Past::new().and(&node, &0);
+        let stood = Past::new().and(&node, &0);
         let given = Past::new();
         let emitted = Past::new();
         let node = CachedNode::new(node, cache);
         Actor {
             node,
             read_from,
-            began,
+            stood,
             given,
             emitted,
         }
@@ -148,7 +149,8 @@ impl<T: Tape> Actor<T> {
         requires come { ∥ AreCome origin (given_to input) ∥₁ }
         ensures answer { IsStepResult T.Tape (view input) self.old.node result self.new.node }
         ensures read_from { self.new.read_from.items ≡ self.old.read_from.items }
-        ensures began { self.new.began.items ≡ self.old.began.items }
+        ensures stood { self.new.stood.items ≡
+            self.old.stood.items ++ (self.new.node, 0) ∷ [] }
         ensures given { self.new.given.items ≡
             self.old.given.items ++ all_from origin (given_to input) }
         ensures emitted { logged self.new.emitted.items ≡
@@ -158,6 +160,7 @@ impl<T: Tape> Actor<T> {
         drop(origin);
         let answer = self.node.step(alloc, input);
         report(&mut self.emitted, &answer);
+        self.stood = self.stood.and(self.node.get(), &0);
         answer
     }
 
@@ -174,28 +177,32 @@ impl<T: Tape> Actor<T> {
         ensures moves { MovesOnce T.Tape self.old.node result.messages self.new.node }
         ensures takes { TakesRequest
             (S.piece source.old) (S.left source.old) (S.left source.new) }
-        ensures reads { CountsReceiving result.outcome (S.failures source.old) (S.failures source.new) }
-        ensures writes { CountsCompleting result.outcome (K.failures sink.old) (K.failures sink.new) }
+        ensures reads { CountsReceiving result.outcome
+            (S.failures source.old) (S.failures source.new) }
+        ensures writes { CountsCompleting result.outcome
+            (K.failures sink.old) (K.failures sink.new) }
         ensures last { IsEnding T.Tape K.Sink (S.left source.old) sink.old sink.new
             self.old.node result.messages self.new.node result.outcome }
         ensures read_from { self.new.read_from.items ≡ self.old.read_from.items }
-        ensures began { self.new.began.items ≡ self.old.began.items }
+        ensures stood { self.new.stood.items ≡
+            self.old.stood.items ++ (self.new.node, 0) ∷ [] }
         ensures given { self.new.given.items ≡ self.old.given.items }
         ensures emitted { logged self.new.emitted.items ≡
             logged self.old.emitted.items ++ result.messages.items }
     {
         let served = self.node.serve(alloc, source, sink);
         self.emitted = self.emitted.and(&served.messages, &0);
+        self.stood = self.stood.and(self.node.get(), &0);
         served
     }
 
     /// Its life, always: and what was given to it from a peer came on a connection from that peer.
     /// The call does nothing.
     pub fn always_lived(&self)
-        ensures lived { ∥ IsLife T.Tape self.now.read_from.items self.now.began.items
+        ensures lived { ∥ IsLife T.Tape self.now.read_from.items self.now.stood.items
             self.now.given.items (logged self.now.emitted.items) self.now.node ∥₁ }
         ensures received { ∥ AreGivenCome self.now.given.items ∥₁ }
     {
-        let _ = &self.began;
+        let _ = &self.stood;
     }
 }

@@ -104,7 +104,7 @@ impl<T: Tape> Process<T> {
         requires member { actor.node.id < n }
         requires posts { parts.posts.messages.items ≡ [] }
         requires backlog { parts.backlog.messages.items ≡ [] }
-        requires began { actor.began.items ≡ (actor.node, 0) ∷ [] }
+        requires stood { actor.stood.items ≡ (actor.node, 0) ∷ [] }
         requires given { actor.given.items ≡ [] }
         requires emitted { logged actor.emitted.items ≡ [] }
         ensures actor { result.actor ≡ actor }
@@ -262,7 +262,8 @@ impl<T: Tape> Process<T> {
         origin: Origin,
         from: NodeId,
     ) -> Result<(), NodeFault>
-        requires own { ∥ AreOwnAmong (logged self.old.actor.emitted.items) origin (message ∷ []) ∥₁ }
+        requires own { ∥ AreOwnAmong (logged self.old.actor.emitted.items) origin
+            (message ∷ []) ∥₁ }
         requires come { ∥ AreCome origin (message ∷ []) ∥₁ }
         ensures { IsReceived T.Tape message origin from self.old result self.new }
     {
@@ -278,7 +279,8 @@ impl<T: Tape> Process<T> {
         origin: Origin,
         target: Target,
     ) -> Result<(), NodeFault>
-        requires own { ∥ AreOwnAmong (logged self.old.actor.emitted.items) origin (given_to input) ∥₁ }
+        requires own { ∥ AreOwnAmong (logged self.old.actor.emitted.items) origin
+            (given_to input) ∥₁ }
         requires come { ∥ AreCome origin (given_to input) ∥₁ }
         ensures { IsActed T.Tape input origin target self.old result self.new }
     {
@@ -300,7 +302,7 @@ impl<T: Tape> Process<T> {
     /// The life of the node in this run, always: some run of `wf_career`, from what was read of the
     /// tape on which it was opened, of which its logs tell. The call does nothing.
     pub fn always_lived(&self)
-        ensures { ∥ IsLife T.Tape self.now.actor.read_from.items self.now.actor.began.items
+        ensures { ∥ IsLife T.Tape self.now.actor.read_from.items self.now.actor.stood.items
             self.now.actor.given.items (logged self.now.actor.emitted.items) self.now.actor.node ∥₁ }
     {
         self.actor.always_lived();

@@ -109,7 +109,7 @@ module _ {T : Type 0} where
 -- ---- what came
 
 -- a message that was delivered, with where it came from
-in_delivered : (m : Message) (origin : Origin) (messages : List Message) (rest : List (Message × Origin)) → IsIn m messages → IsIn (m, origin) (all_from origin messages ++ rest)
+pub in_delivered : (m : Message) (origin : Origin) (messages : List Message) (rest : List (Message × Origin)) → IsIn m messages → IsIn (m, origin) (all_from origin messages ++ rest)
 in_delivered m origin [] rest there = absurd there
 in_delivered m origin (other ∷ messages) rest (inl same) = inl (ap (λ x. (x, origin)) same)
 in_delivered m origin (other ∷ messages) rest (inr later) = inr (in_delivered m origin messages rest later)
@@ -119,7 +119,7 @@ unfolding AreGivenCome
 delivered_come Own messages rest come = tt
 delivered_come (Peer peer stream) messages rest come = λ m there. come m peer stream (in_delivered m (Peer peer stream) messages rest there)
 
-in_rest : (entry : Message × Origin) (origin : Origin) (messages : List Message) (rest : List (Message × Origin)) → IsIn entry rest → IsIn entry (all_from origin messages ++ rest)
+pub in_rest : (entry : Message × Origin) (origin : Origin) (messages : List Message) (rest : List (Message × Origin)) → IsIn entry rest → IsIn entry (all_from origin messages ++ rest)
 in_rest entry origin [] rest there = there
 in_rest entry origin (other ∷ messages) rest there = inr (in_rest entry origin messages rest there)
 

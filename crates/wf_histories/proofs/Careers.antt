@@ -5,6 +5,7 @@ use Rattle.std.proofs.lemmas.List.{map-append}
 use Rattle.wf_actor.specs.Farm.{item_of, items, steps_by}
 use Rattle.wf_actor.specs.declared.actor.Actor.{Actor}
 use Rattle.wf_career.specs.Career.{AreRuns, Ended, items_by, items_in, values_in, values_of}
+use Rattle.wf_career.specs.Continuation.{left_by}
 use Rattle.wf_career.specs.CrashImages.{ComparisonLeaves}
 use Rattle.wf_career.specs.Run.{Failed, HasLeft, Input, IsOpenedFrom, IsRun, Run, last}
 use Rattle.wf_voter.specs.Continuation.{AreRunsFrom, IsLater}
@@ -23,10 +24,10 @@ first_or other (entry ∷ rest) = entry.0
 module _ {T : Type 0} (tapes : Tape T) (n i : ℕ) where
   -- ---- one run
 
-  module _ (actor now : Actor T tapes) (began : actor.began.items ≡ (actor.node, 0) ∷ []) (later : IsLater tapes actor now) (life : LifeOf tapes now) where
+  module _ (actor now : Actor T tapes) (stood : actor.stood.items ≡ (actor.node, 0) ∷ []) (later : IsLater tapes actor now) (life : LifeOf tapes now) where
     -- it began with the node as it was opened
     pub same_first : life.run.first ≡ actor.node
-    same_first = ap (λ (log : List (Node T × ℕ)). first_or actor.node log) (sym life.first ∙ later.began ∙ began)
+    same_first = ap (λ (log : List (Node T × ℕ)). first_or actor.node log) (sym life.values.first ∙ sym later.stood.1 ∙ ap (λ (log : List (Node T × ℕ)). log ++ later.stood.0) stood)
 
     pub same_id : actor.node.id ≡ i → now.node.id ≡ i
     same_id is = life.number ∙ ap (λ (node : Node T). node.id) same_first ∙ is
@@ -63,17 +64,19 @@ module _ {T : Type 0} (tapes : Tape T) (n i : ℕ) where
   bytes_at_first [] now lives = lives.opened.opened.bytes
   bytes_at_first (run ∷ ended) now lives = lives.0.opened.opened.bytes
 
-  opened_next : (actor : Actor T tapes) (ended : List (Actor T tapes × ℕ)) (now : Actor T tapes) → actor.began.items ≡ (actor.node, 0) ∷ [] → AreRunsFrom tapes actor ended now → (lives : LivesOf tapes ended now)
+  opened_next : (actor : Actor T tapes) (ended : List (Actor T tapes × ℕ)) (now : Actor T tapes) → actor.stood.items ≡ (actor.node, 0) ∷ [] → AreRunsFrom tapes actor ended now → (lives : LivesOf tapes ended now)
       → actor.node.id ≡ i → actor.node.n ≡ n → IsOpenedFrom n i (bytes_at_first ended now lives) actor.node
-  opened_next actor [] now began are lives id among = opened_so actor now began are lives id among
-  opened_next actor (run ∷ ended) now began are lives id among = opened_so actor run.0 began are.0 lives.0 id among
+  opened_next actor [] now stood are lives id among = opened_so actor now stood are lives id among
+  opened_next actor (run ∷ ended) now stood are lives id among = opened_so actor run.0 stood are.0 lives.0 id among
 
-  -- What is made of runs, with the runs that come after them: a career from these bytes.
+  -- What is made of runs, with the runs that come after them: a career from these bytes. It leaves
+  -- what they leave, if they leave that whatever they begin from.
   pub record IsCareerWith (bytes : List ℕ) (made : Made T) (later : List (Ended T)) (now : Option (Run T)) : Type 0 where
     pub ended : List (Ended T)
     pub runs : AreRuns tapes n i bytes ended now
     pub its_items : items_in i ended now ≡ items (steps_over i made.over) ++ items_in i later now
     pub its_values : values_of ended now ≡ values_over made.over ++ values_of later now
+    pub leaves : (end : List ℕ) → ((first : List ℕ) → left_by first later ≡ end) → (first : List ℕ) → left_by first ended ≡ end
 
   nothing_over : (bytes : List ℕ) (made : Made T) (later : List (Ended T)) (now : Option (Run T)) → made.over ≡ [] → AreRuns tapes n i bytes later now → IsCareerWith bytes made later now
   unfolding steps_over values_over
@@ -82,12 +85,13 @@ module _ {T : Type 0} (tapes : Tape T) (n i : ℕ) where
     runs = runs;
     its_items = ap (λ over. items (steps_over i over) ++ items_in i later now) (sym none);
     its_values = ap (λ over. values_over over ++ values_of later now) (sym none);
+    leaves = λ end leaves first. leaves first;
   }
 
   -- one run more, over which the tape failed and was opened anew, from these bytes
   one_more : (bytes from : List ℕ) (traced : TracedRun T) (input : Input) (made : Made T) (later : List (Ended T)) (now : Option (Run T)) → IsRun tapes n i bytes traced.run → HasLeft traced.run (Failed input) from
       → items (steps_by i traced.run.acts traced.origins) ≡ items_by i traced.run.acts → IsCareerWith from made later now → IsCareerWith bytes (record { over = traced ∷ made.over; last = made.last }) later now
-  unfolding steps_over values_over items_in values_of
+  unfolding steps_over values_over items_in values_of left_by
   one_more bytes from traced input made later now is left shown rest = record {
     ended = record { run = traced.run; end = Failed input; left = from } ∷ rest.ended;
     runs = (record { run = is; left = left }, rest.runs);
@@ -99,28 +103,29 @@ module _ {T : Type 0} (tapes : Tape T) (n i : ℕ) where
     its_values =
         ap (λ xs. values_in traced.run ++ xs) rest.its_values
         ∙ sym (append_assoc (values_in traced.run) (values_over made.over) (values_of later now));
+    leaves = λ end leaves first. rest.leaves end leaves from;
   }
 
   pub career_with : ComparisonLeaves tapes → (bytes : List ℕ) (actor : Actor T tapes) (ended : List (Actor T tapes × ℕ)) (now : Actor T tapes) → IsOpenedFrom n i bytes actor.node
-      → actor.began.items ≡ (actor.node, 0) ∷ [] → AreRunsFrom tapes actor ended now → (lives : LivesOf tapes ended now) (over made : ℕ) (later : List (Ended T)) (after : Option (Run T))
+      → actor.stood.items ≡ (actor.node, 0) ∷ [] → AreRunsFrom tapes actor ended now → (lives : LivesOf tapes ended now) (over made : ℕ) (later : List (Ended T)) (after : Option (Run T))
       → ((from : List ℕ) → IsRun tapes n i from (made_of tapes ended now lives over made).last.run → AreRuns tapes n i from later after)
       → IsCareerWith bytes (made_of tapes ended now lives over made) later after
   unfolding made_of
-  career_with compares bytes actor [] now opened began are lives over made later after next =
-      nothing_over bytes _ later after refl (next bytes (is_cut_run actor now began are lives bytes opened made))
-  career_with compares bytes actor (run ∷ ended) now opened began are lives zero made later after next =
-      nothing_over bytes _ later after refl (next bytes (is_cut_run actor run.0 began are.0 lives.0 bytes opened made))
-  career_with compares bytes actor (run ∷ ended) now opened began are lives (suc over) made later after next =
+  career_with compares bytes actor [] now opened stood are lives over made later after next =
+      nothing_over bytes _ later after refl (next bytes (is_cut_run actor now stood are lives bytes opened made))
+  career_with compares bytes actor (run ∷ ended) now opened stood are lives zero made later after next =
+      nothing_over bytes _ later after refl (next bytes (is_cut_run actor run.0 stood are.0 lives.0 bytes opened made))
+  career_with compares bytes actor (run ∷ ended) now opened stood are lives (suc over) made later after next =
       let follower = are.1 in
       let follows = are.2 in
-      let whole = is_run actor run.0 began are.0 lives.0 bytes opened in
-      let id : follower.node.id ≡ i = follows.number ∙ same_id actor run.0 began are.0 lives.0 opened.id in
-      let among : follower.node.n ≡ n = follows.among ∙ same_n actor run.0 began are.0 lives.0 opened.among in
+      let whole = is_run actor run.0 stood are.0 lives.0 bytes opened in
+      let id : follower.node.id ≡ i = follows.number ∙ same_id actor run.0 stood are.0 lives.0 opened.id in
+      let among : follower.node.n ≡ n = follows.among ∙ same_n actor run.0 stood are.0 lives.0 opened.among in
       let from = bytes_at_first ended now lives.1 in
-      let opened_again = opened_next follower ended now follows.began are.3 lives.1 id among in
+      let opened_again = opened_next follower ended now follows.stood are.3 lives.1 id among in
       let halts : (last lives.0.run).halted ≡ true = ap (λ (node : Node T). node.halted) lives.0.now ∙ follows.halted in
       let compared : HasStoredAs (last lives.0.run) follower.node = subst (λ (node : Node T). HasStoredAs node follower.node) (sym lives.0.now) follows.stored in
       let left = compares n i bytes from lives.0.run follower.node whole halts opened_again compared in
       one_more bytes from (traced_by tapes run.0 lives.0) left.input (made_of tapes ended now lives.1 over made) later after whole left.leaves
       (items_by_acts i [] lives.0.run.acts lives.0.origins lives.0.received)
-      (career_with compares from follower ended now opened_again follows.began are.3 lives.1 over made later after next)
+      (career_with compares from follower ended now opened_again follows.stood are.3 lives.1 over made later after next)

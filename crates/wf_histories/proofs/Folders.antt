@@ -10,7 +10,7 @@ use Rattle.wf_career.specs.Run.{Between, End, Failed, IsOpenedFrom, IsRun, Run, 
 use Rattle.wf_codec.specs.declared.message.Message.{Message}
 use Rattle.wf_voter.specs.Continuation.{AreRunsFrom}
 use Rattle.wf_node.specs.Node.{stored_of}
-use Rattle.wf_node_command.specs.Folder.{StandsForRead, tape_in}
+use Rattle.wf_node_folder.specs.Folder.{StandsForRead, tape_in}
 use Rattle.wf_tape.specs.declared.tape.Tape.{Ghosts as Tape}
 use Rattle.wf_histories.specs.Carried.{AreStepsCome}
 use Rattle.wf_histories.specs.Nodes.{AreOnFolder, HasEndedBefore, IsCutGiven, IsProcessOf, NodeProcess, bytes_read, cut_before, cut_step, made_by, steps_on, values_on}
@@ -40,7 +40,7 @@ come_cut i emitted (Failed input) origin given = tt
 module _ {T : Type 0} (tapes : Tape T) (n i : ℕ) where
   -- ---- one process
 
-  received : (p : NodeProcess tapes) → IsReceived (made_by tapes p)
+  pub received : (p : NodeProcess tapes) → IsReceived (made_by tapes p)
   received p = received_of tapes p.has.on.voter.process.ended.items p.has.on.voter.process.actor p.lives p.over p.made
 
   -- what was read of the tape last, before the node was served, is what was compared
@@ -68,11 +68,11 @@ module _ {T : Type 0} (tapes : Tape T) (n i : ℕ) where
       subst (λ (ended : List (Actor T tapes × ℕ)). AreRunsFrom tapes p.has.started.actor ended p.has.on.voter.process.actor)
       (sym (earlier.ended ∙ ap (λ (runs : List (Actor T tapes × ℕ)). runs ++ earlier.since) none)) earlier.runs
 
-  with_later : ComparisonLeaves tapes → (p : NodeProcess tapes) → IsProcessOf tapes n i p → (later : List (Ended T)) (now : Option (Run T))
+  pub with_later : ComparisonLeaves tapes → (p : NodeProcess tapes) → IsProcessOf tapes n i p → (later : List (Ended T)) (now : Option (Run T))
       → ((from : List ℕ) → IsRun tapes n i from (made_by tapes p).last.run → AreRuns tapes n i from later now) → IsCareerWith tapes n i (bytes_read tapes p) (made_by tapes p) later now
   with_later compares p is later now next =
       career_with tapes n i compares (bytes_read tapes p) p.has.started.actor p.has.on.voter.process.ended.items p.has.on.voter.process.actor (opened_as p is)
-      p.has.is_started.begun.began (all_runs p) p.lives p.over p.made later now next
+      p.has.is_started.begun.stood (all_runs p) p.lives p.over p.made later now next
 
   -- ---- all of them
 

@@ -39,7 +39,7 @@ folds_nothing = refl
 nothing_stands : StandsFor nothing_stored []
 nothing_stands = record { records = []; reads = ([], record { splits = refl; longest = none_begins_nothing }); folds = folds_nothing }
 
-stands_once : AreReadOneWay → (one other : DurableState Definition) (bytes : List ℕ) → StandsFor one bytes → StandsFor other bytes → one ≡ other
+pub stands_once : AreReadOneWay → (one other : DurableState Definition) (bytes : List ℕ) → StandsFor one bytes → StandsFor other bytes → one ≡ other
 stands_once one_way one other bytes stands also =
     let same = one_way bytes stands.records also.records stands.reads also.reads in
     same_Some one other (sym stands.folds ∙ ap (λ (rs : List (Record Definition)). fold rs) same ∙ also.folds)

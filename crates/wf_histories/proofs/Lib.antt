@@ -9,3 +9,7 @@ mod Farms
 mod Agreement
 mod Replicas
 mod Advance
+mod Answers
+mod Lessons
+mod Joiners
+mod Emptied

@@ -13,7 +13,7 @@ regroup xs ys ws zs = ap (λ l. xs ++ l) (sym (append_assoc ys ws zs)) ∙ sym (
 
 module _ {T : Type 0} (tapes : Tape T) (n i : ℕ) where
   -- the first run was opened from an empty tape
-  from_empty : AreReadOneWay → (bytes : List ℕ) (ended : List (Ended T)) (now : Option (Run T)) → StandsAsBefore [] bytes → AreRuns tapes n i bytes ended now → AreRuns tapes n i [] ended now
+  pub from_empty : AreReadOneWay → (bytes : List ℕ) (ended : List (Ended T)) (now : Option (Run T)) → StandsAsBefore [] bytes → AreRuns tapes n i bytes ended now → AreRuns tapes n i [] ended now
   from_empty one_way bytes [] None before runs = tt
   from_empty one_way bytes [] (Some run) before runs = record { opened = opened_empty one_way n i bytes run.first before runs.opened; done = runs.done }
   from_empty one_way bytes (ended ∷ later) now before runs =

@@ -15,16 +15,16 @@ use Rattle.wf_wire.specs.Post.{AreAmong}
 
 -- ---- messages that are among others
 
-in_first : (m : Message) (xs ys : List Message) → IsIn m xs → IsIn m (xs ++ ys)
+pub in_first : (m : Message) (xs ys : List Message) → IsIn m xs → IsIn m (xs ++ ys)
 in_first m [] ys is = absurd is
 in_first m (x ∷ xs) ys (inl same) = inl same
 in_first m (x ∷ xs) ys (inr later) = inr (in_first m xs ys later)
 
-in_second : (m : Message) (xs ys : List Message) → IsIn m ys → IsIn m (xs ++ ys)
+pub in_second : (m : Message) (xs ys : List Message) → IsIn m ys → IsIn m (xs ++ ys)
 in_second m [] ys is = is
 in_second m (x ∷ xs) ys is = inr (in_second m xs ys is)
 
-in_either : (m : Message) (xs ys : List Message) → IsIn m (xs ++ ys) → IsIn m xs ⊎ IsIn m ys
+pub in_either : (m : Message) (xs ys : List Message) → IsIn m (xs ++ ys) → IsIn m xs ⊎ IsIn m ys
 in_either m [] ys is = inr is
 in_either m (x ∷ xs) ys (inl same) = inl (inl same)
 in_either m (x ∷ xs) ys (inr later) = elim (in_either m xs ys later) [

@@ -4,3 +4,5 @@ pub mod Nodes
 pub mod Theorems
 pub mod Replicas
 pub mod Advance
+pub mod Answers
+pub mod Joiners

@@ -31,7 +31,7 @@ pub record Made (T : Type 0) : Type 0 where
 module _ {T : Type 0} (tapes : Tape T) where
   -- acts by which a run came about: its logs are of these
   abbrev pub LifeOf : Actor T tapes → Type 0
-  LifeOf actor = IsLife tapes actor.read_from.items actor.began.items actor.given.items (logged actor.emitted.items) actor.node
+  LifeOf actor = IsLife tapes actor.read_from.items actor.stood.items actor.given.items (logged actor.emitted.items) actor.node
 
   -- so of each run of a process: of those that have ended, and of the one that it is in
   abbrev pub LivesOf : List (Actor T tapes × ℕ) → Actor T tapes → Type 0

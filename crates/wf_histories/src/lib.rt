@@ -19,9 +19,14 @@
 //! - So there is one history, of which each list that a node ever published is a beginning; no two
 //!   have different definitions under one sequence; no list loses a definition, across restarts
 //!   too; and equal requests to the map service get equal bytes, a 503 for a failed allocation
-//!   aside ([`nodes_agree`]).
+//!   aside ([`nodes_agree`]). Clients of a process that ended by itself were answered by such
+//!   values ([`answers_are_of_nodes`], `specs/Answers.antt`).
 //! - What replicas learn of such a farm is a beginning of that history, and they answer alike
 //!   ([`replicas_are_of_the_farm`]).
+//! - A folder that joins in the place of a lost one (`specs/Joiners.antt`) has learned what its
+//!   next process reads of the tape ([`joiners_have_learned`]), and where it ceased to join, that
+//!   process may vote with it ([`joined_folders_may_vote`]). So it has joined as `wf_rejoin_guard`
+//!   wants it ([`folders_join_by_learning`]).
 //!
 //! **Premises** (`AreNodeProcesses`). Of bytes: a process read of its tape what the one before it
 //! left, or what starts that didn't come to serve made of that; the first of a node, what an empty
@@ -32,6 +37,8 @@
 //! which a process was killed: it was given what each step requires, of which no clause speaks
 //! then. What a process leaves is said as `wf_career` says it, which a durable tape gives. All of
 //! it can be met, one thing after the other ([`node_processes_go_on`], `specs/Advance.antt`).
+//! Of a folder that joins: what its file `joins` said is of its node and was answered; the file
+//! `farm` says no less when the next process reads it, which no clause says of what is put there.
 //!
 //! **Doesn't.** It opens no file and no socket, and no process of the program depends on it.
 #![tactic(auto)]
@@ -39,6 +46,7 @@
 mod theorem;
 
 pub use theorem::{
+    answers_are_of_nodes, folders_join_by_learning, joined_folders_may_vote, joiners_have_learned,
     node_processes_go_on, nodes_agree, nodes_are_one_farm, processes_show_lives,
     processes_show_what_came, replicas_are_of_the_farm, sent_messages_are_carried,
 };

@@ -1,6 +1,8 @@
 //! Theorems about processes of `wfarm node`. Each call does nothing.
 ghost use Rattle.wf_histories.specs.Advance.{ActAdvances, NothingAdvances, RunAdvances, StartAdvances};
+ghost use Rattle.wf_histories.specs.Answers.{AnswersAreOfNodes};
 ghost use Rattle.wf_histories.specs.Carried.{SentAreCarried};
+ghost use Rattle.wf_histories.specs.Joiners.{FoldersJoinByLearning, JoinedFoldersMayVote, JoinersHaveLearned};
 ghost use Rattle.wf_histories.specs.Replicas.{ReplicasAgree};
 ghost use Rattle.wf_histories.specs.Theorems.{NodesAgree, NodesAreOneFarm, ProcessesShowLives, ProcessesShowWhatCame};
 
@@ -61,6 +63,12 @@ pub fn nodes_agree<T: Tape>()
     processes_respond_alike::<T>();
 }
 
+/// Each client of a process of the farm that ended by itself was answered by one of the values that
+/// its node had.
+pub fn answers_are_of_nodes<T: Tape>()
+    ensures { AnswersAreOfNodes T.Tape }
+{}
+
 /// The premises can be met, one thing after the other: where nothing has started they hold, and
 /// they still do where a process starts on what the last one left, takes the next act of its run,
 /// by which it hears of a peer what was sent before, or goes on in its next run.
@@ -81,4 +89,34 @@ pub fn replicas_are_of_the_farm<N: Tape, R: Tape>()
     replicas_agree::<N>();
     replicas_answer_alike::<N>();
     a_replica_never_goes_back();
+}
+
+/// The processes of a folder that joins have learned what the next one on it reads of its tape:
+/// they were given nothing but what says what is published, and returned nothing but questions.
+pub fn joiners_have_learned<T: Tape>()
+    ensures { JoinersHaveLearned T.Tape }
+{
+    // As processes that vote are runs of a career, so are these.
+    records_are_read_one_way();
+    a_compared_node_goes_on::<T>();
+    runs_receive_their_own();
+    sent_messages_are_carried();
+}
+
+/// Where the file `joins` was emptied its folder may vote, with whatever the next process on it
+/// read of the tape, if what the file `farm` says of it is no less by then.
+pub fn joined_folders_may_vote<T: Tape>()
+    ensures { JoinedFoldersMayVote T.Tape }
+{
+    // What was read of the tape was compared with the file `farm`.
+    records_are_read_one_way();
+}
+
+/// So a folder has joined by learning, as `wf_rejoin_guard` wants it of each process that is
+/// replaced, if its answers are true.
+pub fn folders_join_by_learning<T: Tape>()
+    ensures { FoldersJoinByLearning T.Tape }
+{
+    joiners_have_learned::<T>();
+    joined_folders_may_vote::<T>();
 }

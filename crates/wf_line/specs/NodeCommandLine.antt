@@ -34,23 +34,26 @@ flag_rule name = record (new_rule name) { long = Some name; action = Some SetTru
 abbrev pub command_shape : Text → List Rule → Shape
 command_shape name rules = record (new_shape name) { rules = rules }
 
--- `init`, with its first three arguments, with all that have a value, and whole
+-- `init`, with the node's folder and the farm's name, with all that it wants, and whole
 abbrev pub init_shape_start : Shape
-init_shape_start = command_shape (codes "init") (text_rule (codes "state") true ∷ text_rule (codes "farm") true ∷ id_rule ∷ [])
+init_shape_start = command_shape (codes "init") (text_rule (codes "state") true ∷ text_rule (codes "farm") true ∷ [])
 
-abbrev pub init_shape_values : Shape
-init_shape_values = command_shape (codes "init")
-    (text_rule (codes "state") true ∷ text_rule (codes "farm") true ∷ id_rule ∷ nodes_rule ∷ text_rule (codes "from") false ∷ [])
+abbrev pub init_shape_wanted : Shape
+init_shape_wanted = command_shape (codes "init") (text_rule (codes "state") true ∷ text_rule (codes "farm") true ∷ id_rule ∷ nodes_rule ∷ [])
 
 abbrev pub init_shape : Shape
 init_shape = command_shape (codes "init")
     (text_rule (codes "state") true ∷ text_rule (codes "farm") true ∷ id_rule ∷ nodes_rule ∷ text_rule (codes "from") false
     ∷ flag_rule (codes "replace") ∷ [])
 
--- `node`, with the arguments that it wants, with the addresses that it may have too, with its
--- numbers, and whole
+-- `node`, with its folder and the addresses of its peers, with where its clients and peers come,
+-- with all its addresses, with its numbers, and whole
 abbrev pub node_shape_start : Shape
-node_shape_start = command_shape (codes "node") (text_rule (codes "state") true ∷ text_rule (codes "peers") true ∷ text_rule (codes "http") true ∷ [])
+node_shape_start = command_shape (codes "node") (text_rule (codes "state") true ∷ text_rule (codes "peers") true ∷ [])
+
+abbrev pub node_shape_ports : Shape
+node_shape_ports = command_shape (codes "node")
+    (text_rule (codes "state") true ∷ text_rule (codes "peers") true ∷ text_rule (codes "http") true ∷ text_rule (codes "listen") false ∷ [])
 
 abbrev pub node_shape_addresses : Shape
 node_shape_addresses = command_shape (codes "node")

@@ -7,9 +7,14 @@ use Rattle.wf_line.specs.NodeCommandLine.{IsNumberOr, command_shape, text_rule}
 use Rattle.wf_line.specs.declared.replica_line.ReplicaLine.{ReplicaLine}
 use Rattle.wf_service.specs.Service.{most_cached}
 
--- `replica`, with its first three arguments, with all its addresses, and whole
+-- `replica`, with its folder and the farm's name, with all that it wants, with all its addresses,
+-- and whole
 abbrev pub replica_shape_start : Shape
-replica_shape_start = command_shape (codes "replica") (text_rule (codes "state") true ∷ text_rule (codes "farm") true ∷ text_rule (codes "peers") true ∷ [])
+replica_shape_start = command_shape (codes "replica") (text_rule (codes "state") true ∷ text_rule (codes "farm") true ∷ [])
+
+abbrev pub replica_shape_wanted : Shape
+replica_shape_wanted = command_shape (codes "replica")
+    (text_rule (codes "state") true ∷ text_rule (codes "farm") true ∷ text_rule (codes "peers") true ∷ text_rule (codes "http") true ∷ [])
 
 abbrev pub replica_shape_addresses : Shape
 replica_shape_addresses = command_shape (codes "replica")

@@ -2,7 +2,7 @@
 ghost use Rattle.std.specs.Prelude.{◌≡◌, ℕ, IfNone, IfOk, IfSome, codes, false, option_map};
 ghost use Rattle.clap.specs.Walk.{rule_of};
 ghost use Rattle.wf_line.specs.CommandLine.{IsOfShape, rows_in};
-ghost use Rattle.wf_line.specs.NodeCommandLine.{IsClearLineOf, IsInitLineOf, IsNodeLineOf, IsNumberBy, IsNumberOr, clear_shape, clients_rule, flag_rule, id_rule, init_shape, init_shape_start, init_shape_values, node_shape, node_shape_addresses, node_shape_numbers, node_shape_start, nodes_rule, text_rule};
+ghost use Rattle.wf_line.specs.NodeCommandLine.{IsClearLineOf, IsInitLineOf, IsNodeLineOf, IsNumberBy, IsNumberOr, clear_shape, clients_rule, flag_rule, id_rule, init_shape, init_shape_start, init_shape_wanted, node_shape, node_shape_addresses, node_shape_numbers, node_shape_ports, node_shape_start, nodes_rule, text_rule};
 ghost use Rattle.wf_line.specs.declared.node_line.ClearLine.{ClearLine};
 ghost use Rattle.wf_line.specs.declared.node_line.InitLine.{InitLine};
 ghost use Rattle.wf_line.specs.declared.node_line.NodeLine.{NodeLine};
@@ -130,7 +130,7 @@ pub(crate) fn readers_argument<'a>(alloc: Global) -> Arg<'a>
     )
 }
 
-// `init`, with its first three arguments.
+// `init`, with the node's folder and the farm's name.
 fn init_start<'a>(alloc: Global) -> Result<Command<'a>, AllocError>
     ensures { IfOk result (IsOfShape init_shape_start) }
 {
@@ -138,35 +138,32 @@ fn init_start<'a>(alloc: Global) -> Result<Command<'a>, AllocError>
         .about("Makes the folder of a node in a process of its own")
         .after_help(INIT_HELP)
         .arg(option(alloc, "state", "DIR", true, "The node's folder"))?
-        .arg(option(alloc, "farm", "NAME", true, "The farm's name"))?
-        .arg(id_argument(alloc))
+        .arg(option(alloc, "farm", "NAME", true, "The farm's name"))
 }
 
-// `init`, with all arguments that have a value.
-fn init_values<'a>(alloc: Global) -> Result<Command<'a>, AllocError>
-    ensures { IfOk result (IsOfShape init_shape_values) }
+// `init`, with all arguments that it wants.
+fn init_wanted<'a>(alloc: Global) -> Result<Command<'a>, AllocError>
+    ensures { IfOk result (IsOfShape init_shape_wanted) }
 {
-    init_start(alloc)?.arg(nodes_argument(alloc))?.arg(option(
-        alloc,
-        "from",
-        "TAPE",
-        false,
-        "The tape to begin with",
-    ))
+    init_start(alloc)?
+        .arg(id_argument(alloc))?
+        .arg(nodes_argument(alloc))
 }
 
 // `init`.
 pub(crate) fn init_command<'a>(alloc: Global) -> Result<Command<'a>, AllocError>
     ensures { IfOk result (IsOfShape init_shape) }
 {
-    init_values(alloc)?.arg(flag(
-        alloc,
-        "replace",
-        "The folder joins in the place of one that was lost",
-    ))
+    init_wanted(alloc)?
+        .arg(option(alloc, "from", "TAPE", false, "The tape to begin with"))?
+        .arg(flag(
+            alloc,
+            "replace",
+            "The folder joins in the place of one that was lost",
+        ))
 }
 
-// `node`, with the arguments that it wants.
+// `node`, with its folder and the addresses of its peers.
 fn node_start<'a>(alloc: Global) -> Result<Command<'a>, AllocError>
     ensures { IfOk result (IsOfShape node_shape_start) }
 {
@@ -186,22 +183,29 @@ fn node_start<'a>(alloc: Global) -> Result<Command<'a>, AllocError>
             "A0:P,A1:P,..",
             true,
             "The addresses of all nodes for their peers",
-        ))?
-        .arg(option(alloc, "http", "ADDR:PORT", true, "Where clients come"))
+        ))
 }
 
-// `node`, with all its addresses.
-fn node_addresses<'a>(alloc: Global) -> Result<Command<'a>, AllocError>
-    ensures { IfOk result (IsOfShape node_shape_addresses) }
+// `node`, with where its clients and peers come.
+fn node_ports<'a>(alloc: Global) -> Result<Command<'a>, AllocError>
+    ensures { IfOk result (IsOfShape node_shape_ports) }
 {
     node_start(alloc)?
+        .arg(option(alloc, "http", "ADDR:PORT", true, "Where clients come"))?
         .arg(option(
             alloc,
             "listen",
             "ADDR:PORT",
             false,
             "Where peers come; the node's own address of --peers where it is absent",
-        ))?
+        ))
+}
+
+// `node`, with all its addresses.
+fn node_addresses<'a>(alloc: Global) -> Result<Command<'a>, AllocError>
+    ensures { IfOk result (IsOfShape node_shape_addresses) }
+{
+    node_ports(alloc)?
         .arg(option(
             alloc,
             "admin",

@@ -21,17 +21,23 @@ use std::convert::AsStr;
 
 static NO_WORDS: [&str; 0] = [];
 
+// The program with its first command only.
+fn first_command<'a>(alloc: Global) -> Result<Command<'a>, AllocError>
+    ensures { IfOk result (λ command. app_of command ≡ program_of (init_shape ∷ [])) }
+{
+    let init = init_command(alloc)?;
+    Command::new(alloc, "wfarm")
+        .no_binary_name(true)
+        .subcommand_required(true)
+        .subcommand(init)
+}
+
 // The program with the commands that make and serve a node.
 fn serving_program<'a>(alloc: Global) -> Result<Command<'a>, AllocError>
     ensures { IfOk result (λ command. app_of command ≡ program_of (init_shape ∷ node_shape ∷ [])) }
 {
-    let init = init_command(alloc)?;
     let node = node_arguments(alloc)?;
-    Command::new(alloc, "wfarm")
-        .no_binary_name(true)
-        .subcommand_required(true)
-        .subcommand(init)?
-        .subcommand(node)
+    first_command(alloc)?.subcommand(node)
 }
 
 // The program with the commands about nodes.

@@ -1,7 +1,7 @@
 //! The arguments of the command `replica`.
 ghost use Rattle.std.specs.Prelude.{IfNone, IfOk, IfSome};
 ghost use Rattle.wf_line.specs.CommandLine.{IsOfShape, rows_in};
-ghost use Rattle.wf_line.specs.ReplicaCommandLine.{IsReplicaLineOf, replica_shape, replica_shape_addresses, replica_shape_start};
+ghost use Rattle.wf_line.specs.ReplicaCommandLine.{IsReplicaLineOf, replica_shape, replica_shape_addresses, replica_shape_start, replica_shape_wanted};
 ghost use Rattle.wf_line.specs.declared.replica_line.ReplicaLine.{ReplicaLine};
 
 use crate::arguments::{cache_argument, is_set, log_argument, word_of};
@@ -18,7 +18,7 @@ A kept picture takes 3 MB. With --log a line on standard error tells each event:
 
 Errors: status 2 for a bad command line, else 1, with a line that names the cause";
 
-// `replica`, with its first three arguments.
+// `replica`, with its folder and the farm's name.
 fn replica_start<'a>(alloc: Global) -> Result<Command<'a>, AllocError>
     ensures { IfOk result (IsOfShape replica_shape_start) }
 {
@@ -26,22 +26,29 @@ fn replica_start<'a>(alloc: Global) -> Result<Command<'a>, AllocError>
         .about("Serves what a farm publishes, without a vote")
         .after_help(REPLICA_HELP)
         .arg(option(alloc, "state", "DIR", true, "The replica's folder"))?
-        .arg(option(alloc, "farm", "NAME", true, "The farm's name"))?
+        .arg(option(alloc, "farm", "NAME", true, "The farm's name"))
+}
+
+// `replica`, with all arguments that it wants.
+fn replica_wanted<'a>(alloc: Global) -> Result<Command<'a>, AllocError>
+    ensures { IfOk result (IsOfShape replica_shape_wanted) }
+{
+    replica_start(alloc)?
         .arg(option(
             alloc,
             "peers",
             "R0:P,R1:P,..",
             true,
             "The addresses of the readers' ports to ask",
-        ))
+        ))?
+        .arg(option(alloc, "http", "ADDR:PORT", true, "Where clients come"))
 }
 
 // `replica`, with all its addresses.
 fn replica_addresses<'a>(alloc: Global) -> Result<Command<'a>, AllocError>
     ensures { IfOk result (IsOfShape replica_shape_addresses) }
 {
-    replica_start(alloc)?
-        .arg(option(alloc, "http", "ADDR:PORT", true, "Where clients come"))?
+    replica_wanted(alloc)?
         .arg(readers_argument(alloc))?
         .arg(option(
             alloc,

@@ -3,17 +3,13 @@ use Rattle.std.specs.Prelude.{◌≡◌, ℕ, true, List, [], Option}
 use Rattle.std.specs.declared.net.socket_addr.SocketAddr.{SocketAddr}
 use Rattle.wf_actor.specs.declared.process.Process.{Process}
 use Rattle.wf_digest.specs.Digest.{AreDigestsOf}
-use Rattle.wf_voter.specs.Answer.{AreAnswered}
+use Rattle.wf_voter.specs.Answer.{AreAnswered, AreEarlier}
 use Rattle.wf_voter.specs.Continuation.{HasLearnt, IsHeardKept, besides_asks}
 use Rattle.wf_loop.specs.declared.hub.Hub.{Hub}
-use Rattle.wf_voter.specs.Reach.{IsReachOf}
 use Rattle.wf_mesh.specs.Alarms.{IsDue}
 use Rattle.wf_membership.specs.declared.gate.Gate.TheVariants as gates
 use Rattle.wf_membership.specs.declared.membership.Membership.{Membership}
-use Rattle.wf_node.specs.Node.{Node}
-use Rattle.wf_peer.specs.Progress.{reach_of}
 use Rattle.wf_peer.specs.declared.heard.Heard.{Heard}
-use Rattle.wf_peer.specs.declared.progress.Progress.{Progress}
 use Rattle.wf_sockets.specs.declared.connection.Connection.{Ghosts as Connection}
 use Rattle.wf_tape.specs.declared.tape.Tape.{Ghosts as Tape}
 use Rattle.wf_visitors.specs.Visitors.{responses_of}
@@ -79,17 +75,11 @@ pub record OnlyLearns {T N C L : Type 0} {tapes : Tape T} {connections : Connect
 abbrev pub IsOver : {T N C L : Type 0} {tapes : Tape T} {connections : Connection C} → Hub T N C L tapes connections → Type 0
 IsOver hub = hub.parts.mesh.is_over ≡ true
 
--- Each client that was answered was sent the response of a process that had lived, as it was just
--- before, to what had come of the request.
-abbrev pub HasAnswered : {T N C L : Type 0} (tapes : Tape T) {connections : Connection C} → Hub T N C L tapes connections → Type 0
-HasAnswered tapes hub = ∥ AreAnswered tapes hub.clients.before.items (responses_of hub.clients.visitors) hub.clients.after.items ∥₁
-
--- What the node says of itself when it greets: this start of its folder, and how far it is now.
-pub record IsGreetedWith {T : Type 0} (start : Progress) (node : Node T) (said : Progress) : Type 0 where
-  pub mark : said.mark ≡ start.mark
-  pub starts : said.starts ≡ start.starts
-  pub life : said.life ≡ start.life
-  pub reach : IsReachOf node (reach_of said)
+-- Each client that was answered was sent the response, to what had come of its request, of a
+-- process that had lived: of this one, as it was just before.
+pub record HasAnswered {T N C L : Type 0} (tapes : Tape T) {connections : Connection C} (hub : Hub T N C L tapes connections) : Type 0 where
+  pub each : ∥ AreAnswered tapes hub.clients.before.items (responses_of hub.clients.visitors) hub.clients.after.items ∥₁
+  pub earlier : ∥ AreEarlier tapes hub.clients.before.items hub.voter.process ∥₁
 
 -- The node greets by this start of its folder, and with digests that begin anew.
 pub record GreetsAsNow {T N C L : Type 0} {tapes : Tape T} {connections : Connection C} (count : ℕ) (hub : Hub T N C L tapes connections) : Type 0 where

@@ -2,15 +2,12 @@
 ghost use Rattle.std.specs.Prelude.{◌≡◌};
 ghost use Rattle.wf_voter.specs.Continuation.{Continues, ContinuesIn};
 
-use crate::heard::save;
-use crate::order::obey;
-use crate::peer_calls::{ask_all, call_all, connect, greet_again};
-use crate::peer_reads::accept;
 use std::alloc::Global;
 use std::net::Net;
 use std::time::Clock;
 use wf_actor::Process;
 use wf_mesh::{Desk, Mesh, Pace};
+use wf_peering::{accept, ask_all, call_all, connect, greet_again, obey, save};
 use wf_sockets::Network;
 use wf_tape::Tape;
 use wf_visitors::Context;

@@ -1,3 +1,5 @@
+ghost use Rattle.wf_voter.specs.Answer.{AreEarlier};
+
 use std::net::SocketAddr;
 use wf_mesh::{HubParts, Pace};
 use wf_operator::Behind;
@@ -7,7 +9,7 @@ use wf_voter::{Clients, Voter};
 
 /// A node, the connections to and from its peers, its clients, and who only reads, over a network.
 /// A clause sees its process, and logs that only proofs read: each client that was answered, with
-/// the process before and after it.
+/// the process before and after it: this one, as it was earlier.
 #[derive(Drop)]
 pub struct Hub<T: Tape, N: Network = SystemNetwork> {
     pub(crate) parts: HubParts<N>,
@@ -18,4 +20,5 @@ pub struct Hub<T: Tape, N: Network = SystemNetwork> {
     pub(crate) http: Option<SocketAddr>,
     pub(crate) time: u64,
     pub(crate) is_busy: bool,
+    ghost earlier: { ∥ AreEarlier T.Tape clients.before.items voter.process ∥₁ },
 }

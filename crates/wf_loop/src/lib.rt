@@ -2,36 +2,30 @@
 //! blocks on one.
 //!
 //! - [`Hub`] has the node and its clients (`wf_voter`), and the parts of `wf_mesh`: the connections
-//!   to and from its peers, and its readers and operators, who only read, over any network
-//!   (`wf_sockets`). [`Hub::turn`] is one turn: it is handed the time and the tokens of the sockets
-//!   that may be ready, does what there is to do, a bounded part of it, and waits for nothing;
-//!   [`Hub::patience`] says for how long the next one may be waited for. Over the system's network
-//!   [`Hub::go_on`] waits and takes a turn. A message for the peers is written before anything else
-//!   is done. Digests of the history are made once nothing came for a moment, or where one is
-//!   needed.
+//!   to and from its peers (`wf_peering`), and its readers and operators, who only read, over any
+//!   network (`wf_sockets`). [`Hub::turn`] is one turn: it is handed the time and the tokens of the
+//!   sockets that may be ready, does what there is to do, a bounded part of it, and waits for
+//!   nothing; [`Hub::patience`] says for how long the next one may be waited for. Over the system's
+//!   network [`Hub::go_on`] waits and takes a turn. A message for the peers is written before
+//!   anything else is done. Digests of the history are made once nothing came for a moment, or
+//!   where one is needed.
 //! - [`NodePlan`] says which node it is, and where the others are. A folder that joins in the place
 //!   of a lost one ([`Joiner`]) learns what is published, and does nothing else.
 //! - [`Log`] writes each [`NodeEvent`] as a line on standard error.
 //!
 //! **Promises.** After each turn the node has lived by its acts, the process has gone on in its
 //! run, and each response that a client was sent is the one that `wf_voter` says (its
-//! `specs/Lived.antt`, `specs/Continuation.antt`, `specs/Answer.antt`). What was given to the node
-//! from a peer came on a connection from that peer (`wf_wire`). Readers and operators get the node
-//! to be read only. What a node goes by of replacements, and whether its folder joins, is what its
-//! plan says, from its first turn to its last one (`membership_of`, `specs/Hub.antt`): by that it
-//! greets and lets peers in. What it is told is written, and the hub is over.
+//! `specs/Lived.antt`, `specs/Continuation.antt`, `specs/Answer.antt`). Readers and operators get
+//! the node to be read only. What a node goes by of replacements, and whether its folder joins, is
+//! what its plan says, from its first turn to its last one (`membership_of`, `specs/Hub.antt`).
+//! What it is told is written, and the hub is over.
 //!
 //! **Doesn't.** Which sockets are ready and what a clock shows has no model, and no clause relies
-//! on it. That and how connections are made anew is tested with the built program.
+//! on it. That is tested with the built program.
 #![tactic(auto)]
 
 mod clock;
-mod greeting;
-mod heard;
 mod hub;
-mod order;
-mod peer_calls;
-mod peer_reads;
 mod service;
 mod turn;
 

@@ -15,7 +15,6 @@ ghost use Rattle.wf_voter.specs.Lived.{HasLived};
 
 use crate::clock::turn_by_clock;
 use crate::hub::Hub;
-use crate::order::keep_reach;
 use crate::turn::{answer_operators, has_more, serve_all};
 use std::alloc::Global;
 use std::net::{Net, SocketAddr};
@@ -26,6 +25,7 @@ use wf_membership::Gate;
 use wf_mesh::{HubParts, HubStart, LoopFault, NodeEvent, NodePlan, Pace, TICK_MILLIS, bind};
 use wf_operator::Behind;
 use wf_peer::PeerProgress;
+use wf_peering::keep_reach;
 use wf_sockets::{Network, NetworkError, SystemNetwork};
 use wf_store::FileName;
 use wf_tape::Tape;
@@ -121,6 +121,7 @@ fn hub_with<T: Tape, N: Network>(
     http: Option<SocketAddr>,
     time: u64,
 ) -> Hub<T, N>
+    requires { clients.before.items ≡ [] }
     ensures voter { result.voter ≡ voter }
     ensures time { time_of result ≡ time }
 {
@@ -182,7 +183,7 @@ impl<T: Tape + Drop> Hub<T> {
         // and sent only what it returned.
         ensures lived { HasLived T.Tape (process_of self.new) }
         // Each response that any client was sent is the one to exactly what had come of its
-        // request, by a process that had lived.
+        // request, by this process as it then was.
         ensures answered { HasAnswered T.Tape self.new }
         // It goes on in the run that it was in, as the node that it was.
         ensures on { StaysInRun T.Tape (process_of self.old) (process_of self.new) }
@@ -286,7 +287,8 @@ impl<T: Tape + Drop, N: Network + Drop> Hub<T, N> {
         &self.voter.process
     }
 
-    /// The life of the node and what clients were answered, always. The call does nothing.
+    /// The life of the node and what clients were answered, by it as it was then, always. The call
+    /// does nothing.
     pub fn always_lived(&self)
         ensures lived { HasLived T.Tape (process_of self.now) }
         ensures answered { HasAnswered T.Tape self.now }
@@ -305,8 +307,9 @@ impl<T: Tape + Drop, N: Network + Drop> Hub<T, N> {
     }
 
     /// Opens the node again on the tape of its folder, once it has failed: the node that it was, of
-    /// as many. Its run ends, and another begins, which counts as a start of the folder. Err: why
-    /// not; nothing has changed but that it is tried again later, and the log has the cause.
+    /// as many. Its run ends, and another begins, which counts as a start of the folder. Err:
+    /// `Runs` if it hasn't failed; else why not, and nothing has changed but that it is tried again
+    /// later, and the log has the cause.
     #[tactic(auto, using(wf_voter::proofs::Continuation::keeps_same))]
     pub fn reopen<R: Clock + Eprint + AllocGlobal, F: NodeFolder<T>>(
         &mut self,
@@ -331,9 +334,11 @@ impl<T: Tape + Drop, N: Network + Drop> Hub<T, N> {
         ensures membership { membership_of self.new ≡ membership_of self.old }
         ensures same { OnErr result (process_of self.new ≡ process_of self.old) }
         // The run that begins follows the one that has ended.
-        ensures earlier { (process_of self.old).actor.node.halted ≡ true →
-            KeepsEarlier T.Tape (process_of self.old) (process_of self.new) }
+        ensures earlier { KeepsEarlier T.Tape (process_of self.old) (process_of self.new) }
     {
+        if !self.voter.process.is_halted() {
+            return Err(NotReopened::Runs);
+        }
         match self.voter.next_run(rt.alloc(), folder) {
             Ok(next) => {
                 self.begin_run(next);
@@ -357,8 +362,7 @@ impl<T: Tape + Drop, N: Network + Drop> Hub<T, N> {
     fn begin_run(&mut self, next: NextRun<T>)
         requires ended { next.process.ended.items ≡
             (process_of self.old).ended.items ++ ((process_of self.old).actor, 0) ∷ [] }
-        requires follows { (process_of self.old).actor.node.halted ≡ true →
-            IsNextRun T.Tape (process_of self.old).actor next.process.actor }
+        requires follows { IsNextRun T.Tape (process_of self.old).actor next.process.actor }
         requires digests { AreDigestsOf [] next.digests }
         requires given { next.process.actor.given.items ≡ [] }
         ensures process { process_of self.new ≡ next.process }
@@ -368,8 +372,7 @@ impl<T: Tape + Drop, N: Network + Drop> Hub<T, N> {
         ensures suspended { IsSuspended self.old → IsSuspended self.new }
         ensures joins { IsJoiner self.old → IsJoiner self.new }
         ensures membership { membership_of self.new ≡ membership_of self.old }
-        ensures earlier { (process_of self.old).actor.node.halted ≡ true →
-            KeepsEarlier T.Tape (process_of self.old) (process_of self.new) }
+        ensures earlier { KeepsEarlier T.Tape (process_of self.old) (process_of self.new) }
     {
         let NextRun {
             process,
@@ -423,7 +426,7 @@ impl<T: Tape + Drop, N: Network + Drop> Hub<T, N> {
         // and sent only what it returned.
         ensures lived { HasLived T.Tape (process_of self.new) }
         // Each response that any client was sent is the one to exactly what had come of its
-        // request, by a process that had lived.
+        // request, by this process as it then was.
         ensures answered { HasAnswered T.Tape self.new }
         // It goes on in the run that it was in, as the node that it was.
         ensures on { StaysInRun T.Tape (process_of self.old) (process_of self.new) }

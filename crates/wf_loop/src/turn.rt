@@ -1,15 +1,14 @@
 //! What a turn does once it has waited.
 ghost use Rattle.std.specs.Prelude.{◌≡◌, true};
+ghost use Rattle.wf_voter.specs.Answer.{StayEarlier};
 ghost use Rattle.wf_voter.specs.Continuation.{Continues, ContinuesIn};
 
-use crate::greeting::state_of;
-use crate::peer_calls::{call, send_all};
-use crate::peer_reads::{accept, read_inbound};
 use std::net::Net;
 use std::rt::Files;
 use std::time::Clock;
 use wf_mesh::{Desk, Mesh, NodeView, Socket};
 use wf_operator::Behind;
+use wf_peering::{accept, call, read_inbound, send_all, state_of};
 use wf_sockets::Network;
 use wf_tape::Tape;
 use wf_visitors::{Context, micros};
@@ -42,6 +41,8 @@ pub(crate) fn serve_all<
         clients.new.before.items ≡ clients.old.before.items }
     ensures joins { voter.old.membership.joins ≡ true →
         clients.new.before.items ≡ clients.old.before.items }
+    ensures earlier { StayEarlier T.Tape clients.old.before.items clients.new.before.items
+        voter.old.process voter.new.process }
 {
     act_on_all(context, voter, folder, mesh, desk, clients, tokens);
     handle_all_own(context, voter, mesh);
@@ -186,6 +187,8 @@ fn serve_clients<R: Clock + Eprint + AllocGlobal, T: Tape + Drop, N: Network>(
         clients.new.before.items ≡ clients.old.before.items }
     ensures joins { voter.old.membership.joins ≡ true →
         clients.new.before.items ≡ clients.old.before.items }
+    ensures earlier { StayEarlier T.Tape clients.old.before.items clients.new.before.items
+        voter.old.process voter.new.process }
 {
     for _ in 0..MOST_SERVED {
         if !serve_next(context, voter, mesh, clients) {
@@ -208,6 +211,8 @@ fn serve_next<R: Clock + Eprint + AllocGlobal, T: Tape + Drop, N: Network>(
         clients.new.before.items ≡ clients.old.before.items }
     ensures joins { voter.old.membership.joins ≡ true →
         clients.new.before.items ≡ clients.old.before.items }
+    ensures earlier { StayEarlier T.Tape clients.old.before.items clients.new.before.items
+        voter.old.process voter.new.process }
 {
     let Some(index) = clients.answer_next(context, voter) else {
         return false;

@@ -20,6 +20,7 @@ use wf_operator::{
 use wf_peer::{PeerRejection, hindrance_of};
 use wf_proposer::ProposalState;
 use wf_rejoin::Asked;
+use wf_store::file_length;
 use wf_visitors::Counts;
 
 /// What a node tells its operator.
@@ -119,7 +120,7 @@ impl<'a, R: Files> Operated for NodeFacts<'a, R> {
         self.pictures.push_to(text, self.unkept)?;
         self.rejected.push_to(text)?;
         push_steps(text, self.steps)?;
-        push_tape_bytes(text, self.rt, self.tape)
+        push_tape_bytes(text, file_length(self.rt, self.tape))
     }
 
     fn push_replacements(&self, text: &mut String) -> Result<bool, AllocError> {

@@ -1,15 +1,2 @@
-mod Clearing
-mod Faults
-mod Found
-mod Joined
-mod Kept
 mod Learned
-mod Making
-mod Opening
-mod Own
-mod Reached
-mod ReplacementFiles
 mod Served
-mod Started
-mod Starting
-mod Stays

@@ -1,5 +1,5 @@
 -- From a node that is ready to one that was served.
-use Rattle.std.proofs.Common.{◌≡◌, ◌∙◌, ℕ, Bool, false, true, List, [], ◌∷◌, ap, append-nil, inl, inr, refl, sym, subst}
+use Rattle.std.proofs.Common.{◌≡◌, ◌∙◌, ℕ, Bool, false, true, List, [], ◌∷◌, ap, inl, inr, refl, sym, subst}
 use Rattle.std.proofs.lemmas.Bool.{false≢true}
 use Rattle.std.specs.Prelude.{◌↔◌, IsSome, IsTrue, Option, Some, None, Result, Ok, Err}
 use Rattle.wf_actor.specs.declared.actor.Actor.{Actor}
@@ -8,6 +8,7 @@ use Rattle.wf_actor.specs.declared.process.Process.{Process}
 use Rattle.wf_codec.specs.Message.{view}
 use Rattle.wf_codec.specs.declared.message.Message.{Message}
 use Rattle.wf_line.specs.declared.node_line.NodeLine.{NodeLine}
+use Rattle.wf_voter.proofs.Earlier.{its_own}
 use Rattle.wf_voter.specs.Continuation.{AreHeardFrom, AreRunsHeardFrom, IsEarlier, KeepsEarlier}
 use Rattle.wf_loop.specs.Hub.{HasAnswered, IsHeardFirst, IsJoiner, IsOver, IsReopeningDue, kept_of, membership_of, process_of}
 use Rattle.wf_voter.specs.Lived.{HasLived}
@@ -18,15 +19,15 @@ use Rattle.wf_mesh.specs.declared.plan.LoopFault.{LoopFault}
 use Rattle.wf_mesh.specs.declared.plan.NodePlan.{NodePlan}
 use Rattle.wf_node_command.proofs.Learned.{learner_at_first}
 use Rattle.wf_node_command.specs.Done.{HasLivedOn, IsNodeDone, IsNodeServed}
-use Rattle.wf_node_command.specs.Fault.{IsFromSystem}
-use Rattle.wf_node_command.specs.Folder.{IsHeardIn, StaysFrom, heard_in}
+use Rattle.wf_node_folder.specs.Fault.{IsFromSystem}
+use Rattle.wf_node_folder.specs.Folder.{IsHeardIn, StaysFrom, heard_in}
 use Rattle.wf_node_command.specs.Learned.{IsLearner}
-use Rattle.wf_node_command.specs.Ready.{IsJustStarted, IsNodeReady}
+use Rattle.wf_node_folder.specs.Ready.{IsJustStarted, IsNodeReady}
 use Rattle.wf_node_command.specs.Running.{IsRunning}
-use Rattle.wf_node_command.specs.Start.{IsNodeCause, IsNodeFault, IsUnserved}
-use Rattle.wf_node_command.specs.declared.fault.CommandFault.{CommandFault}
-use Rattle.wf_node_command.specs.declared.fault.CommandFault.TheVariants as faults
-use Rattle.wf_node_command.specs.declared.ready.ReadyNode.{ReadyNode}
+use Rattle.wf_node_folder.specs.Start.{IsNodeCause, IsNodeFault, IsUnserved}
+use Rattle.wf_node_folder.specs.declared.fault.CommandFault.{CommandFault}
+use Rattle.wf_node_folder.specs.declared.fault.CommandFault.TheVariants as faults
+use Rattle.wf_node_folder.specs.declared.ready.ReadyNode.{ReadyNode}
 use Rattle.wf_peer.specs.Sender.{heard_of}
 use Rattle.wf_peer.specs.Told.{IsHeardOf, IsHeardText, IsHeardLeft, TellsNoMoreOf}
 use Rattle.wf_peer.specs.declared.heard.Heard.{Heard as HeardOfNode}
@@ -67,13 +68,6 @@ module _ {T : Type 0} (tapes : Tape T) where
       → KeepsEarlier tapes (process_of hub) after
   kept_due hub after due decides is keeps = keeps (decides.0 is).0
 
-  its_own : (process : Process T tapes) → IsEarlier tapes process process
-  its_own process = record {
-    since = [];
-    ended = sym (append-nil process.ended.items);
-    runs = record { number = refl; read_from = refl; began = refl; given = ([], append-nil _); emitted = ([], append-nil _) };
-  }
-
   -- the hub's process, at whatever end, is a later moment of the one that it began with
   pub lived_on : {N C L : Type 0} {connections : Connection C} (begun hub : Hub T N C L tapes connections) (plan : NodePlan) (calls : List Call) → HasLived tapes (process_of hub) → HasAnswered tapes hub
       → KeepsEarlier tapes (process_of begun) (process_of hub) → IsHeardFirst (heard_in calls) hub → membership_of hub ≡ membership_by plan → (IsSome plan.joining → IsLearner tapes hub)
@@ -84,8 +78,9 @@ module _ {T : Type 0} (tapes : Tape T) where
     befores = hub.clients.before.items;
     clients = responses_of hub.clients.visitors;
     afters = hub.clients.after.items;
-    answered = answered;
-    earlier = keeps (process_of begun) (its_own (process_of begun));
+    answered = answered.each;
+    answering = answered.earlier;
+    earlier = keeps (process_of begun) (its_own tapes (process_of begun));
     heard = heard;
     went_by = goes_by;
     learned = λ joins. (learns joins).1;

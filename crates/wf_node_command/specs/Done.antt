@@ -6,22 +6,22 @@ use Rattle.wf_folder.specs.declared.node_file.NodeFile.{NodeFile}
 use Rattle.wf_line.specs.declared.node_line.NodeCommand.{NodeCommand}
 use Rattle.wf_line.specs.declared.node_line.NodeCommand.TheVariants as commands
 use Rattle.wf_line.specs.declared.node_line.NodeLine.{NodeLine}
-use Rattle.wf_voter.specs.Answer.{AreAnswered}
+use Rattle.wf_voter.specs.Answer.{AreAnswered, AreEarlier}
 use Rattle.wf_voter.specs.Continuation.{IsEarlier, IsHeardKept}
 use Rattle.wf_voter.specs.Lived.{HasLived}
 use Rattle.wf_voter.specs.declared.voter.Voter.{Voter}
 use Rattle.wf_mesh.specs.Membership.{membership_by}
 use Rattle.wf_mesh.specs.declared.plan.NodePlan.{NodePlan}
 use Rattle.wf_node.specs.Node.{stored_of}
-use Rattle.wf_node_command.specs.Cleared.{IsClearDone}
-use Rattle.wf_node_command.specs.Fault.{IsFromSystem, fault_status}
-use Rattle.wf_node_command.specs.Folder.{StandsForRead, StaysFrom, heard_in, tape_in}
-use Rattle.wf_node_command.specs.Held.{IsRaisedTo}
+use Rattle.wf_node_folder.specs.Cleared.{IsClearDone}
+use Rattle.wf_node_folder.specs.Fault.{IsFromSystem, fault_status}
+use Rattle.wf_node_folder.specs.Folder.{StandsForRead, StaysFrom, heard_in, tape_in}
+use Rattle.wf_node_folder.specs.Held.{IsRaisedTo}
 use Rattle.wf_node_command.specs.Learned.{HasOnlyLearned}
-use Rattle.wf_node_command.specs.Made.{IsInitDone}
-use Rattle.wf_node_command.specs.Ready.{IsNodePlanned}
-use Rattle.wf_node_command.specs.Start.{IsNodeFault, IsStartOn, IsProcessStarted}
-use Rattle.wf_node_command.specs.declared.fault.CommandFault.{CommandFault}
+use Rattle.wf_node_folder.specs.Made.{IsInitDone}
+use Rattle.wf_node_folder.specs.Ready.{IsNodePlanned}
+use Rattle.wf_node_folder.specs.Start.{IsNodeFault, IsStartOn, IsProcessStarted}
+use Rattle.wf_node_folder.specs.declared.fault.CommandFault.{CommandFault}
 use Rattle.wf_peer.specs.declared.heard.Heard.{Heard as HeardOfNode}
 use Rattle.wf_store.specs.Call.{Call, locked}
 use Rattle.wf_tape.specs.declared.tape.Tape.{Ghosts as Tape}
@@ -30,8 +30,8 @@ use Rattle.wf_tape.specs.declared.tape.Tape.{Ghosts as Tape}
 
 module _ {T : Type 0} (tapes : Tape T) where
   -- The process has gone on in a hub, whose voter it is of at a later moment, and has lived; each
-  -- client was sent the response to exactly what had come of its request, by a process that had
-  -- lived so, as it was before; and what any message of a peer that it was given tells of the
+  -- client was sent the response to exactly what had come of its request, by this process, as it
+  -- was before, which had lived so; and what any message of a peer that it was given tells of the
   -- peer's round and promise is in the file `heard`. To its end it went by what its plan says of
   -- replacements, and if its folder joins, it has only learned.
   pub record HasLivedOn (started : Process T tapes) (plan : NodePlan) (calls : List Call) : Type 0 where
@@ -41,6 +41,7 @@ module _ {T : Type 0} (tapes : Tape T) where
     pub clients : List (Client × ℕ)
     pub afters : List (Voter T tapes × ℕ)
     pub answered : ∥ AreAnswered tapes befores clients afters ∥₁
+    pub answering : ∥ AreEarlier tapes befores voter.process ∥₁
     pub earlier : IsEarlier tapes started voter.process
     pub heard : IsHeardKept (heard_in calls) voter
     pub went_by : voter.membership ≡ membership_by plan

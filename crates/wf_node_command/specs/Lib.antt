@@ -1,15 +1,3 @@
-pub mod Cleared
 pub mod Done
-pub mod Fault
-pub mod Folder
-pub mod FolderTheorems
-pub mod From
-pub mod Held
-pub mod Joined
 pub mod Learned
-pub mod Made
-pub mod Ready
-pub mod ReplacementFiles
 pub mod Running
-pub mod Start
-pub mod Texts

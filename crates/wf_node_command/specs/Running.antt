@@ -4,8 +4,8 @@ use Rattle.wf_actor.specs.declared.process.Process.{Process}
 use Rattle.wf_line.specs.declared.node_line.NodeLine.{NodeLine}
 use Rattle.wf_mesh.specs.Membership.{membership_by}
 use Rattle.wf_membership.specs.declared.membership.Membership.{Membership}
-use Rattle.wf_node_command.specs.Ready.{IsNodeReady}
-use Rattle.wf_node_command.specs.declared.ready.ReadyNode.{ReadyNode}
+use Rattle.wf_node_folder.specs.Ready.{IsNodeReady}
+use Rattle.wf_node_folder.specs.declared.ready.ReadyNode.{ReadyNode}
 use Rattle.wf_peer.specs.declared.heard.Heard.{Heard as HeardOfNode}
 use Rattle.wf_store.specs.Call.{Call, locked}
 use Rattle.wf_tape.specs.declared.tape.Tape.{Ghosts as Tape}

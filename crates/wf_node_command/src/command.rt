@@ -2,15 +2,13 @@
 ghost use Rattle.wf_line.specs.NodeLine.{IsNodeCommandInRange};
 ghost use Rattle.wf_node_command.specs.Done.{IsCommandDone};
 
-use crate::clear::clear;
-use crate::fault::CommandFault;
-use crate::init::init;
 use crate::node::node;
 use std::fs::File;
 use std::net::Net;
 use std::rt::Files;
 use std::time::Clock;
 use wf_line::NodeCommand;
+use wf_node_folder::{CommandFault, clear_folder, init_folder};
 use wf_store::Store;
 
 /// Runs a command on its folder, which is handed back: `init` makes the folder of a node, `node`
@@ -30,12 +28,12 @@ pub fn run<R: Files<File = File> + Clock + Eprint + Net + AllocGlobal, S: Store>
     let mut store = store;
     match command {
         NodeCommand::Init(line) => {
-            let made = init(rt, &mut store, line);
+            let made = init_folder(rt, &mut store, line);
             (made, store)
         }
         NodeCommand::Node(line) => node(rt, store, line, turns),
         NodeCommand::Clear(_) => {
-            let cleared = clear(rt.alloc(), &mut store);
+            let cleared = clear_folder(rt.alloc(), &mut store);
             (cleared, store)
         }
     }

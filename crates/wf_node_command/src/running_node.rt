@@ -6,17 +6,13 @@ ghost use Rattle.wf_voter.specs.Continuation.{KeepsEarlier};
 ghost use Rattle.wf_loop.specs.Hub.{HasAnswered, IsHeardFirst, IsOver, kept_of, membership_of, process_of, taken_in_by};
 ghost use Rattle.wf_voter.specs.Lived.{HasLived};
 ghost use Rattle.wf_mesh.specs.Membership.{membership_by};
-ghost use Rattle.wf_node_command.specs.Fault.{IsFromSystem};
-ghost use Rattle.wf_node_command.specs.Folder.{StaysFrom, calls_in, heard_in};
+ghost use Rattle.wf_node_folder.specs.Fault.{IsFromSystem};
+ghost use Rattle.wf_node_folder.specs.Folder.{StaysFrom, calls_in, heard_in};
 ghost use Rattle.wf_node_command.specs.Learned.{IsLearner};
-ghost use Rattle.wf_node_command.specs.Ready.{IsJustStarted};
+ghost use Rattle.wf_node_folder.specs.Ready.{IsJustStarted};
 ghost use Rattle.wf_node_command.specs.Running.{IsRunning};
-ghost use Rattle.wf_node_command.specs.Start.{IsNodeFault};
+ghost use Rattle.wf_node_folder.specs.Start.{IsNodeFault};
 
-use crate::fault::CommandFault;
-use crate::held::HeldFolder;
-use crate::node::start;
-use crate::ready::ReadyNode;
 use std::alloc::Global;
 use std::fs::File;
 use std::net::{Net, SocketAddr};
@@ -25,6 +21,7 @@ use std::time::Clock;
 use wf_folder::NodeFile;
 use wf_line::NodeLine;
 use wf_loop::{Hub, Log, NodeEvent, Process};
+use wf_node_folder::{CommandFault, HeldFolder, ReadyNode, start_node};
 use wf_sockets::{Network, SystemNetwork};
 use wf_store::Store;
 use wf_tape::Tape;
@@ -66,7 +63,7 @@ impl<S: Store, N: Network + Drop> RunningNode<S, N> {
             IsNodeFault line.now (S.calls store) (S.calls failed.1) failed.0) }
     {
         let mut store = store;
-        match start(rt, &mut store, line) {
+        match start_node(rt, &mut store, line) {
             Ok(ready) => RunningNode::on(rt, network, store, line, ready, time),
             Err(fault) => Err((fault, store)),
         }
@@ -174,8 +171,8 @@ impl<S: Store, N: Network + Drop> RunningNode<S, N> {
         // Whatever came, the node has lived by its acts, was given only what receivers returned,
         // and sent only what it returned.
         ensures lived { HasLived S.Tape.Tape (process_of self.new.hub) }
-        // Each client was sent the response to exactly what had come of its request, by a process
-        // that had lived so.
+        // Each client was sent the response to exactly what had come of its request, by this
+        // process as it then was.
         ensures answered { HasAnswered S.Tape.Tape self.new.hub }
         // It goes on in its run, or its run has ended and another began.
         ensures earlier { KeepsEarlier S.Tape.Tape (process_of self.old.hub)

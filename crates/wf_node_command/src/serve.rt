@@ -7,12 +7,10 @@ ghost use Rattle.wf_voter.specs.Lived.{HasLived};
 ghost use Rattle.wf_mesh.specs.Membership.{membership_by};
 ghost use Rattle.wf_mesh.specs.declared.plan.NodePlan.{NodePlan as NodePlanValue};
 ghost use Rattle.wf_node_command.specs.Done.{HasLivedOn, IsNodeServed};
-ghost use Rattle.wf_node_command.specs.Folder.{StaysFrom, calls_in, heard_in};
+ghost use Rattle.wf_node_folder.specs.Folder.{StaysFrom, calls_in, heard_in};
 ghost use Rattle.wf_node_command.specs.Learned.{IsLearner};
-ghost use Rattle.wf_node_command.specs.Ready.{IsJustStarted};
+ghost use Rattle.wf_node_folder.specs.Ready.{IsJustStarted};
 
-use crate::fault::CommandFault;
-use crate::ready::ReadyNode;
 use crate::running_node::{RunningNode, log_begun};
 use std::fs::File;
 use std::net::Net;
@@ -20,6 +18,7 @@ use std::rt::Files;
 use std::time::Clock;
 use wf_line::NodeLine;
 use wf_loop::{Hub, Log};
+use wf_node_folder::{CommandFault, ReadyNode};
 use wf_store::Store;
 
 /// Serves a node that is ready for this many turns, or until its process is over, over the network
@@ -86,8 +85,8 @@ fn go_on<R: Files<File = File> + Clock + Eprint + Net + AllocGlobal, S: Store>(
     // Whatever came in however many turns, the node has lived by its acts, was given only what
     // receivers returned, and sent only what it returned.
     ensures lived { HasLived S.Tape.Tape (process_of node.new.hub) }
-    // Each client was sent the response to exactly what had come of its request, by a process that
-    // had lived so.
+    // Each client was sent the response to exactly what had come of its request, by this process as
+    // it then was.
     ensures answered { HasAnswered S.Tape.Tape node.new.hub }
     // It goes on in its run, or its run has ended and others began.
     ensures earlier { KeepsEarlier S.Tape.Tape (process_of node.old.hub)

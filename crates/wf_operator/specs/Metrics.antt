@@ -1,6 +1,6 @@
 -- A metric in Prometheus' text form: a line of what it tells, a line of its type, and its samples,
 -- each with a name and a number. Each definition is a text, and after it what is appended.
-use Rattle.std.specs.Prelude.{ℕ, List, ◌++◌, ◌-◌, ◌/◌, ◌%◌, [], codes, decimal, false}
+use Rattle.std.specs.Prelude.{ℕ, List, ◌++◌, ◌-◌, ◌/◌, ◌%◌, [], Option, Some, None, codes, decimal, false}
 use Rattle.std.specs.Fmt.{padded_integral, format_spec}
 use Rattle.wf_operator.specs.declared.metrics.MetricType.{MetricType}
 use Rattle.wf_operator.specs.declared.metrics.MetricType.TheVariants.{Gauge, Counter}
@@ -43,3 +43,8 @@ with_open text clients readers =
     with_gauge (with_gauge text
     (codes "wfarm_open_clients") (codes "Connections of clients that are open") clients)
     (codes "wfarm_open_readers") (codes "Connections of readers that are open") readers
+
+-- how long the tape is, if that is known
+abbrev pub with_tape_bytes : List ℕ → Option ℕ → List ℕ
+with_tape_bytes text (Some length) = with_gauge text (codes "wfarm_tape_bytes") (codes "Length of the tape, in bytes") length
+with_tape_bytes text None = text

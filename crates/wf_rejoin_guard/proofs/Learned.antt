@@ -24,7 +24,7 @@ use Rattle.wf_node.specs.Node.{Node, stored_of, volatile_of}
 use Rattle.wf_node.specs.Step.{stored_next}
 use Rattle.wf_tape.specs.declared.tape.Tape.{Ghosts as Tape}
 use Rattle.wf_rejoin_guard.specs.Learned.{LearnsBy, ActsLearn, EndLearns, RunsLearn, HoldsLearned, LearnedAreCopies}
-use Rattle.wf_rejoin_guard.proofs.Lessons.{IsLearned, nothing_learned, chosen_learned, asked_learned}
+use Rattle.wf_rejoin_guard.proofs.Lessons.{IsLearned, nothing_learned, chosen_learned, proposed_learned, retried_learned, asked_learned}
 use Rattle.wf_rejoin_guard.proofs.Lists.{in_map}
 
 -- ---- an empty tape
@@ -66,13 +66,21 @@ module _ (sent : List Message) where
     given_stored : (m : model.Message Definition) (s : ℕ) (d : Definition) → m ≡ Chosen s d → IsIn m said → IsLearned said (stored_by m)
     given_stored m s d same is_in = subst (λ x. IsLearned said (stored_by x)) (sym same) (chosen_stored s d (subst (λ x. IsIn x said) same is_in))
 
+    proposed_stored : (d : Definition) → IsLearned said (stored_next node (table.Propose d))
+    unfolding table.transition
+    proposed_stored d = proposed_learned said (stored_of node) (volatile_of node) learned node.id d
+
+    retried_stored : IsLearned said (stored_next node table.Retry)
+    unfolding table.transition
+    retried_stored = retried_learned said (stored_of node) (volatile_of node) learned node.id
+
     asked_stored : IsLearned said (stored_next node table.CatchUp)
     unfolding table.transition
     asked_stored = asked_learned said (stored_of node) (volatile_of node) learned
 
     next_learned : (input : Input) → LearnsBy sent input → IsLearned said (stored_next node (view input))
-    next_learned (action.Propose d) learns = absurd learns
-    next_learned action.Retry learns = absurd learns
+    next_learned (action.Propose d) learns = proposed_stored d
+    next_learned action.Retry learns = retried_stored
     next_learned action.CatchUp learns = asked_stored
     next_learned (action.Deliver m) learns = given_stored (message.view m) learns.1.sequence learns.1.definition learns.1.is (in_map message.view m sent learns.0)
 

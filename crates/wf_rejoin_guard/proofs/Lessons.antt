@@ -2,10 +2,10 @@
 use Rattle.std.proofs.Common.{◌≡◌, ℕ, ◌+◌, ◌==◌, nat_lt, Bool, true, false, List, length, Option, Some, None, refl, sym, subst, ◌∙◌, inl, inr, eqb-true}
 use Rattle.wf_ballot.specs.Sequence.{last_sequence}
 use Rattle.wf_model.specs.Chosen.{IsIn}
-use Rattle.wf_model.specs.DurableState.{DurableState, Published, nothing_stored, published, next_sequence, definition_at, put, with_record}
+use Rattle.wf_model.specs.DurableState.{DurableState, Tried, Published, nothing_stored, published, next_sequence, definition_at, put, with_record}
 use Rattle.wf_model.specs.Message.{Message, Chosen, Vote}
-use Rattle.wf_model.specs.Table.{store, quiet, only_sends, on_catch_up, on_chosen}
-use Rattle.wf_model.specs.VolatileState.{VolatileState}
+use Rattle.wf_model.specs.Table.{store, stores, quiet, only_sends, begin_at, ask_votes, lead, propose_by, round_known, running_transition, on_propose, on_retry, on_catch_up, on_chosen}
+use Rattle.wf_model.specs.VolatileState.{Proposing, Idle, Running, Won, Overtaken, Leadership, VolatileState, leading_at}
 use Rattle.wf_safety.specs.Replacement.{IsCopy}
 use Rattle.wf_rejoin_guard.proofs.Lists.{last_or_at, none_at}
 
@@ -44,6 +44,35 @@ module _ {V : Type 0} (sent : List (Message V)) where
   }
 
   module _ (stored : DurableState V) (volatile : VolatileState V) (learned : IsLearned stored) where
+    -- a round is stored at most
+    tried_learned : (round : ℕ) → IsLearned (with_record stored (Tried round))
+    unfolding with_record
+    tried_learned round = record { copy = record { no_votes = learned.copy.no_votes; no_promise = learned.copy.no_promise }; said = learned.said }
+
+    begun_learned : (me : ℕ) (own : V) (round : ℕ) → IsLearned (store stored (begin_at me stored own round).entry)
+    unfolding begin_at store stores
+    begun_learned me own round = tried_learned round
+
+    proposed_by : (me : ℕ) (leadership : Option (Leadership V)) (own : V) → IsLearned (store stored (propose_by me stored leadership own).entry)
+    unfolding propose_by lead ask_votes only_sends store
+    proposed_by me None own = begun_learned me own (stored.tried + 1)
+    proposed_by me (Some leadership) own = learned
+
+    pub proposed_learned : (me : ℕ) (own : V) → IsLearned (store stored (on_propose me stored volatile own).entry)
+    unfolding on_propose
+    proposed_learned me own = proposed_by me (leading_at volatile.leadership (next_sequence stored)) own
+
+    retried_by : (me : ℕ) (proposing : Proposing V) → IsLearned (store stored (running_transition volatile proposing (λ p. begin_at me stored p.own (round_known stored p + 1))).entry)
+    unfolding quiet store
+    retried_by me Idle = learned
+    retried_by me (Running p) = begun_learned me p.own (round_known stored p + 1)
+    retried_by me (Won s) = learned
+    retried_by me (Overtaken s) = learned
+
+    pub retried_learned : (me : ℕ) → IsLearned (store stored (on_retry me stored volatile).entry)
+    unfolding on_retry
+    retried_learned me = retried_by me volatile.proposing
+
     asked_by : (more : Bool) → nat_lt (published stored) last_sequence ≡ more → IsLearned (store stored (on_catch_up stored volatile).entry)
     unfolding on_catch_up store only_sends quiet
     asked_by true e = rw e learned

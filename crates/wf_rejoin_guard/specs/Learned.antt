@@ -30,11 +30,11 @@ pub record SaysChosen (m : Message) : Type 0 where
   pub definition : Definition
   pub is : message.view m ≡ Chosen sequence definition
 
--- The node asks for the next definition, or is given a message that says what is published: one of
--- these, which were returned before.
+-- The node is given no message but one that says what is published: one of these, which were
+-- returned before. A proposal, a retry or a question of its own stores a round at most.
 abbrev pub LearnsBy : List Message → Input → Type 0
-LearnsBy sent (action.Propose d) = ⊥
-LearnsBy sent action.Retry = ⊥
+LearnsBy sent (action.Propose d) = ⊤
+LearnsBy sent action.Retry = ⊤
 LearnsBy sent action.CatchUp = ⊤
 LearnsBy sent (action.Deliver m) = IsIn m sent × SaysChosen m
 

@@ -9,9 +9,9 @@
 //! sequence with a vote (`wf_loop`).
 //!
 //! **What a folder learns** (`HasLearnedFrom` of `specs/Learned.antt`). It was empty at first. In
-//! its runs, which have ended, its node asked for the next definition, and was given messages that
-//! say what is published, each of which a process had returned by then: nothing else. So no run of
-//! it voted or promised anything, and what it holds is published.
+//! its runs, which have ended, its node was given no messages but those that say what is published,
+//! each of which a process had returned by then; what it does unasked stores a round at most. So no
+//! run of it voted or promised anything, and what it holds is published.
 //!
 //! **Premises** (`HasJoinedByLearning`): since a moment nothing happened to the process that is
 //! replaced; each greeting came from a process that ran at some moment since then, as that node
@@ -30,10 +30,9 @@
 //! ([`joined_timelines_agree`], [`learned_timelines_agree`]).
 //!
 //! **Doesn't.** What a folder that joins returns itself, questions for the next definition, is no
-//! part of a timeline: no process of one is given such a question. By `wf_node_command` a node on
-//! a folder that joins is given nothing but messages that say what is published and returns
-//! nothing but such questions (`HasOnlyLearned`), and the folder ceases to join only where it may
-//! vote by its files (`MayVoteBy`): no theorem ties these clauses to the words here.
+//! part of a timeline: no process of one is given such a question. That the processes of `wfarm
+//! node` on a folder that joins have learned so, and that the folder may vote, is proved in
+//! `wf_histories` (`folders_join_by_learning`).
 #![tactic(auto)]
 
 ghost use Rattle.wf_rejoin_guard.specs.Joined.{GreetingsAnswer, JoinedListsGrow, JoinedMayRejoin, JoinedOneHistory};

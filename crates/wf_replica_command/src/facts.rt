@@ -9,6 +9,7 @@ use wf_operator::{
     Health, Operated, PictureCounts, StartTime, gauge, push_open, push_requests, push_sequences,
     push_tape_bytes,
 };
+use wf_store::file_length;
 use wf_visitors::Counts;
 
 /// What a replica tells its operator.
@@ -71,7 +72,7 @@ impl<'a, R: Files> Operated for ReplicaFacts<'a, R> {
         push_open(text, self.clients as u64, self.readers as u64)?;
         push_requests(text, self.requests)?;
         self.pictures.push_to(text, self.unkept)?;
-        push_tape_bytes(text, self.rt, self.tape)
+        push_tape_bytes(text, file_length(self.rt, self.tape))
     }
 }
 

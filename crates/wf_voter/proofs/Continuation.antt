@@ -122,7 +122,7 @@ module _ {T : Type 0} (tapes : Tape T) where
   later_same before after same = record {
     number = ap (λ (a : Actor T tapes). a.node.id) same;
     read_from = ap (λ (a : Actor T tapes). a.read_from.items) same;
-    began = ap (λ (a : Actor T tapes). a.began.items) same;
+    stood = whole _ _ (ap (λ (a : Actor T tapes). a.stood.items) same);
     given = whole _ _ (ap (λ (a : Actor T tapes). a.given.items) same);
     emitted = whole _ _ (ap (λ (a : Actor T tapes). logged a.emitted.items) same);
   }
@@ -131,7 +131,7 @@ module _ {T : Type 0} (tapes : Tape T) where
   later_twice one two three first second = record {
     number = second.number ∙ first.number;
     read_from = second.read_from ∙ first.read_from;
-    began = second.began ∙ first.began;
+    stood = through _ _ _ first.stood second.stood;
     given = through _ _ _ first.given second.given;
     emitted = through _ _ _ first.emitted second.emitted;
   }
@@ -160,7 +160,7 @@ module _ {T : Type 0} (tapes : Tape T) where
     actor = record {
       number = goes.number;
       read_from = goes.read_from;
-      began = goes.began;
+      stood = grown _ _ _ goes.stood;
       given = given;
       emitted = grown _ outputs _ emitted;
     };
@@ -599,7 +599,7 @@ module _ {T : Type 0} (tapes : Tape T) where
     halted = halted;
     number = opened.number;
     among = opened.among ∙ sym before.among;
-    began = begun.began;
+    stood = begun.stood;
     stored = stored;
   }
 

@@ -1,4 +1,5 @@
 mod Answered
 pub mod Continuation
+pub mod Earlier
 mod Learnt
 mod Reached

@@ -9,6 +9,7 @@ use Rattle.wf_codec.specs.declared.message.Message.{Message}
 use Rattle.wf_edge.specs.RequestEffect.{IsOutcome}
 use Rattle.wf_edge.specs.declared.outcome.Outcome.{Outcome}
 use Rattle.wf_edge.specs.declared.outcome.Outcome.TheVariants as outcome
+use Rattle.wf_voter.specs.Continuation.{IsEarlier}
 use Rattle.wf_voter.specs.Lived.{HasLived}
 use Rattle.wf_voter.specs.declared.voter.Voter.{Voter}
 use Rattle.wf_tape.specs.declared.tape.Tape.{Ghosts as Tape}
@@ -56,3 +57,19 @@ module _ {T : Type 0} (tapes : Tape T) where
   AreAnswered (before ∷ befores) (client ∷ clients) [] = ⊥
   AreAnswered (before ∷ befores) (client ∷ clients) (after ∷ afters) =
       IsProcessResponse before.0.process client.0.incoming.bytes client.0.outgoing.bytes after.0.process × AreAnswered befores clients afters
+
+  -- ---- of one process
+
+  -- each of these is the process at a later moment
+  unfoldable pub AreAllLater : Process T tapes → List (Voter T tapes × ℕ) → Type 0
+  AreAllLater past [] = ⊤
+  AreAllLater past (later ∷ rest) = IsEarlier tapes past later.0.process × AreAllLater past rest
+
+  -- The processes before these answers, in order, were all this one, as it was earlier.
+  unfoldable pub AreEarlier : List (Voter T tapes × ℕ) → Process T tapes → Type 0
+  AreEarlier [] now = ⊤
+  AreEarlier (before ∷ befores) now = IsEarlier tapes before.0.process now × AreAllLater before.0.process befores × AreEarlier befores now
+
+  -- If they were so before, these are so after.
+  abbrev pub StayEarlier : (befores befores' : List (Voter T tapes × ℕ)) (before after : Process T tapes) → Type 0
+  StayEarlier befores befores' before after = ∥ AreEarlier befores before ∥₁ → ∥ AreEarlier befores' after ∥₁

@@ -17,12 +17,12 @@ use Rattle.wf_peer.specs.declared.heard.Heard.{Heard}
 use Rattle.wf_tape.specs.declared.tape.Tape.{Ghosts as Tape}
 use Rattle.wf_wire.specs.Post.{logged}
 
--- One run goes on: the tape from which the node was opened, the node as it was opened, and its
--- number stay; what was given to it, and what it returned, only grow.
+-- One run goes on: the tape from which the node was opened, and its number stay; the values that it
+-- had, what was given to it, and what it returned only grow.
 pub record IsLater {T : Type 0} (tapes : Tape T) (before after : Actor T tapes) : Type 0 where
   pub number : after.node.id ≡ before.node.id
   pub read_from : after.read_from.items ≡ before.read_from.items
-  pub began : after.began.items ≡ before.began.items
+  pub stood : IsFirstPart before.stood.items after.stood.items
   pub given : IsFirstPart before.given.items after.given.items
   pub emitted : IsFirstPart (logged before.emitted.items) (logged after.emitted.items)
 
@@ -138,7 +138,7 @@ pub record IsNextRun {T : Type 0} (tapes : Tape T) (run next : Actor T tapes) : 
   pub halted : run.node.halted ≡ true
   pub number : next.node.id ≡ run.node.id
   pub among : next.node.n ≡ run.node.n
-  pub began : next.began.items ≡ (next.node, 0) ∷ []
+  pub stood : next.stood.items ≡ (next.node, 0) ∷ []
   pub stored : HasStoredAs run.node next.node
 
 -- From that moment of a run on these are all runs of its process, those that have ended and the one

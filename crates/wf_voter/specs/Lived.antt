@@ -10,6 +10,6 @@ use Rattle.wf_wire.specs.Post.{logged}
 -- posts that wait, it returned in that run; and what was given to it from a peer came on a
 -- connection from that peer.
 pub record HasLived {T : Type 0} (tapes : Tape T) (process : Process T tapes) : Type 0 where
-  pub life : ∥ IsLife tapes process.actor.read_from.items process.actor.began.items process.actor.given.items (logged process.actor.emitted.items) process.actor.node ∥₁
+  pub life : ∥ IsLife tapes process.actor.read_from.items process.actor.stood.items process.actor.given.items (logged process.actor.emitted.items) process.actor.node ∥₁
   pub sent : ∥ AreSent (waiting_in process) (posts_in process) (logged process.actor.emitted.items) ∥₁
   pub received : ∥ AreGivenCome process.actor.given.items ∥₁

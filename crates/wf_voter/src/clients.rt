@@ -2,7 +2,7 @@
 
 ghost use Rattle.std.specs.Prelude.{◌≡◌, false, true};
 ghost use Rattle.wf_visitors.specs.Visitors.{responses_of};
-ghost use Rattle.wf_voter.specs.Answer.{AreAnswered};
+ghost use Rattle.wf_voter.specs.Answer.{AreAnswered, StayEarlier};
 ghost use Rattle.wf_voter.specs.Continuation.{Continues};
 
 use crate::voter::Voter;
@@ -102,6 +102,9 @@ impl<T: Tape + Drop, N: Network> Clients<T, N> {
             self.new.before.items ≡ self.old.before.items }
         ensures joins { voter.old.membership.joins ≡ true →
             self.new.before.items ≡ self.old.before.items }
+        // Clients are answered by the process as it then is.
+        ensures earlier { StayEarlier T.Tape self.old.before.items self.new.before.items
+            voter.old.process voter.new.process }
     {
         if !voter.answers() {
             return None;
@@ -124,7 +127,9 @@ impl<T: Tape + Drop, N: Network> Clients<T, N> {
         requires awake { ¬ (voter.old.gate ≡ Gate.Suspended) }
         requires agrees { voter.old.is_outvoted ≡ false }
         requires votes { voter.old.membership.joins ≡ false }
-        ensures { Continues T.Tape voter.old voter.new }
+        ensures on { Continues T.Tape voter.old voter.new }
+        ensures earlier { StayEarlier T.Tape self.old.before.items self.new.before.items
+            voter.old.process voter.new.process }
     {
         let before = self.before.and(&*voter, &0);
         if self.visitors.answer(context, voter, index) {

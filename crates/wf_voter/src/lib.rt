@@ -14,7 +14,7 @@
 //! changes (`specs/Continuation.antt`). A message of a peer is given to it only where it acts, or
 //! is one of those that a node takes in that is outvoted or joins, and once the round and the
 //! promise that it tells are in the file `heard`. Each response that a client was sent is the one
-//! of `wf_edge` to exactly the bytes that had come from it, by a process that had lived
+//! of `wf_edge` to exactly the bytes that had come from it, by this process as it was then
 //! (`specs/Answer.antt`, `specs/Lived.antt`). A run follows one whose tape had failed, as the node
 //! that it was.
 //!

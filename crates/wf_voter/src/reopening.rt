@@ -17,6 +17,9 @@ use wf_visitors::{Level, LogEntry};
 /// Why the tape of a halted node isn't opened again.
 #[derive(Clone, Copy, Debug, Error)]
 pub enum NotReopened {
+    /// The node isn't halted.
+    #[error("it has not failed")]
+    Runs,
     /// The folder, or a file of it, can't be read.
     #[error("{0}")]
     Folder(FolderError),
@@ -49,7 +52,8 @@ impl NotReopened {
             NotReopened::OtherFarm | NotReopened::Uncounted(_) | NotReopened::NoFurtherStart => {
                 Some(FileName::Farm)
             }
-            NotReopened::NoTape | NotReopened::Tape(_) | NotReopened::Memory => Some(tape),
+            NotReopened::Runs | NotReopened::NoTape | NotReopened::Tape(_) | NotReopened::Memory =>
+                Some(tape),
         }
     }
 }

@@ -2,7 +2,7 @@ use Rattle.std.specs.Prelude.{◌≡◌}
 use Rattle.wf_voter.specs.Continuation.{KeepsEarlier}
 use Rattle.wf_loop.specs.Hub.{IsHeardFirst, IsOver, membership_of, process_of}
 use Rattle.wf_node_command.proofs.serve.go_on.Given as goal
-use Rattle.wf_node_command.specs.Folder.{calls_in, heard_in}
+use Rattle.wf_node_folder.specs.Folder.{calls_in, heard_in}
 use Rattle.wf_node_command.specs.Learned.{IsLearner}
 
 abbrev pub invariant-loop : goal.invariant-loop

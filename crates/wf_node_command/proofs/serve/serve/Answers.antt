@@ -1,7 +1,7 @@
 -- What was heard before is in the folder, and the node was served.
 use Rattle.wf_node_command.proofs.Served.{heard_at_start, served_first}
 use Rattle.wf_node_command.proofs.serve.serve.Goals as goal
-use Rattle.wf_node_command.specs.Folder.{calls_in}
+use Rattle.wf_node_folder.specs.Folder.{calls_in}
 
 pub take_turns-requires : goal.take_turns-requires
 take_turns-requires g c = record {

@@ -4,7 +4,7 @@ use Rattle.std.proofs.Common.{◌∙◌, List, subst, sym}
 use Rattle.wf_loop.specs.Hub.{IsHeardFirst}
 use Rattle.wf_node_command.proofs.Served.{lived_on}
 use Rattle.wf_node_command.proofs.serve.take_turns.Goals as goal
-use Rattle.wf_node_command.specs.Folder.{heard_in}
+use Rattle.wf_node_folder.specs.Folder.{heard_in}
 use Rattle.wf_store.specs.Call.{Call}
 
 pub returns-clause-on : goal.returns-clause-on

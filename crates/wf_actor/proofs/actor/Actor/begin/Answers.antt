@@ -4,8 +4,8 @@ use Rattle.wf_actor.proofs.actor.Actor.begin.Goals as goal
 
 pub invariant_of-result : goal.invariant_of-result
 invariant_of-result g c = record {
-  lived = ∣ life_opens g.T.Tape c.args.node c.new-node.result c.args.read_from.items c.new.result.items c.and-began.result.items c.new-given.result.items c.new-emitted.result.items c.requires.opened c.new-node.ensures c.new.ensures
-      c.and-began.ensures c.new-given.ensures c.new-emitted.ensures ∣₁;
+  lived = ∣ life_opens g.T.Tape c.args.node c.new-node.result c.args.read_from.items c.new.result.items c.and-stood.result.items c.new-given.result.items c.new-emitted.result.items c.requires.opened c.new-node.ensures c.new.ensures
+      c.and-stood.ensures c.new-given.ensures c.new-emitted.ensures ∣₁;
   received = ∣ none_given c.new-given.result.items c.new-given.ensures ∣₁;
 }
 

@@ -36,7 +36,7 @@ returns-in-Ok g c =
       emitted = c.in-Ok.ensures.emitted;
       given = c.in-Ok.ensures.given;
       gone = record { queue = refl; posted = c.post.ensures };
-      goes_on = record { read_from = c.in-Ok.ensures.read_from; began = c.in-Ok.ensures.began; ended = refl; number = kept.0; among = refl };
+      goes_on = record { read_from = c.in-Ok.ensures.read_from; stood = c.in-Ok.ensures.stood; ended = refl; number = kept.0; among = refl };
     }
 
 pub invariant_of-self-in-Err-1 : goal.invariant_of-self-in-Err-1
@@ -63,5 +63,5 @@ returns-in-Err g c =
       emitted = c.in-Err.ensures.emitted;
       given = c.in-Err.ensures.given;
       gone = record { queue = refl; posted = refl };
-      goes_on = record { read_from = c.in-Err.ensures.read_from; began = c.in-Err.ensures.began; ended = refl; number = kept.0; among = refl };
+      goes_on = record { read_from = c.in-Err.ensures.read_from; stood = c.in-Err.ensures.stood; ended = refl; number = kept.0; among = refl };
     }

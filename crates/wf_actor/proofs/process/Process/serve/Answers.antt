@@ -37,5 +37,5 @@ returns-clause-served g c =
       emitted = c.serve-served.ensures.emitted;
       given = c.serve-served.ensures.given;
       gone = record { queue = refl; posted = c.post.ensures };
-      goes_on = record { read_from = c.serve-served.ensures.read_from; began = c.serve-served.ensures.began; ended = refl; number = kept.0; among = refl };
+      goes_on = record { read_from = c.serve-served.ensures.read_from; stood = c.serve-served.ensures.stood; ended = refl; number = kept.0; among = refl };
     }

@@ -1,0 +1,50 @@
+-- What may be put in the place of the file `joins`.
+use Rattle.std.proofs.Common.{◌≡◌, ◌∙◌, inl, inr, ℕ, List, [], ◌∷◌, ap, refl}
+use Rattle.std.specs.Prelude.{Option, Some, None, Result, Ok, Err, IfOk}
+use Rattle.wf_folder.specs.declared.node_admission.NodeFound.{NodeFound}
+use Rattle.wf_folder.specs.declared.node_admission.NodeFound.TheVariants as finds
+use Rattle.wf_folder.specs.declared.node_file.NodeFile.{NodeFile}
+use Rattle.wf_node_folder.specs.Folder.{IsFarmFound, IsFoundIn}
+use Rattle.wf_node_folder.specs.Joined.{IsFarmSaid, MayBePutAt, SaysJoining, SaysPublished}
+use Rattle.wf_node_folder.specs.Texts.{is_farm, is_joins, text_in}
+use Rattle.wf_rejoin.specs.JoinStep.{StepCounts, stepped}
+use Rattle.wf_rejoin.specs.Joining.{MayVote}
+use Rattle.wf_rejoin.specs.JoiningText.{IsJoins, joins_text}
+use Rattle.wf_rejoin.specs.declared.join_step.JoinStep.{JoinStep}
+use Rattle.wf_rejoin.specs.declared.joining.Joining.{Joining}
+use Rattle.wf_store.specs.Call.{Call, read}
+use Rattle.wf_store.specs.declared.fault.FolderFault.{FolderFault}
+use Rattle.wf_store.specs.declared.file_name.FileName.TheVariants.{Farm, Joins}
+
+-- ---- what was read
+
+module _ (old new : List Call) where
+  published_by : (file : NodeFile) (bytes : Option (List ℕ)) → new ≡ read Farm bytes ∷ old → IsFoundIn bytes (finds.File file) → SaysPublished file.known.reach.published new
+  published_by file None is found = absurd found
+  published_by file (Some bytes) is found = record { bytes = bytes; text = ap (text_in is_farm) is; file = file; is_file = found; same = refl }
+
+  said_by : (found : NodeFound) → IsFarmFound found old new → IsFarmSaid found new
+  said_by finds.Nothing is = tt
+  said_by (finds.File file) is = published_by file is.bytes is.calls is.is
+  said_by (finds.Bad fault) is = tt
+
+  pub farm_said : (result : Result NodeFound FolderFault) → IfOk result (λ found. IsFarmFound found old new) → IfOk result (λ found. IsFarmSaid found new)
+  farm_said (Ok found) is = said_by found is
+  farm_said (Err fault) is = tt
+
+  -- the file `joins` was read
+  module _ (bytes : Option (List ℕ)) (is : new ≡ read Joins bytes ∷ old) where
+    pub farm_beside : (published : ℕ) → SaysPublished published old → SaysPublished published new
+    farm_beside published says = record { bytes = says.bytes; text = ap (text_in is_farm) is ∙ says.text; file = says.file; is_file = says.is_file; same = says.same }
+
+  pub joining_said : (bytes : List ℕ) (joining : Joining) → new ≡ read Joins (Some bytes) ∷ old → IsJoins joining → bytes ≡ joins_text joining → SaysJoining joining new
+  joining_said bytes joining is joins text = record { joins = joins; text = ap (text_in is_joins) is ∙ ap Some text }
+
+-- ---- what may be written
+
+module _ (calls : List Call) (joining : Joining) (says : SaysJoining joining calls) (text : List ℕ) where
+  pub may_be_emptied : (published : ℕ) → SaysPublished published calls → MayVote joining published → text ≡ [] → MayBePutAt Joins text calls
+  may_be_emptied published farm may empty = inl (empty, record { joining = joining; says = says; published = published; farm = farm; may_vote = may })
+
+  pub may_be_told : (step : JoinStep) (next : Joining) → StepCounts step joining → next ≡ stepped step joining → text ≡ joins_text next → MayBePutAt Joins text calls
+  may_be_told step next counts same is = inr (record { joining = joining; says = says; step = step; counts = counts; is = is ∙ ap joins_text same })

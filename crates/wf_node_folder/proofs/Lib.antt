@@ -1,0 +1,13 @@
+mod Clearing
+mod Faults
+mod Found
+mod Joined
+mod Kept
+mod Making
+mod Opening
+mod Own
+mod Reached
+mod ReplacementFiles
+mod Started
+mod Starting
+mod Stays

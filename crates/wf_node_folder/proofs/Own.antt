@@ -1,0 +1,43 @@
+-- The records of a tape, and what holds of each of them.
+use Rattle.std.proofs.Common.{◌≡◌, ◌∙◌, ◌<◌, ◌≤◌, ◌+◌, ℕ, List, length, map, get_or, below_more, subst, sym, ap, arith, refl}
+use Rattle.std.specs.Prelude.{Some, option_map, slice_get}
+use Rattle.std.proofs.lemmas.Option.{slice_get-map, slice_get_read, slice_get_within}
+use Rattle.std.proofs.lemmas.List.{length-map}
+use Rattle.wf_def.specs.Definition.{Definition}
+use Rattle.wf_journal.proofs.Lists.{whole_reads}
+use Rattle.wf_journal.specs.Records.{AreReadOneWay, AreRecords}
+use Rattle.wf_model.specs.DurableState.{DurableState, Record, fold}
+use Rattle.wf_node.specs.OpenedNode.{IsFoldOf}
+use Rattle.wf_node_folder.specs.From.{AllCanBeOf, CanBeRecordsOf, HasUntried, IsUntriedIn}
+
+module _ {A B : Type 0} (view : A → B) (P : B → Type 0) (xs : List A) where
+  -- of each before an item and of that item: of each before the next one
+  pub up_to_next : (i : ℕ) (item : A) → i < length xs → item ≡ get_or xs i item → P (view item) → ((k : ℕ) (b : B) → k < i → slice_get (map view xs) k ≡ Some b → P b)
+      → (k : ℕ) (b : B) → k < i + 1 → slice_get (map view xs) k ≡ Some b → P b
+  up_to_next i item within is holds before k b below_next at =
+      let here : slice_get xs i ≡ Some item = slice_get_read xs (length xs) i item refl within is in
+      let shown : slice_get (map view xs) i ≡ Some (view item) = slice_get-map view xs i ∙ ap (option_map view) here in
+      below_more (λ j. (x : B) → slice_get (map view xs) j ≡ Some x → P x) i (λ j below x seen. before j x below seen)
+      (λ x seen. let same : Some (view item) ≡ Some x = sym shown ∙ seen in let one : view item ≡ x = cc in subst P one holds)
+      k below_next b at
+
+  -- of each up to their end: of all
+  pub up_to_end : (i : ℕ) → length xs ≤ i → ((k : ℕ) (b : B) → k < i → slice_get (map view xs) k ≡ Some b → P b)
+      → (k : ℕ) (b : B) → slice_get (map view xs) k ≡ Some b → P b
+  up_to_end i all each k b at =
+      let within : k < length (map view xs) = slice_get_within (map view xs) k b at in
+      each k b (omega (arith, within, all, length-map xs view)) at
+
+-- a node opened on these records alone, which can be its own or not
+folds_of : AreReadOneWay → (content : List ℕ) (records : List (Record Definition)) (stored : DurableState Definition) → AreRecords content records → IsFoldOf stored content → fold records ≡ Some stored
+folds_of one_way content records stored are is =
+    let same : records ≡ is.records = one_way content records is.records (whole_reads content records are) (is.rest, is.tape.reads) in
+    ap (λ (rs : List (Record Definition)). fold rs) same ∙ is.folds
+
+module _ (one_way : AreReadOneWay) (content : List ℕ) (records : List (Record Definition)) (stored : DurableState Definition) (are : AreRecords content records) (is : IsFoldOf stored content)
+    (id tried : ℕ) (same : tried ≡ stored.tried) where
+  pub can_be : AllCanBeOf id tried records → CanBeRecordsOf id records
+  can_be all = record { stored = stored; folds = folds_of one_way content records stored are is; own = subst (λ (t : ℕ). AllCanBeOf id t records) same all }
+
+  pub cannot_be : (round : ℕ) → IsUntriedIn id tried round records → HasUntried id records round tried
+  cannot_be round untried = record { stored = stored; folds = folds_of one_way content records stored are is; is_tried = sym same; is_in = untried }

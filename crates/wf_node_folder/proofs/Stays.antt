@@ -1,0 +1,125 @@
+-- The calls of a folder while its node is served.
+use Rattle.std.proofs.Common.{◌≡◌, ◌⊎◌, ◌∙◌, inl, inr, ℕ, Bool, true, false, List, [], ◌∷◌, ap, refl, subst}
+use Rattle.std.proofs.Math.Logic.{∥∥₁_map}
+use Rattle.std.specs.Prelude.{if◌then◌else◌, Option, Some, Result, Ok, Err, IfOk, OnErr, OnOk, Vec}
+use Rattle.std.specs.declared.alloc.Global.{Global}
+use Rattle.wf_folder.specs.declared.node_admission.NodeFound.{NodeFound}
+use Rattle.wf_folder.specs.declared.presence.Presence.{Presence}
+use Rattle.wf_node_folder.specs.Folder.{IsFarmFound, MayHaveGot, StaysFrom, heard_in, heard_of_file, is_of_tape, is_own, is_tape, needs_own, of_tapes, tape_changes}
+use Rattle.wf_node_folder.specs.Joined.{IsJoinedSoundly, MayBePutAt}
+use Rattle.wf_store.specs.Call.{Call, bytes_of, changes, compared, failed, failed_at, is_change, opened_existing, read, replaced, seen}
+use Rattle.wf_store.specs.declared.fault.FolderFault.{FolderFault}
+use Rattle.wf_store.specs.declared.file_name.FileName.{FileName}
+use Rattle.wf_store.specs.declared.file_name.FileName.TheVariants.{Farm, Joins}
+
+-- nothing was called yet
+pub stays_still : (calls : List Call) → ∥ StaysFrom calls calls ∥₁
+stays_still calls = ∣ record { after = record { later = []; is = refl }; tapes = refl; guarded = tt; joined = tt } ∣₁
+
+-- ---- one call more
+
+-- one that is of no tape leaves the changes of tapes
+beside_tapes : (call : Call) (earlier : List Call) → is_of_tape call.deed ≡ false → of_tapes (call ∷ earlier) ≡ of_tapes earlier
+beside_tapes call earlier other = ap (λ (b : Bool). if b then call ∷ of_tapes earlier else of_tapes earlier) other
+
+beside_changes : (call : Call) (earlier : List Call) (b : Bool) → is_of_tape call.deed ≡ false → of_tapes (if b then call ∷ earlier else earlier) ≡ of_tapes earlier
+beside_changes call earlier true other = beside_tapes call earlier other
+beside_changes call earlier false other = refl
+
+module _ (begun old new : List Call) (stays : ∥ StaysFrom begun old ∥₁) where
+  stays_one : (call : Call) → new ≡ call ∷ old → is_of_tape call.deed ≡ false → (needs_own call.deed ≡ true → is_own old ≡ true) → IsJoinedSoundly call.deed call.bytes old
+      → ∥ StaysFrom begun new ∥₁
+  stays_one call is other own sound = ∥∥₁_map stays (λ was. record {
+    after = record { later = call ∷ was.after.later; is = is ∙ ap (λ (calls : List Call). call ∷ calls) was.after.is };
+    tapes = ap tape_changes is ∙ beside_changes call (changes old) (is_change call.deed) other ∙ was.tapes;
+    guarded = (λ needs. subst (λ (calls : List Call). is_own calls ≡ true) was.after.is (own needs), was.guarded);
+    joined = (subst (IsJoinedSoundly call.deed call.bytes) was.after.is sound, was.joined);
+  })
+
+  -- whether the folder is the one that is locked was looked at
+  pub stays_comparing : (result : Result Bool FolderFault) → IfOk result (λ same. new ≡ compared same ∷ old) → OnErr result (new ≡ failed ∷ old) → ∥ StaysFrom begun new ∥₁
+  stays_comparing (Ok same) done wrong = stays_one (compared same) done refl (λ needs. absurd cc) tt
+  stays_comparing (Err fault) done wrong = stays_one failed wrong refl (λ needs. absurd cc) tt
+
+  -- the file `farm` was read
+  pub stays_finding : (result : Result NodeFound FolderFault) → IfOk result (λ found. IsFarmFound found old new) → OnErr result (new ≡ failed ∷ old) → ∥ StaysFrom begun new ∥₁
+  stays_finding (Ok found) done wrong = stays_one (read Farm done.bytes) done.calls refl (λ needs. absurd cc) tt
+  stays_finding (Err fault) done wrong = stays_one failed wrong refl (λ needs. absurd cc) tt
+
+  -- the file `joins` was read
+  pub stays_reading : (result : Result (Option (Vec ℕ Global)) FolderFault) → IfOk result (λ found. new ≡ read Joins (bytes_of found) ∷ old) → OnErr result (new ≡ failed ∷ old) → ∥ StaysFrom begun new ∥₁
+  stays_reading (Ok found) done wrong = stays_one (read Joins (bytes_of found)) done refl (λ needs. absurd cc) tt
+  stays_reading (Err fault) done wrong = stays_one failed wrong refl (λ needs. absurd cc) tt
+
+  -- whether a file is there was looked at
+  pub stays_seeing : (file : FileName) (result : Result Presence FolderFault) → IfOk result (λ there. new ≡ seen file there ∷ old) → OnErr result (new ≡ failed ∷ old) → ∥ StaysFrom begun new ∥₁
+  stays_seeing file (Ok there) done wrong = stays_one (seen file there) done refl (λ needs. absurd cc) tt
+  stays_seeing file (Err fault) done wrong = stays_one failed wrong refl (λ needs. absurd cc) tt
+
+  -- a file was opened, which was there
+  pub stays_opening : {A : Type 0} (file : FileName) (result : Result A FolderFault) → OnOk result (new ≡ opened_existing file ∷ old) → OnErr result (new ≡ failed ∷ old) → is_own old ≡ true
+      → ∥ StaysFrom begun new ∥₁
+  stays_opening file (Ok tape) done wrong own = stays_one (opened_existing file) done refl (λ needs. own) tt
+  stays_opening file (Err fault) done wrong own = stays_one failed wrong refl (λ needs. absurd cc) tt
+
+  -- a file that is no tape was replaced
+  pub stays_replacing : (file : FileName) (bytes : List ℕ) (result : Result (Unit {0}) FolderFault) → OnOk result (new ≡ replaced file bytes ∷ old) → OnErr result (new ≡ failed_at file ∷ old)
+      → is_tape file ≡ false → is_own old ≡ true → MayBePutAt file bytes old → ∥ StaysFrom begun new ∥₁
+  stays_replacing file bytes (Ok done) written wrong other own may = stays_one (replaced file bytes) written other (λ needs. own) (record { text = bytes; may = may; is = refl })
+  stays_replacing file bytes (Err fault) written wrong other own may = stays_one (failed_at file) wrong other (λ needs. own) (record { text = bytes; may = may })
+
+-- ---- what is known of the folder then
+
+module _ (old new : List Call) where
+  pub own_compared : new ≡ compared true ∷ old → is_own new ≡ true
+  own_compared is = ap is_own is
+
+  -- calls that leave the file `heard` as it is
+  pub heard_comparing : (result : Result Bool FolderFault) → IfOk result (λ same. new ≡ compared same ∷ old) → OnErr result (new ≡ failed ∷ old) → heard_in new ≡ heard_in old
+  heard_comparing (Ok same) done wrong = ap heard_in done
+  heard_comparing (Err fault) done wrong = ap heard_in wrong
+
+  pub heard_finding : (result : Result NodeFound FolderFault) → IfOk result (λ found. IsFarmFound found old new) → OnErr result (new ≡ failed ∷ old) → heard_in new ≡ heard_in old
+  heard_finding (Ok found) done wrong = ap heard_in done.calls
+  heard_finding (Err fault) done wrong = ap heard_in wrong
+
+  pub heard_reading : (result : Result (Option (Vec ℕ Global)) FolderFault) → IfOk result (λ found. new ≡ read Joins (bytes_of found) ∷ old) → OnErr result (new ≡ failed ∷ old) → heard_in new ≡ heard_in old
+  heard_reading (Ok found) done wrong = ap heard_in done
+  heard_reading (Err fault) done wrong = ap heard_in wrong
+
+  pub heard_seeing : (file : FileName) (result : Result Presence FolderFault) → IfOk result (λ there. new ≡ seen file there ∷ old) → OnErr result (new ≡ failed ∷ old) → heard_in new ≡ heard_in old
+  heard_seeing file (Ok there) done wrong = ap heard_in done
+  heard_seeing file (Err fault) done wrong = ap heard_in wrong
+
+  pub heard_opening : {A : Type 0} (file : FileName) (result : Result A FolderFault) → OnOk result (new ≡ opened_existing file ∷ old) → OnErr result (new ≡ failed ∷ old) → heard_in new ≡ heard_in old
+  heard_opening file (Ok tape) done wrong = ap heard_in done
+  heard_opening file (Err fault) done wrong = ap heard_in wrong
+
+  -- it was replaced, if it is this file; then the folder was looked at
+  pub heard_put : {E : Type 0} (file : FileName) (bytes : List ℕ) (mid : List Call) (result : Result (Unit {0}) E) → mid ≡ replaced file bytes ∷ old → heard_in new ≡ heard_in mid
+      → MayHaveGot result (heard_in old) (heard_of_file file (Some bytes) (heard_in old)) (heard_in new)
+  heard_put file bytes mid (Ok done) put same = same ∙ ap heard_in put
+  heard_put file bytes mid (Err error) put same = inr (same ∙ ap heard_in put)
+
+  -- it was, and isn't this file
+  pub nothing_heard : {E : Type 0} (result : Result (Unit {0}) E) (got : Option (List ℕ)) → got ≡ heard_in old → MayHaveGot result (heard_in old) got (heard_in new) → heard_in new ≡ heard_in old
+  nothing_heard (Ok done) got same is = is ∙ same
+  nothing_heard (Err error) got same is = elim is [
+    | inl was ↦ was
+    | inr put ↦ put ∙ same
+  ]
+
+  pub heard_not_put : (file : FileName) (put : Option (List ℕ)) → new ≡ failed_at file ∷ old → (heard_in new ≡ heard_in old) ⊎ (heard_in new ≡ put)
+  heard_not_put file put wrong = inl (ap heard_in wrong)
+
+  pub own_found : (result : Result NodeFound FolderFault) → IfOk result (λ found. IsFarmFound found old new) → OnErr result (new ≡ failed ∷ old) → is_own new ≡ is_own old
+  own_found (Ok found) done wrong = ap is_own done.calls
+  own_found (Err fault) done wrong = ap is_own wrong
+
+  pub own_read : (result : Result (Option (Vec ℕ Global)) FolderFault) → IfOk result (λ found. new ≡ read Joins (bytes_of found) ∷ old) → OnErr result (new ≡ failed ∷ old) → is_own new ≡ is_own old
+  own_read (Ok found) done wrong = ap is_own done
+  own_read (Err fault) done wrong = ap is_own wrong
+
+  pub own_seen : (file : FileName) (result : Result Presence FolderFault) → IfOk result (λ there. new ≡ seen file there ∷ old) → OnErr result (new ≡ failed ∷ old) → is_own new ≡ is_own old
+  own_seen file (Ok there) done wrong = ap is_own done
+  own_seen file (Err fault) done wrong = ap is_own wrong

@@ -1,0 +1,90 @@
+-- What is written to the file `joins` of a folder that joins.
+use Rattle.std.specs.Prelude.{◌≡◌, ◌⊎◌, ℕ, ⊤, List, [], ◌∷◌, ◌++◌, Option, Some}
+use Rattle.wf_folder.specs.NodeFile.{IsTextOf}
+use Rattle.wf_folder.specs.declared.node_admission.NodeFound.{NodeFound}
+use Rattle.wf_folder.specs.declared.node_admission.NodeFound.TheVariants as finds
+use Rattle.wf_folder.specs.declared.node_file.NodeFile.{NodeFile}
+use Rattle.wf_node_folder.specs.Texts.{is_farm, is_joins, text_in}
+use Rattle.wf_rejoin.specs.JoinStep.{StepCounts, stepped}
+use Rattle.wf_rejoin.specs.Joining.{MayVote}
+use Rattle.wf_rejoin.specs.JoiningText.{IsJoins, joins_text}
+use Rattle.wf_rejoin.specs.declared.join_step.JoinStep.{JoinStep}
+use Rattle.wf_rejoin.specs.declared.joining.Joining.{Joining}
+use Rattle.wf_store.specs.Call.{Call}
+use Rattle.wf_store.specs.declared.deed.Deed.{Deed}
+use Rattle.wf_store.specs.declared.deed.Deed.TheVariants as deeds
+use Rattle.wf_store.specs.declared.file_name.FileName.{FileName}
+use Rattle.wf_store.specs.declared.file_name.FileName.TheVariants as names
+
+-- ---- what its files say
+
+-- by what was last read of the file `farm`, or written to it, its node has published so much
+pub record SaysPublished (published : ℕ) (calls : List Call) : Type 0 where
+  pub bytes : List ℕ
+  pub text : text_in is_farm calls ≡ Some bytes
+  pub file : NodeFile
+  pub is_file : IsTextOf bytes file
+  pub same : file.known.reach.published ≡ published
+
+-- so it says where it was found
+abbrev pub IsFarmSaid : NodeFound → List Call → Type 0
+IsFarmSaid (finds.File file) calls = SaysPublished file.known.reach.published calls
+IsFarmSaid found calls = ⊤
+
+-- by what was last read of the file `joins`, or written to it, the folder joins, and was told this
+pub record SaysJoining (joining : Joining) (calls : List Call) : Type 0 where
+  pub joins : IsJoins joining
+  pub text : text_in is_joins calls ≡ Some (joins_text joining)
+
+-- By both the folder may vote: at least half of all nodes have agreed to it and answered, and it
+-- has published a window more than the highest of their answers.
+pub record MayVoteBy (calls : List Call) : Type 0 where
+  pub joining : Joining
+  pub says : SaysJoining joining calls
+  pub published : ℕ
+  pub farm : SaysPublished published calls
+  pub may_vote : MayVote joining published
+
+-- The text is that of the folder once it was told one thing more, which counts.
+pub record IsToldNext (text : List ℕ) (calls : List Call) : Type 0 where
+  pub joining : Joining
+  pub says : SaysJoining joining calls
+  pub step : JoinStep
+  pub counts : StepCounts step joining
+  pub is : text ≡ joins_text (stepped step joining)
+
+-- ---- what is put in its place
+
+-- After these calls this text may be: an empty one, by which the folder doesn't join any more, only
+-- where it may vote by its files.
+abbrev pub MayBePut : List ℕ → List Call → Type 0
+MayBePut text calls = ((text ≡ []) × MayVoteBy calls) ⊎ IsToldNext text calls
+
+-- so it is, if the file is this one
+abbrev pub MayBePutAt : FileName → List ℕ → List Call → Type 0
+MayBePutAt names.Joins text calls = MayBePut text calls
+MayBePutAt names.Farm text calls = ⊤
+MayBePutAt names.Heard text calls = ⊤
+MayBePutAt names.Replaced text calls = ⊤
+MayBePutAt (names.NodeTape node) text calls = ⊤
+MayBePutAt names.ReplicaTape text calls = ⊤
+
+-- The text that a call put there, or tried to, may be; `bytes` are those that the call shows.
+pub record IsPutSoundly (file : FileName) (bytes : Option (List ℕ)) (calls : List Call) : Type 0 where
+  pub text : List ℕ
+  pub may : MayBePutAt file text calls
+  pub is : bytes ≡ Some text
+
+pub record IsTriedSoundly (file : FileName) (calls : List Call) : Type 0 where
+  pub text : List ℕ
+  pub may : MayBePutAt file text calls
+
+abbrev pub IsJoinedSoundly : Deed → Option (List ℕ) → List Call → Type 0
+IsJoinedSoundly (deeds.Replaces file) bytes calls = IsPutSoundly file bytes calls
+IsJoinedSoundly (deeds.FailsAt file) bytes calls = IsTriedSoundly file calls
+IsJoinedSoundly deed bytes calls = ⊤
+
+-- so does each of the later calls
+abbrev pub AreJoinedSoundly : List Call → List Call → Type 0
+AreJoinedSoundly [] begun = ⊤
+AreJoinedSoundly (call ∷ later) begun = IsJoinedSoundly call.deed call.bytes (later ++ begun) × AreJoinedSoundly later begun

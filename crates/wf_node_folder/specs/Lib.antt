@@ -1,0 +1,12 @@
+pub mod Cleared
+pub mod Fault
+pub mod Folder
+pub mod FolderTheorems
+pub mod From
+pub mod Held
+pub mod Joined
+pub mod Made
+pub mod Ready
+pub mod ReplacementFiles
+pub mod Start
+pub mod Texts

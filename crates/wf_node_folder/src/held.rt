@@ -1,0 +1,267 @@
+//! The folder of a node, as its process has locked it: there a tape that failed is opened again,
+//! and is written how far the node is, and what it heard.
+ghost use Rattle.std.specs.Prelude.{◌≡◌, ◌+◌, IfSome, None, OnOk};
+ghost use Rattle.wf_folder.specs.NodeFile.{IsNodeFile};
+ghost use Rattle.wf_node_folder.specs.Folder.{AreFiles, StaysFrom, calls_in, heard_in, is_own};
+ghost use Rattle.wf_node_folder.specs.FolderTheorems.{are_files_prop};
+
+use crate::running::{RunningStore, not_reopened};
+use std::alloc::Global;
+use std::io::ErrorKind;
+use wf_folder::{NodeFile, NodeFound, Reach, Suspension};
+use wf_membership::FolderError;
+use wf_rejoin::JoinStep;
+use wf_store::{FileName, FolderFault, Store};
+use wf_voter::{NodeFolder, NotReopened};
+
+/// The folder of a node, as its process has locked it, with the file `farm` that the process wrote
+/// last.
+pub struct HeldFolder<S: Store> {
+    alloc: Global,
+    running: RunningStore<S>,
+    // the number of the last start that was counted
+    starts: u32,
+    // the file that was written last
+    file: NodeFile,
+    // what may be there in its place: writing it failed
+    attempted: Option<NodeFile>,
+    ghost sound: { AreFiles file attempted } by { are_files_prop file attempted },
+}
+
+impl<S: Store> HeldFolder<S> {
+    /// The folder that is locked, with the file that was written at this start.
+    pub fn new(alloc: Global, store: S, file: NodeFile) -> Self
+        requires { IsNodeFile file }
+        ensures began { calls_in S.calls result.running.began.items ≡ S.calls store }
+        ensures same { S.calls result.running.store ≡ S.calls store }
+        ensures file { result.file ≡ file }
+        ensures starts { result.starts ≡ file.starts }
+        ensures attempted { result.attempted ≡ None }
+    {
+        HeldFolder {
+            alloc,
+            running: RunningStore::new(store),
+            starts: file.starts,
+            file,
+            attempted: None,
+        }
+    }
+
+    /// The folder, once the node isn't served any more.
+    pub fn close(self) -> S
+        ensures stays { ∥ StaysFrom (calls_in S.calls self.running.began.items)
+            (S.calls result) ∥₁ }
+        ensures same { S.calls result ≡ S.calls self.running.store }
+    {
+        let HeldFolder {
+            alloc: _,
+            running,
+            starts: _,
+            file: _,
+            attempted: _,
+        } = self;
+        running.close()
+    }
+
+    /// Whether the file `farm` is one that this process wrote.
+    fn examine_farm(&mut self) -> Result<(), NotReopened>
+        ensures starts { self.new.starts ≡ self.old.starts }
+        ensures own { is_own (S.calls self.new.running.store) ≡
+            is_own (S.calls self.old.running.store) }
+        ensures began { self.new.running.began.items ≡ self.old.running.began.items }
+        ensures heard { heard_in (S.calls self.new.running.store) ≡
+            heard_in (S.calls self.old.running.store) }
+    {
+        match self.running.find_farm() {
+            Ok(NodeFound::File(found)) if self.is_own(&found) => Ok(()),
+            Ok(_) => Err(NotReopened::OtherFarm),
+            Err(fault) => Err(not_reopened(FolderError::Store(fault))),
+        }
+    }
+
+    /// Whether a file `farm` is one that this process wrote: the last one, or a later one whose
+    /// writing failed.
+    fn is_own(&self, found: &NodeFile) -> bool {
+        if *found == self.file {
+            return true;
+        }
+        match self.attempted {
+            Some(attempted) => *found == attempted,
+            None => false,
+        }
+    }
+
+    /// The file that says most: the one whose writing failed, if there is one.
+    fn latest(&self) -> NodeFile
+        ensures { IsNodeFile result }
+    {
+        match self.attempted {
+            Some(attempted) => attempted,
+            None => self.file,
+        }
+    }
+
+    /// The file of the next start. None: there can be no further one.
+    fn next_start(&self) -> Option<NodeFile>
+        ensures file { IfSome result IsNodeFile }
+        ensures starts { IfSome result (λ file. file.starts ≡ self.now.starts + 1) }
+    {
+        let latest = self.latest();
+        with_starts(&latest, self.starts).next_start()
+    }
+
+    /// Finds out which file is there after a failed writing, so that no more than two can be.
+    fn settle(&mut self) -> Result<(), FolderError>
+        ensures starts { self.new.starts ≡ self.old.starts }
+        ensures own { is_own (S.calls self.new.running.store) ≡
+            is_own (S.calls self.old.running.store) }
+        ensures began { self.new.running.began.items ≡ self.old.running.began.items }
+        ensures heard { heard_in (S.calls self.new.running.store) ≡
+            heard_in (S.calls self.old.running.store) }
+    {
+        if self.attempted.is_none() {
+            return Ok(());
+        }
+        match self.running.find_farm() {
+            Ok(NodeFound::File(found)) if self.is_own(&found) => {
+                self.file = found;
+                self.attempted = None;
+                Ok(())
+            }
+            Ok(_) => Err(unwritten(ErrorKind::InvalidData)),
+            Err(FolderFault::Unread(_, kind)) => Err(unwritten(kind)),
+            Err(fault) => Err(FolderError::Store(fault)),
+        }
+    }
+
+    /// Writes another file `farm`, synced, with the folder: only into the folder that is locked.
+    /// After an error either may be there.
+    fn write(&mut self, next: &NodeFile) -> Result<(), FolderError>
+        requires { IsNodeFile next.now }
+        ensures starts { self.new.starts ≡ self.old.starts }
+        ensures file { OnOk result (self.new.file ≡ next.now) }
+        ensures began { self.new.running.began.items ≡ self.old.running.began.items }
+        ensures heard { heard_in (S.calls self.new.running.store) ≡
+            heard_in (S.calls self.old.running.store) }
+    {
+        if let Err(error) = self.running.examine() {
+            return Err(error);
+        }
+        if let Err(error) = self.settle() {
+            return Err(error);
+        }
+        let Ok(text) = next.text(self.alloc) else {
+            return Err(FolderError::Store(FolderFault::Memory));
+        };
+        self.attempted = Some(*next);
+        match self.running.replace(FileName::Farm, text) {
+            Ok(()) => {
+                self.file = *next;
+                self.attempted = None;
+                Ok(())
+            }
+            Err(error) => Err(error),
+        }
+    }
+}
+
+impl<S: Store> NodeFolder<S::Tape> for HeldFolder<S> {
+    ghost stands = { λ held. record { starts = held.starts; begun = calls_in S.calls held.running.began.items; heard = heard_in (S.calls held.running.store) } };
+
+    fn open(&mut self) -> Result<S::Tape, NotReopened> {
+        if let Err(error) = self.running.examine() {
+            return Err(not_reopened(error));
+        }
+        if let Err(why) = self.examine_farm() {
+            return Err(why);
+        }
+        self.running.open_tape(self.file.node)
+    }
+
+    fn count_start(&mut self) -> Result<u32, NotReopened> {
+        let Some(next) = self.next_start() else {
+            return Err(NotReopened::NoFurtherStart);
+        };
+        match self.write(&next) {
+            Ok(()) => {
+                self.starts = next.starts;
+                Ok(next.starts)
+            }
+            Err(error) => Err(not_counted(error)),
+        }
+    }
+
+    fn keep(&mut self, reach: &Reach, digest: [u8; 32]) -> Result<(), FolderError> {
+        let latest = self.latest();
+        let next = latest.raise(reach, digest);
+        if self.attempted.is_none() && next == self.file {
+            return Ok(());
+        }
+        self.write(&next)
+    }
+
+    fn suspend(&mut self, suspension: Suspension) -> Result<(), FolderError> {
+        let latest = self.latest();
+        let next = latest.suspend(suspension);
+        self.write(&next)
+    }
+
+    fn keep_heard(&mut self, text: Vec<u8>) -> Result<(), FolderError> {
+        if let Err(error) = self.running.examine() {
+            drop(text);
+            return Err(error);
+        }
+        self.running.replace(FileName::Heard, text)
+    }
+
+    #[tactic(auto, using(crate::proofs::Stays::nothing_heard))]
+    fn keep_replaced(&mut self, text: Vec<u8>) -> Result<(), FolderError> {
+        if let Err(error) = self.running.examine() {
+            drop(text);
+            return Err(error);
+        }
+        self.running.replace(FileName::Replaced, text)
+    }
+
+    fn keep_joining(&mut self, step: &JoinStep) -> Result<(), FolderError> {
+        if let Err(error) = self.running.examine() {
+            return Err(error);
+        }
+        self.running.tell_joining(self.alloc, step)
+    }
+
+    fn finish_joining(&mut self) -> Result<(), FolderError> {
+        if let Err(error) = self.running.examine() {
+            return Err(error);
+        }
+        let published = match self.running.find_farm() {
+            Ok(NodeFound::File(found)) if self.is_own(&found) => found.known.reach.published,
+            Ok(_) => return Err(unwritten(ErrorKind::InvalidData)),
+            Err(fault) => return Err(FolderError::Store(fault)),
+        };
+        self.running.finish_joining(self.alloc, published)
+    }
+}
+
+/// A file that counts so many starts.
+#[tactic(auto, using(crate::specs::FolderTheorems::with_starts))]
+fn with_starts(file: &NodeFile, starts: u32) -> NodeFile
+    requires { IsNodeFile file.now }
+    ensures file { IsNodeFile result }
+    ensures starts { result.starts ≡ starts }
+{
+    NodeFile { starts, ..*file }
+}
+
+/// The file `farm` can't be written.
+fn unwritten(kind: ErrorKind) -> FolderError {
+    FolderError::Store(FolderFault::Unwritten(FileName::Farm, kind))
+}
+
+/// Why a start isn't counted, by the error of the folder.
+fn not_counted(error: FolderError) -> NotReopened {
+    match error {
+        FolderError::Store(FolderFault::Unwritten(_, kind)) => NotReopened::Uncounted(kind),
+        error => not_reopened(error),
+    }
+}

@@ -1,0 +1,20 @@
+//! A node whose start is counted.
+
+use wf_actor::Process;
+use wf_folder::NodeFile;
+use wf_mesh::NodePlan;
+use wf_peer::PeerProgress;
+use wf_tape::Tape;
+
+/// A node whose start is counted in its folder, and that is ready to be served.
+#[derive(Drop)]
+pub struct ReadyNode<T: Tape> {
+    /// Which node it is, and where the others are.
+    pub plan: NodePlan,
+    /// Its process, in its first run.
+    pub process: Process<T>,
+    /// What was heard of the peers before, but for folders that others have replaced.
+    pub heard: PeerProgress,
+    /// The file `farm`, as it was written at this start.
+    pub file: NodeFile,
+}

@@ -1,0 +1,234 @@
+//! The folder of a node while it is served.
+ghost use Rattle.std.specs.Prelude.{◌≡◌, ◌∷◌, ℕ, false, true, IfOk, IfSome, OnOk, Some};
+ghost use Rattle.wf_folder.specs.NodeAdmission.{IsSoundFind};
+ghost use Rattle.wf_node_folder.specs.Folder.{MayHaveGot, StaysFrom, calls_in, heard_in, heard_of_file, is_own, is_tape};
+ghost use Rattle.wf_node_folder.specs.Joined.{IsFarmSaid, MayBePutAt, SaysJoining, SaysPublished};
+ghost use Rattle.wf_rejoin.specs.JoiningText.{IsJoins, joins_text};
+ghost use Rattle.wf_store.specs.Call.{bytes_of, read};
+ghost use Rattle.wf_store.specs.declared.file_name.FileName.TheVariants as names;
+
+use crate::folder::find_in;
+use crate::replacement_files::MOST_BYTES;
+use std::alloc::Global;
+use std::io::ErrorKind;
+use wf_ballot::Seq;
+use wf_folder::NodeFound;
+use wf_membership::FolderError;
+use wf_past::Past;
+use wf_rejoin::{JoinStep, Joining};
+use wf_store::{FileName, FolderFault, Store};
+use wf_voter::NotReopened;
+
+/// The folder of a node while it is served. A clause sees the folder as it was when that began,
+/// which only proofs read. The calls that came later made no tape, and put none in the place of
+/// another; and only the folder that is locked is written to.
+pub(crate) struct RunningStore<S: Store> {
+    store: S,
+    pub(crate) began: Past<S, usize>,
+    ghost stays: { ∥ StaysFrom (calls_in S.calls began.items) (S.calls store) ∥₁ },
+}
+
+impl<S: Store> RunningStore<S> {
+    /// The folder as a start left it.
+    #[tactic(auto, using(crate::proofs::Stays::stays_still))]
+    pub(crate) fn new(store: S) -> Self
+        ensures began { calls_in S.calls result.began.items ≡ S.calls store }
+        ensures same { S.calls result.store ≡ S.calls store }
+    {
+        let began = Past::new().and(&store, &0);
+        RunningStore { store, began }
+    }
+
+    /// The folder, once the node isn't served any more.
+    pub(crate) fn close(self) -> S
+        ensures stays { ∥ StaysFrom (calls_in S.calls self.began.items) (S.calls result) ∥₁ }
+        ensures same { S.calls result ≡ S.calls self.store }
+    {
+        let RunningStore { store, began } = self;
+        drop(began);
+        store
+    }
+
+    /// Whether the folder at its path is the one that is locked.
+    #[tactic(auto, using(crate::proofs::Stays::own_compared, crate::proofs::Stays::heard_comparing))]
+    pub(crate) fn examine(&mut self) -> Result<(), FolderError>
+        ensures began { self.new.began.items ≡ self.old.began.items }
+        ensures own { OnOk result (is_own (S.calls self.new.store) ≡ true) }
+        ensures heard { heard_in (S.calls self.new.store) ≡ heard_in (S.calls self.old.store) }
+    {
+        match self.store.is_same() {
+            Ok(true) => Ok(()),
+            Ok(false) => Err(FolderError::Other),
+            Err(fault) => Err(FolderError::Store(fault)),
+        }
+    }
+
+    /// The file `farm`.
+    #[tactic(auto, using(crate::proofs::Stays::own_found, crate::proofs::Stays::heard_finding))]
+    pub(crate) fn find_farm(&mut self) -> Result<NodeFound, FolderFault>
+        ensures began { self.new.began.items ≡ self.old.began.items }
+        ensures own { is_own (S.calls self.new.store) ≡ is_own (S.calls self.old.store) }
+        ensures heard { heard_in (S.calls self.new.store) ≡ heard_in (S.calls self.old.store) }
+        ensures sound { IfOk result IsSoundFind }
+        ensures says { IfOk result (λ found. IsFarmSaid found (S.calls self.new.store)) }
+    {
+        find_in(&mut self.store)
+    }
+
+    /// The bytes of the file `joins`. None: there is no such file.
+    #[tactic(auto, using(crate::proofs::Stays::own_read, crate::proofs::Stays::heard_reading))]
+    fn read_joins(&mut self) -> Result<Option<Vec<u8>>, FolderFault>
+        ensures began { self.new.began.items ≡ self.old.began.items }
+        ensures own { is_own (S.calls self.new.store) ≡ is_own (S.calls self.old.store) }
+        ensures heard { heard_in (S.calls self.new.store) ≡ heard_in (S.calls self.old.store) }
+        ensures read { IfOk result (λ found.
+            S.calls self.new.store ≡ read names.Joins (bytes_of found) ∷ S.calls self.old.store) }
+    {
+        self.store.read(FileName::Joins, MOST_BYTES)
+    }
+
+    /// What the file `joins` says of a folder that joins. None: it doesn't join.
+    #[tactic(auto, using(crate::proofs::Joined::farm_beside, crate::proofs::Joined::joining_said))]
+    fn find_joining(&mut self) -> Result<Option<Joining>, FolderError>
+        ensures began { self.new.began.items ≡ self.old.began.items }
+        ensures own { is_own (S.calls self.new.store) ≡ is_own (S.calls self.old.store) }
+        ensures heard { heard_in (S.calls self.new.store) ≡ heard_in (S.calls self.old.store) }
+        ensures farm { OnOk result ((published : ℕ) →
+            SaysPublished published (S.calls self.old.store) →
+            SaysPublished published (S.calls self.new.store)) }
+        ensures says { IfOk result (λ found. IfSome found (λ joining.
+            SaysJoining joining (S.calls self.new.store))) }
+    {
+        match self.read_joins() {
+            Ok(Some(bytes)) => joining_in(&bytes),
+            Ok(None) => Ok(None),
+            Err(fault) => Err(FolderError::Store(fault)),
+        }
+    }
+
+    /// Puts in the place of the file `joins` what it says once the folder, which joins, was told
+    /// this, in the folder that is locked. What doesn't count after what the file says changes
+    /// nothing. After an error the text from before or this one is there.
+    #[tactic(auto, using(crate::proofs::Joined::may_be_told, crate::proofs::Stays::nothing_heard))]
+    pub(crate) fn tell_joining(&mut self, alloc: Global, step: &JoinStep) -> Result<(), FolderError>
+        requires own { is_own (S.calls self.old.store) ≡ true }
+        ensures began { self.new.began.items ≡ self.old.began.items }
+        ensures heard { heard_in (S.calls self.new.store) ≡ heard_in (S.calls self.old.store) }
+    {
+        let joining = match self.find_joining() {
+            Ok(Some(joining)) => joining,
+            Ok(None) => return Err(bad_joins()),
+            Err(error) => return Err(error),
+        };
+        let Some(next) = joining.after(step) else {
+            return Ok(());
+        };
+        match next.text(alloc) {
+            Ok(text) => self.replace(FileName::Joins, text),
+            Err(_) => Err(FolderError::Store(FolderFault::Memory)),
+        }
+    }
+
+    /// Puts an empty text in the place of the file `joins`, in the folder that is locked, whose
+    /// file `farm` says that its node has published so far. Err: by its files the folder may not
+    /// vote, or a call failed. After an error the text from before or none is there.
+    #[tactic(auto, using(crate::proofs::Stays::nothing_heard))]
+    pub(crate) fn finish_joining(
+        &mut self,
+        alloc: Global,
+        published: Seq,
+    ) -> Result<(), FolderError>
+        requires own { is_own (S.calls self.old.store) ≡ true }
+        requires farm { SaysPublished published (S.calls self.old.store) }
+        ensures began { self.new.began.items ≡ self.old.began.items }
+        ensures heard { heard_in (S.calls self.new.store) ≡ heard_in (S.calls self.old.store) }
+    {
+        let joining = match self.find_joining() {
+            Ok(Some(joining)) => joining,
+            Ok(None) => return Ok(()),
+            Err(error) => return Err(error),
+        };
+        if !joining.may_vote(published) {
+            return Err(bad_joins());
+        }
+        self.replace(FileName::Joins, Vec::new(alloc))
+    }
+
+    /// Whether there is a tape of a node.
+    #[tactic(auto, using(crate::proofs::Stays::own_seen, crate::proofs::Stays::heard_seeing))]
+    fn has_tape(&mut self, node: u8) -> Result<bool, FolderFault>
+        ensures began { self.new.began.items ≡ self.old.began.items }
+        ensures own { is_own (S.calls self.new.store) ≡ is_own (S.calls self.old.store) }
+        ensures heard { heard_in (S.calls self.new.store) ≡ heard_in (S.calls self.old.store) }
+    {
+        match self.store.presence(FileName::NodeTape(node)) {
+            Ok(presence) => Ok(presence.is_there()),
+            Err(fault) => Err(fault),
+        }
+    }
+
+    /// Opens the tape of a node, which has to be there, in the folder that is locked.
+    #[tactic(auto, using(crate::proofs::Stays::stays_opening, crate::proofs::Stays::heard_opening))]
+    pub(crate) fn open_tape(&mut self, node: u8) -> Result<S::Tape, NotReopened>
+        requires { is_own (S.calls self.old.store) ≡ true }
+        ensures began { self.new.began.items ≡ self.old.began.items }
+        ensures heard { heard_in (S.calls self.new.store) ≡ heard_in (S.calls self.old.store) }
+    {
+        match self.has_tape(node) {
+            Ok(true) => {}
+            Ok(false) => return Err(NotReopened::NoTape),
+            Err(fault) => return Err(not_reopened(FolderError::Store(fault))),
+        }
+        match self.store.open_existing(FileName::NodeTape(node)) {
+            Ok(tape) => Ok(tape),
+            Err(fault) => Err(not_reopened(FolderError::Store(fault))),
+        }
+    }
+
+    /// Puts a text in the place of a file that is no tape, in the folder that is locked. Meanwhile
+    /// another folder may have come to the path, which is an error. After an error the text from
+    /// before or this one is there.
+    #[tactic(auto, using(crate::proofs::Stays::stays_replacing, crate::proofs::Stays::heard_put, crate::proofs::Stays::heard_not_put))]
+    pub(crate) fn replace(&mut self, file: FileName, text: Vec<u8>) -> Result<(), FolderError>
+        requires file { is_tape file ≡ false }
+        requires own { is_own (S.calls self.old.store) ≡ true }
+        requires may { MayBePutAt file text.items (S.calls self.old.store) }
+        ensures began { self.new.began.items ≡ self.old.began.items }
+        ensures heard { MayHaveGot result (heard_in (S.calls self.old.store))
+            (heard_of_file file (Some text.items) (heard_in (S.calls self.old.store)))
+            (heard_in (S.calls self.new.store)) }
+    {
+        if let Err(fault) = self.store.replace(file, text) {
+            return Err(FolderError::Store(fault));
+        }
+        self.examine()
+    }
+}
+
+/// What these bytes of a file `joins` say of a folder that joins. None: they are empty.
+fn joining_in(bytes: &[u8]) -> Result<Option<Joining>, FolderError>
+    ensures joins { IfOk result (λ found. IfSome found IsJoins) }
+    ensures text { IfOk result (λ found. IfSome found (λ joining.
+        bytes.now ≡ joins_text joining)) }
+{
+    if bytes.is_empty() {
+        return Ok(None);
+    }
+    match Joining::read(bytes) {
+        Ok(joining) => Ok(Some(joining)),
+        Err(_) => Err(bad_joins()),
+    }
+}
+
+/// The file `joins` says another thing than its process goes by.
+fn bad_joins() -> FolderError {
+    FolderError::Store(FolderFault::Unread(FileName::Joins, ErrorKind::InvalidData))
+}
+
+/// Why a tape isn't opened again, by the error of the folder.
+pub(crate) fn not_reopened(error: FolderError) -> NotReopened {
+    match error {
+        FolderError::Store(FolderFault::Memory) => NotReopened::Memory,
+        error => NotReopened::Folder(error),
+    }
+}

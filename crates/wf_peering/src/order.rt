@@ -1,0 +1,114 @@
+//! What is written to the folder about replacements before the node goes by it.
+ghost use Rattle.std.specs.Prelude.{◌≡◌};
+ghost use Rattle.wf_voter.specs.Continuation.{ContinuesIn};
+
+use std::alloc::Global;
+use std::time::Clock;
+use wf_actor::Process;
+use wf_membership::{FolderError, Gate};
+use wf_mesh::{Mesh, Notes, Order};
+use wf_rejoin::Replacements;
+use wf_sockets::Network;
+use wf_store::FolderFault;
+use wf_tape::Tape;
+use wf_visitors::Context;
+use wf_voter::{NodeFolder, Voter, reach_of};
+
+/// Writes what is to be written about replacements, and goes by it then. What only the next start
+/// goes by ends this one: nothing more is sent or taken in. Where it can't be written, the node
+/// acts no more until it can.
+#[tactic(auto, using(wf_voter::proofs::Continuation::still_in, wf_voter::proofs::Continuation::kept_in, wf_voter::proofs::Continuation::gated_in))]
+pub fn obey<R: Clock + Eprint + AllocGlobal, T: Tape + Drop, F: NodeFolder<T>, N: Network>(
+    context: &Context<'_, '_, R, N>,
+    voter: &mut Voter<T>,
+    folder: &mut F,
+    mesh: &mut Mesh<N>,
+)
+    ensures on { ContinuesIn T.Tape (F.stands folder.old) voter.old
+        (F.stands folder.new) voter.new }
+{
+    let published = voter.process.node().published();
+    mesh.note_due(published, context.time);
+    let Some(order) = mesh.order else {
+        return;
+    };
+    match keep_order(
+        context.alloc(),
+        &voter.process,
+        &mut mesh.notes,
+        folder,
+        &order,
+    ) {
+        Ok(()) => {
+            mesh.take_order(context, &voter.membership, published, &order);
+            if mesh.is_over {
+                voter.set_gate(Gate::Unwritten);
+            }
+        }
+        Err(why) => {
+            mesh.note_unwritten(context.log, context.time, order.file(), why);
+            voter.set_gate(Gate::Unwritten);
+        }
+    }
+}
+
+/// Writes to the folder what is to be written about replacements, synced.
+fn keep_order<T: Tape + Drop, F: NodeFolder<T>>(
+    alloc: Global,
+    process: &Process<T>,
+    notes: &mut Notes,
+    folder: &mut F,
+    order: &Order,
+) -> Result<(), FolderError>
+    ensures stands { F.stands folder.new ≡ F.stands folder.old }
+{
+    match order {
+        Order::Note(latest) => keep_replaced::<T, F>(alloc, folder, latest),
+        Order::Join(step) => folder.keep_joining(step),
+        Order::Joined => keep_joined(process, notes, folder),
+    }
+}
+
+/// Writes what is known of replacements.
+fn keep_replaced<T: Tape, F: NodeFolder<T>>(
+    alloc: Global,
+    folder: &mut F,
+    latest: &Replacements,
+) -> Result<(), FolderError>
+    ensures stands { F.stands folder.new ≡ F.stands folder.old }
+{
+    match latest.text(alloc) {
+        Ok(text) => folder.keep_replaced(text),
+        Err(_) => Err(FolderError::Store(FolderFault::Memory)),
+    }
+}
+
+/// Writes that the folder has joined: last, so that whatever it may vote by is there before.
+fn keep_joined<T: Tape + Drop, F: NodeFolder<T>>(
+    process: &Process<T>,
+    notes: &mut Notes,
+    folder: &mut F,
+) -> Result<(), FolderError>
+    ensures stands { F.stands folder.new ≡ F.stands folder.old }
+{
+    match keep_reach(process, notes, folder) {
+        Ok(()) => folder.finish_joining(),
+        Err(why) => Err(why),
+    }
+}
+
+/// Keeps in the folder how far a node is. Err: the folder's, or that an allocation failed.
+pub fn keep_reach<T: Tape + Drop, F: NodeFolder<T>>(
+    process: &Process<T>,
+    notes: &mut Notes,
+    folder: &mut F,
+) -> Result<(), FolderError>
+    ensures stands { F.stands folder.new ≡ F.stands folder.old }
+{
+    let node = process.node();
+    notes.extend(node.history());
+    match notes.digest_at(node.published().number()) {
+        Some(digest) => folder.keep(&reach_of(node), digest),
+        None => Err(FolderError::Store(FolderFault::Memory)),
+    }
+}
