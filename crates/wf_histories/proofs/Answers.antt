@@ -16,7 +16,7 @@ use Rattle.wf_voter.specs.Continuation.{AreRunsFrom, IsEarlier, IsLater}
 use Rattle.wf_voter.specs.Lived.{HasLived}
 use Rattle.wf_voter.specs.declared.voter.Voter.{Voter}
 use Rattle.wf_histories.specs.Advance.{run_in}
-use Rattle.wf_histories.specs.Answers.{AnswersAreOfNodes, IsWhole}
+use Rattle.wf_histories.specs.Answers.{AnswersAreOfNodes, HasMadeAll}
 use Rattle.wf_histories.specs.Nodes.{NodeProcess, made_by, values_ever, values_on}
 use Rattle.wf_histories.specs.Runs.{LivesOf, first_acts, made_of, traced_by, values_made, values_over}
 use Rattle.wf_histories.specs.Theorems.{IsEver}
@@ -123,7 +123,7 @@ module _ {T : Type 0} (tapes : Tape T) where
       in_left node (values_made (made_by tapes q)) (values_on tapes processes) (subst (λ (r : NodeProcess tapes). IsIn node (values_made (made_by tapes r))) same is)
   its_values p (q ∷ processes) node (inr later) is = in_right node (values_made (made_by tapes q)) (values_on tapes processes) (its_values p processes node later is)
 
-  was_made : (p : NodeProcess tapes) → IsWhole tapes p → (node : Node T) → WasInRuns node p.has.on.voter.process.ended.items p.has.on.voter.process.actor p.lives → IsIn node (values_made (made_by tapes p))
+  was_made : (p : NodeProcess tapes) → HasMadeAll tapes p → (node : Node T) → WasInRuns node p.has.on.voter.process.ended.items p.has.on.voter.process.actor p.lives → IsIn node (values_made (made_by tapes p))
   was_made p whole node was =
       let process = p.has.on.voter.process in
       subst (λ over. IsIn node (values_made (made_of tapes process.ended.items process.actor p.lives over p.made))) (sym whole.over)
