@@ -12,13 +12,13 @@ use Rattle.wf_model.specs.Chosen.{IsIn}
 use Rattle.wf_node.specs.Node.{Node}
 use Rattle.wf_tape.specs.declared.tape.Tape.{Ghosts as Tape}
 use Rattle.wf_voter.specs.Answer.{AreAnswered, AreEarlier}
-use Rattle.wf_voter.specs.Continuation.{AreRunsFrom, IsEarlier, IsLater}
+use Rattle.wf_voter.specs.Continuation.{AreRunsFrom, IsEarlier}
 use Rattle.wf_voter.specs.Lived.{HasLived}
 use Rattle.wf_voter.specs.declared.voter.Voter.{Voter}
 use Rattle.wf_histories.specs.Advance.{run_in}
 use Rattle.wf_histories.specs.Answers.{AnswersAreOfNodes, HasMadeAll}
 use Rattle.wf_histories.specs.Nodes.{NodeProcess, made_by, values_ever, values_on}
-use Rattle.wf_histories.specs.Runs.{LivesOf, first_acts, made_of, traced_by, values_made, values_over}
+use Rattle.wf_histories.specs.Runs.{LivesOf, made_of, values_made, values_over}
 use Rattle.wf_histories.specs.Theorems.{IsEver}
 
 -- ---- what is in a list
