@@ -42,9 +42,9 @@ def feature(points, text=""):
     return f"FEATURE\n{text}POINTS {' '.join(f'{x} {y}' for x, y in points)} END\nEND\n"
 
 
-def fitting(make, cost, base=1_500):
+def fitting(make, cost):
     """As many features, or points, as the canonical text has room for."""
-    return [make(k) for k in range((MOST_CANONICAL - base) // cost)]
+    return [make(k) for k in range((MOST_CANONICAL - 1_500) // cost)]
 
 
 def zigzag(k):
@@ -141,8 +141,7 @@ def costs(program, text):
 def main():
     words = program_parser(__doc__)
     words.add_argument("--only", default="", metavar="WORD", help="maps whose names hold this")
-    words.add_argument("--print-map", metavar="NAME",
-                       help="prints the map whose name holds this, and measures nothing")
+    words.add_argument("--print-map", metavar="NAME", help="prints the map whose name holds this alone")
     given = words.parse_args()
     chosen = [(name, text) for name, text in cases() if given.only in name]
     if given.print_map:

@@ -42,7 +42,7 @@ from farmkit.mapfiles import canonical
 from farmkit.measure import disk_of, load, percentile, rate, timed
 from farmkit.nodes import Nodes
 from farmkit.repository import MAPS
-from farmkit.wanted import seconds_until, until
+from farmkit.wanted import until
 from farmkit.web import connect, read_answer, request
 from tiles import Map, nginx
 
@@ -246,11 +246,11 @@ def measure_idle(options, table):
         alone, beside = [], []
         for _ in range(2 * options.rounds):
             alone += [milliseconds(nodes[0].ask, "/status") for _ in range(200)]
-            idle = [connect(nodes[0].clients) for _ in range(200)]
-            time.sleep(0.2)
-            beside += [milliseconds(nodes[0].ask, "/status") for _ in range(200)]
-            for client in idle:
-                client.close()
+            with contextlib.ExitStack() as idle:
+                for _ in range(200):
+                    idle.enter_context(connect(nodes[0].clients))
+                time.sleep(0.2)
+                beside += [milliseconds(nodes[0].ask, "/status") for _ in range(200)]
             time.sleep(0.2)
     table.note("an answer of /status, alone", tell(alone))
     table.note("with 200 connections that send nothing", tell(beside))
@@ -276,10 +276,8 @@ def measure_missed(options, table):
         nodes[2].kill()
         for sequence in range(1, 1001):
             publish(nodes[:2], form.format(sequence).encode(), sequence)
-        begun = time.monotonic()
         nodes[2].start()
-        seconds_until(lambda: nodes[2].published() == 1000, PATIENCE)
-        took = time.monotonic() - begun
+        took = until(lambda: nodes[2].published() == 1000, PATIENCE)
     table.judge(f"1,000 missed maps of {size:,} bytes, from the node's start", took, 3, " s")
 
 
@@ -287,18 +285,14 @@ PARTS = {"publish": measure_publish, "syncs": measure_syncs, "tiles": measure_ti
          "rest": measure_rest, "missed": measure_missed}
 
 
-def words():
+def main():
     asked = program_parser(__doc__)
     asked.add_argument("--folder", help="where the nodes' folders are made; it has to be on a disk")
     asked.add_argument("--count", type=int, default=200, metavar="N", help="publishes (200)")
     asked.add_argument("--seconds", type=int, default=4, metavar="S", help="of each run of wrk (4)")
     asked.add_argument("--rounds", type=int, default=3, metavar="N", help="turns of what is compared (3)")
     add_cases(asked, PARTS, "PART")
-    return asked.parse_args()
-
-
-def main():
-    options, table = words(), Table()
+    options, table = asked.parse_args(), Table()
     with tempfile.TemporaryDirectory(prefix="nodes-", dir=options.folder) as options.room:
         os.chmod(options.room, 0o755)
         print(f"{load()}; {disk_of(options.room)}")

@@ -30,7 +30,7 @@ from farmkit.measure import rate, tell, timed
 from farmkit.nginx import Nginx, whole
 from farmkit.processes import Farm, free_ports, listens
 from farmkit.repository import MAPS
-from farmkit.wanted import seconds_until
+from farmkit.wanted import until
 from farmkit.web import exchange, loopback
 
 SPARE = 1_000_000
@@ -53,8 +53,8 @@ class Map:
         words = self.text.decode()
         layers = re.findall(r'^\s*LAYER\b.*?\bNAME\s+"?([\w-]+)"?', words, re.M | re.S | re.I)
         self.layers = ",".join(layers)
-        self.extent = [float(it)
-                       for it in re.search(r"\bEXTENT" + r"\s+(-?[\d.]+)" * 4, words, re.I).groups()]
+        found = re.search(r"\bEXTENT" + r"\s+(-?[\d.]+)" * 4, words, re.I)
+        self.extent = [float(it) for it in found.groups()]
 
     def query(self, box, size, background="0xFFFFFF"):
         corners = ",".join(f"{it:.6f}".rstrip("0").rstrip(".") for it in box)
@@ -90,17 +90,11 @@ def measure(port, path, it, rounds):
     return found
 
 
-def wait_until(is_there):
-    """Waits for a server, which has to be there soon."""
-    if seconds_until(is_there, 10) is None:
-        sys.exit("a server did not start")
-
-
 @contextlib.contextmanager
 def mapserver(it, room):
     """MapServer as FastCGI behind lighttpd, one process; gives its port and path."""
-    output = (f'  OUTPUTFORMAT NAME "ppm" DRIVER "GDAL/PNM" MIMETYPE "{PIXMAP}" IMAGEMODE RGB EXTENSION '
-              f'"ppm" ' "END\n")
+    output = (f'OUTPUTFORMAT NAME "ppm" DRIVER "GDAL/PNM" MIMETYPE "{PIXMAP}" IMAGEMODE RGB EXTENSION "ppm" '
+              "END\n")
     text = re.sub(r"^MAP$", "MAP\n" + output, it.text.decode(), count=1, flags=re.M)
     text = re.sub(r'("wms_onlineresource".*)$', r'\1 "wms_getmap_formatlist" "' + PIXMAP + '"', text, count=1,
                   flags=re.M)
@@ -118,9 +112,9 @@ def mapserver(it, room):
     running = [subprocess.Popen(words, env=environment, start_new_session=True, **quiet)]
     try:
         # lighttpd answers 503 for a while where MapServer doesn't listen at its first request.
-        wait_until((room / "socket").exists)
+        until((room / "socket").exists)
         running.append(subprocess.Popen(["lighttpd", "-D", "-f", f"{room}/lighttpd.conf"], **quiet))
-        wait_until(lambda: listens(port))
+        until(lambda: listens(port))
         yield port, "/wms?map=served&"
     finally:
         for process in running:
@@ -172,8 +166,7 @@ def compare(program, it, seconds, alone):
 
 def main():
     words = program_parser(__doc__)
-    words.add_argument("--map", nargs="*", default=sorted(MAPS.glob("*.map")),
-                       help="mapfiles (those of bench/maps)")
+    words.add_argument("--map", nargs="*", default=sorted(MAPS.glob("*.map")), help="those of bench/maps")
     words.add_argument("--seconds", type=int, default=3, help="of each run of wrk (3)")
     words.add_argument("--alone", action="store_true", help="leaves the other servers out")
     given = words.parse_args()

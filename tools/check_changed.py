@@ -5,8 +5,8 @@
 
 In a clean clone of the last commit `rt ci` is run on each crate that differs from BASE and each crate above
 one that does: their proofs, tests, programs and mutants. Of the crates below it takes what passed before on
-this machine, and proves the rest. Uncommitted changes aren't seen. The last line is `rt ci`'s, `N passed, M
-failed`, and the status 0 where nothing failed.
+this machine, and proves the rest. Where the kit's `rt ci` takes no names, it is run on all. Uncommitted
+changes aren't seen. The last line is `rt ci`'s, `N passed, M failed`, and the status 0 where nothing failed.
 """
 
 import pathlib
@@ -15,6 +15,7 @@ import sys
 import tempfile
 
 from farmkit.command import parser
+from farmkit.kit import ci_takes
 from farmkit.repository import TOP, below, changed_files, dependencies, git
 
 # What a verdict on a crate reads: its code, its proofs, its mutants, and what its program is run on.
@@ -45,15 +46,18 @@ def main() -> int:
     words = parser(__doc__)
     words.add_argument("base", metavar="BASE")
     given = words.parse_args()
-    chosen = differing(given.base)
-    print(f"to check: {' '.join(sorted(chosen)) or 'no crate differs'}", flush=True)
+    chosen = sorted(differing(given.base))
+    print(f"to check: {' '.join(chosen) or 'no crate differs'}", flush=True)
     if not chosen:
         print("0 passed, 0 failed")
         return 0
+    if not ci_takes(*chosen):
+        print("this kit's `rt ci` takes no names of crates, so it proves all", flush=True)
+        chosen = []
     with tempfile.TemporaryDirectory(prefix="check-changed-", dir=TOP.parent) as room:
         clone = pathlib.Path(room) / "clone"
         subprocess.run(["git", "clone", "--quiet", TOP, clone], check=True)
-        return subprocess.run(["rt", "ci", *sorted(chosen)], cwd=clone).returncode
+        return subprocess.run(["rt", "ci", *chosen], cwd=clone).returncode
 
 
 if __name__ == "__main__":

@@ -9,7 +9,6 @@ there, is left out, with a line that says so: it is no failure. So nothing here 
 package. The last line counts; the status is 0 where nothing failed.
 """
 
-import argparse
 import os
 import pathlib
 import re
@@ -18,12 +17,14 @@ import sys
 import unittest
 from collections.abc import Iterator
 
+from farmkit.command import parser
+
 HERE = pathlib.Path(__file__).resolve().parent
 TOP = HERE.parent
 OLDEST = (3, 11)
 VERSION = re.compile(r"\d+\.\d+")
 # tools that say whether what stands elsewhere is so
-CHECKS = (("links.py",), ("definitions.py", "--check"), ("crates.py", "--check"), ("columns.py", "--check"))
+CHECKS = (("links.py",), ("definitions.py", "--check"), ("crates.py", "--check"))
 LEFT_OUT = {".git", "out", "__pycache__", "unlanded"}
 
 
@@ -109,8 +110,7 @@ def checked() -> Iterator[tuple[str, str]]:
 
 
 def main() -> int:
-    raw = argparse.RawDescriptionHelpFormatter
-    argparse.ArgumentParser(description=__doc__, formatter_class=raw).parse_args()
+    parser(__doc__, "").parse_args()
     sys.dont_write_bytecode = True
     if sys.version_info < OLDEST:
         print(f"python checks not run: Python {'.'.join(map(str, OLDEST))} is wanted")

@@ -7,59 +7,47 @@ What both print is printed as it comes. The last line is `N passed, M failed` ov
 nothing failed.
 """
 
-import argparse
 import pathlib
 import re
 import signal
 import subprocess
 import sys
-from typing import NamedTuple
+
+from farmkit.command import parser
 
 TOP = pathlib.Path(__file__).resolve().parents[1]
 COMMANDS = ([sys.executable, str(TOP / "tools" / "check_python.py")], ["rt", "ci"])
 COUNT = re.compile(r"(\d+) passed, (\d+) failed")
 
 
-class Count(NamedTuple):
-    """How many passed and failed, of which the command that says so is none."""
-
-    passed: int
-    failed: int
-
-
-def run(words: list[str]) -> Count:
-    """Runs a command, and prints what it prints. One that ends with an error or doesn't count has failed."""
+def run(words: list[str]) -> tuple[int, int]:
+    """Runs a command, and prints what it prints: how many passed and failed, of which the command that counts
+    is none. One that ends with an error or doesn't count has failed."""
     last = ""
     try:
-        process = subprocess.Popen(words, cwd=TOP, stdout=subprocess.PIPE)
+        process = subprocess.Popen(words, cwd=TOP, stdout=subprocess.PIPE, text=True, errors="replace")
     except OSError as error:
         print(f"{words[0]}: {error.strerror}", flush=True)
-        return Count(0, 1)
-    assert process.stdout is not None
+        return 0, 1
     try:
-        for line in process.stdout:
-            sys.stdout.buffer.write(line)
-            sys.stdout.buffer.flush()
-            last = line.decode(errors="replace").strip() or last
-        status = process.wait()
+        for line in process.stdout or ():
+            print(line, end="", flush=True)
+            last = line.strip() or last
+        process.wait()
     finally:
-        if process.poll() is None:
-            process.terminate()
-            process.wait()
+        process.terminate()
+        status = process.wait()
     found = COUNT.match(last)
-    count = Count(int(found[1]), int(found[2])) if found else Count(0, 1)
-    if status and not count.failed:
+    passed, failed = (int(found[1]), int(found[2])) if found else (0, 1)
+    if status and not failed:
         print(f"{' '.join(words)} ended with status {status}", flush=True)
-        return Count(count.passed, 1)
-    return count
+    return passed, failed or int(bool(status))
 
 
 def main() -> int:
-    raw = argparse.RawDescriptionHelpFormatter
-    argparse.ArgumentParser(description=__doc__, formatter_class=raw).parse_args()
+    parser(__doc__, "").parse_args()
     signal.signal(signal.SIGTERM, signal.default_int_handler)
-    counts = [run(words) for words in COMMANDS]
-    passed, failed = (sum(each) for each in zip(*counts))
+    passed, failed = (sum(each) for each in zip(*map(run, COMMANDS)))
     print(f"{passed} passed, {failed} failed")
     return 1 if failed else 0
 

@@ -2,8 +2,9 @@
 """Looks at crates.txt: draws its groups, each above those that it uses, as docs/pictures/layers.svg.
 
     python3 tools/crates.py              writes the picture
-    python3 tools/crates.py --check      says whether it is what crates.txt says, and which names of its lines
-                                         are neither used nor needed
+    python3 tools/crates.py --check      says whether it is what crates.txt says, which names of its lines are
+                                         neither used nor needed, and which comments (`//`, `--`) and clauses
+                                         of the crates have over 100 columns
     python3 tools/crates.py --unnamed    prints the names that the crate itself doesn't use
 
 A comment line of crates.txt begins a group, and is its title. An arrow leads from a group to each one that it
@@ -22,6 +23,7 @@ from farmkit.repository import TOP, dependencies
 
 PICTURE = TOP / "docs" / "pictures" / "layers.svg"
 WIDE, GAP, LINE, LETTERS = 340, 46, 17, 44
+MOST_COLUMNS = 100
 STYLE = """text { font: 13px sans-serif } .title { font-weight: bold } rect { fill: #f4f6fa; stroke: #456 }
 path { fill: none; stroke: #678; marker-end: url(#tip) }"""
 
@@ -43,7 +45,7 @@ def groups() -> dict[str, list[str]]:
         if line.startswith("#"):
             title = line.lstrip("# ")
         elif line:
-            found.setdefault(title, []).append(line.partition(":")[0])
+            found.setdefault(title, []).append(line.partition(":")[0].split()[0])
     return found
 
 
@@ -144,6 +146,15 @@ def unnamed() -> Iterator[tuple[str, str, list[str]]]:
                 yield crate, low, [other for other in lows if low in every.get(other, ())]
 
 
+def wide() -> Iterator[str]:
+    """Each line of a comment or a clause that has too many columns."""
+    for path in sorted((TOP / "crates").glob("*/[sp]*/**/*")):
+        if path.suffix in (".rt", ".antt"):
+            for number, line in enumerate(path.read_text(encoding="utf-8").splitlines(), 1):
+                if len(line) > MOST_COLUMNS and re.match(r"\s*(?://|--|requires\b|ensures\b)", line):
+                    yield f"{path.relative_to(TOP)}, line {number}: {len(line)} columns"
+
+
 def main() -> int:
     words = parser(__doc__)
     words.add_argument("--check", action="store_true", help="writes nothing")
@@ -161,7 +172,9 @@ def main() -> int:
     print(f"docs/pictures/layers.svg is {'what crates.txt says' if is_same else 'out of date'}")
     useless = [f"crates.txt: {crate} doesn't need {low}" for crate, low, others in lacking if not others]
     print("\n".join([*useless, f"{len(useless)} names too many"]))
-    return 0 if is_same and not useless else 1
+    long = list(wide()) if given.check else []
+    print("\n".join([*long, f"{len(long)} lines of comments and clauses have over {MOST_COLUMNS} columns"]))
+    return 0 if is_same and not useless and not long else 1
 
 
 if __name__ == "__main__":

@@ -24,31 +24,34 @@ import sys
 import tempfile
 import time
 
-from farmkit import hosts
+from farmkit import hosts, processes
 from farmkit.command import add_cases, add_slack, listed, numbers, program_parser, tell_missing
 from farmkit.control import wfarmctl, write_nodes
-from farmkit.hosts import HostedNode
 from farmkit.mapfiles import map_of
 from farmkit.nodes import NO_MAJORITY, VOTES
 from farmkit.tapes import MOST_MAPS, tape_of
-from farmkit.wanted import Wrong, is_so_within, want
+from farmkit.wanted import Wrong, until, want
 
 # seconds: for a waiting publish after the healing; until a node knows that it isn't heard, and more of that
 # where peers hear it; without a connection that is dialed anew
 HEALED, NOTICED, ONE_WAY, QUIET = 5, 6, 1, 12
 PATIENCE = 30
 AGAIN = 10
+# where a host's programs listen: for nodes, for clients, for operators
+PEERS, CLIENTS, OPERATOR = 7000, 8080, 9090
 # processor seconds, many times those of an idle node in that time
 AT_WORK = 0.5
 
 
-def until(is_so, seconds=PATIENCE):
-    return is_so_within(is_so, seconds, 0.1)
+class Node(processes.Node):
+    """A node on a host of its own."""
 
-
-class Node(HostedNode):
-    def __init__(self, host, above, program, hosts_of_all, tape):
-        super().__init__(host, above / host.name / "state", program, hosts_of_all, "silent")
+    def __init__(self, host, above, program, every, tape):
+        self.host = host
+        super().__init__(program, host.number, above / host.name / "state",
+                         ",".join(each.at(PEERS) for each in every), host.at(CLIENTS), host.at(OPERATOR),
+                         before=[*host.entering, *processes.UNSIGNALLED])
+        self.init("silent")
         if tape is not None:
             shutil.copy(tape, self.tape)
 
@@ -83,8 +86,7 @@ class Farm:
         for node in self.nodes:
             node.start()
         self.await_health(published)
-        want("they don't hear one another",
-             until(lambda: self.unlike([]) == [], PATIENCE + self.options.slack))
+        until(lambda: self.unlike([]) == [], PATIENCE + self.options.slack, 0.1)
         if not published:
             self.publish(self.nodes[0])
 
@@ -104,9 +106,9 @@ class Farm:
 
     def publish(self, node):
         before, answer = self.top(), node.publish(self.next())
-        want(f"no publish: {answer}",
-             answer[0] == 202 and until(lambda: (node.published() or 0) > before))
-        want("not level", until(self.is_level))
+        want(f"no publish: {answer}", answer[0] == 202)
+        until(lambda: (node.published() or 0) > before, PATIENCE, 0.1)
+        until(self.is_level, PATIENCE, 0.1)
 
     def next(self):
         self.number += 1
@@ -257,7 +259,9 @@ def waits(farm, name, seconds):
         answers = [node.publish(farm.next()) for node in waiting]
         want(f"the publishes were answered by {answers}", all(answer[0] == 202 for answer in answers))
         if name == "away":
-            published = farm.control("publish", str(map_file(farm)))
+            file = farm.folder / "a.map"
+            file.write_bytes(map_of(farm.next()))
+            published = farm.control("publish", file)
             first = (len(farm.nodes) - 1) // 2
             want(f"wfarmctl publish: {published}",
                  published[:2] == (0, f"published {before + 1} at node {first}\n"))
@@ -278,12 +282,6 @@ def waits(farm, name, seconds):
             farm.publish(node)
         seen["ended as"] = ", ".join(states)
     return seen
-
-
-def map_file(farm):
-    path = farm.folder / "a.map"
-    path.write_bytes(map_of(farm.next()))
-    return path
 
 
 def attempt(name, count, seconds, options, networks):
@@ -310,23 +308,16 @@ def attempt(name, count, seconds, options, networks):
     return is_wrong
 
 
-def options_of():
+def main():
     asked = program_parser(listed(__doc__, CASES.values()))
-    asked.add_argument("--nodes", type=numbers, default=[3, 5],
-                       help="how many, with commas between them (3,5)")
-    asked.add_argument("--seconds", type=numbers, default=[10, 60, 300],
-                       help="how long links are silent (10,60,300)")
+    asked.add_argument("--nodes", type=numbers, default=[3, 5], help="how many, with commas between (3,5)")
+    asked.add_argument("--seconds", type=numbers, default=[10, 60, 300], help="of silence (10,60,300)")
     asked.add_argument("--at-once", type=int, default=3, help="how many farms at a time (3)")
     add_slack(asked)
     asked.add_argument("--network", type=int, default=1, help="the number of the first network, 0 to 255")
     add_cases(asked, CASES)
-    return asked.parse_args()
-
-
-def main():
-    options = options_of()
-    lacking = hosts.missing(options.network)
-    if lacking:
+    options = asked.parse_args()
+    if lacking := hosts.missing(options.network):
         return tell_missing(lacking)
     # the longest begin first
     rows = [(name, count, seconds) for seconds in sorted(options.seconds, reverse=True)

@@ -67,10 +67,10 @@ from farmkit import ledger
 from farmkit.calls import Unfollowed, Watcher, follow, traced
 from farmkit.command import add_cases, lacks, program_parser, tell_missing
 from farmkit.device import Machine, formatted, is_permitted
-from farmkit.folder import Folder, drawn, everything, extremes, nothing
+from farmkit.folder import Folder, contents, drawn, everything, extremes, nothing, put
 from farmkit.mapfiles import PIXEL, map_of, picture_of
 from farmkit.processes import STATUS, Farm, serve_words
-from farmkit.starts import Violations, contents, is_unsynced, new_folder, put, starts
+from farmkit.starts import Violations, is_unsynced, new_folder, starts
 from farmkit.tapes import ACCEPTED, PUBLISHED, record, records
 from farmkit.web import CAPABILITIES, Unanswered, exchange, loopback
 
@@ -369,10 +369,8 @@ class Modelled(Killed):
     def drawn_cut(self, draw):
         """At which call a run is cut: one of three while the program starts, mostly."""
         if draw.random() < 1 / 3:
-            return draw.choice((("fsync", draw.randint(1, 12)), ("fsync", draw.randint(1, 12)),
-                                ("rename", draw.randint(1, 3))))
-        return draw.choice((("fsync", draw.randint(13, 80)), ("fsync", draw.randint(13, 80)),
-                            ("sendto,sendmsg", draw.randint(1, 75))))
+            return draw.choice((*2 * [("fsync", draw.randint(1, 12))], ("rename", draw.randint(1, 3))))
+        return draw.choice((*2 * [("fsync", draw.randint(13, 80))], ("sendto,sendmsg", draw.randint(1, 75))))
 
     def start(self, draw, _):
         return Run(traced(serve_words(self.given.program, CONNECTIONS, self.path), self.trace,
@@ -488,7 +486,7 @@ def again_and_again(kind, given, draw, numbers):
             use_one_folder(kind(above, given, done), draw, numbers, ledgers[-1], is_going_on, done)
     if done[what] < wanted and not violations:
         violations.add(f"too few {what}")
-    counts = sum((ledger.counts for ledger in ledgers), collections.Counter())
+    counts = sum((each.counts for each in ledgers), collections.Counter())
     print(f"{kind.name}: {done['cuts']} cuts, {done['unsynced']} of them with something unsynced, "
           f"{done['kills']} kills alone, {done['starting']} runs ended while starting; {done['folders']} "
           f"folders compared, {counts['torn']} torn records seen; {counts['sent']} maps sent, "
@@ -514,7 +512,7 @@ PARTS = {"order": order, "kills": partial(again_and_again, Killed),
          "model": partial(again_and_again, Modelled), "device": device, "starts": starts}
 
 
-def words():
+def main():
     asked = program_parser(__doc__)
     asked.add_argument("--kills", type=int, default=600, metavar="N", help="(600)")
     asked.add_argument("--cuts", type=int, default=200, metavar="N",
@@ -524,19 +522,13 @@ def words():
     asked.add_argument("--without", choices=("own", "second", "folder"),
                        help="counts these syncs as left out: of a tape, of its second file before a rename, "
                        "of the folder behind one; each has to be found")
-    asked.add_argument("--folder", metavar="DIR",
-                       help="where the folders are (default: that of temporary files)")
+    asked.add_argument("--folder", metavar="DIR", help="where the folders are (that of temporary files)")
     add_cases(asked, PARTS, "PART")
-    return asked.parse_args()
-
-
-def main():
-    given = words()
+    given = asked.parse_args()
     chosen = given.cases or list(PARTS)
     if chosen != ["kills"] and lacks("strace"):
         return tell_missing(["strace"])
-    draw, numbers = random.Random(given.seed), iter(range(1, 1 << 24))
-    violations = 0
+    draw, numbers, violations = random.Random(given.seed), iter(range(1, 1 << 24)), 0
     for name in chosen:
         try:
             violations += PARTS[name](given, draw, numbers)

@@ -46,10 +46,7 @@ from farmkit.repository import TOP
 
 CRATES = ["wf_test_map", "wf_test_farm", "wf_test_paint", "wf_test_failures"]
 # tests that make each call once, and so fail where an allocation does
-ONCE = (
-    "tape::",
-    "serve::a_start_where_port_or_folder_is_taken_changes_no_tape",
-)
+ONCE = ("tape::", "serve::a_start_where_port_or_folder_is_taken_changes_no_tape")
 EDGE = ("hear", "serve", "refuse", "serve_alone", "serve_published", "serve_cached")
 # their input begins with a mapfile
 PUBLISHED = ("serve_published", "serve_cached")

@@ -24,6 +24,7 @@ import sys
 import time
 
 from farmkit.command import parser
+from farmkit.kit import ci_takes
 from farmkit.processes import descendants
 from farmkit.repository import TOP, git
 
@@ -98,9 +99,10 @@ def main() -> int:
     words.add_argument("log", nargs="?", type=pathlib.Path, default=TOP.parent / "gate.log", metavar="LOG")
     words.add_argument("--of", type=int, metavar="PID", help="begins none, and watches this one to its end")
     options, began, seen, gate = words.parse_args(), time.time(), {}, None
+    anew = ["--anew"] if ci_takes("--anew") else []
     if options.of is None:
         with open(options.log, "w", encoding="utf-8") as out:
-            gate = subprocess.Popen(["rt", "ci", "--anew"], cwd=TOP, stdout=out, stderr=subprocess.STDOUT)
+            gate = subprocess.Popen(["rt", "ci", *anew], cwd=TOP, stdout=out, stderr=subprocess.STDOUT)
     while os.path.exists(f"/proc/{options.of}") if gate is None else gate.poll() is None:
         look(seen, gate.pid if gate else options.of)
         time.sleep(0.5)
@@ -112,7 +114,7 @@ def main() -> int:
              f"processors, {used:.0f} processor minutes.\n\n{table(seen)}")
     print(costs, end="")
     has_passed = told.endswith(" 0 failed")
-    if has_passed and FROM_NOTHING in told:
+    if has_passed and (FROM_NOTHING in told or not anew):
         record(costs)
     return 0 if has_passed else 1
 

@@ -41,9 +41,11 @@ import time
 from farmkit.attacks import (CLIENTS, MAP, SLOW, TILE, Impostor, Peers, Readers, operators, peer_answers,
                              silent, source_answers)
 from farmkit.command import program_parser
+from farmkit.folder import contents
 from farmkit.greetings import greeting
 from farmkit.ledger import Ledger, Watch
 from farmkit.mapfiles import map_of
+from farmkit.measure import timed
 from farmkit.mutation import Maps, Queries
 from farmkit.nodes import Nodes
 from farmkit.processes import Farm, Replica
@@ -70,11 +72,8 @@ def kinds(count, draw):
 
 
 def attack(address, kind, seed):
-    try:
-        with connect(address, PATIENCE) as peer:
-            kind(peer, random.Random(seed))
-    except OSError:
-        pass
+    with contextlib.suppress(OSError), connect(address, PATIENCE) as peer:
+        kind(peer, random.Random(seed))
     return kind.__name__
 
 
@@ -92,17 +91,13 @@ class Behaving(threading.Thread):
     def __init__(self, addresses, tile):
         super().__init__()
         self.rows = [(address, path) for address in addresses for path in ("/status", TILE)]
-        self.tile = tile
-        self.over = threading.Event()
-        self.waits = []
-        self.wrong = []
+        self.tile, self.over, self.waits, self.wrong = tile, threading.Event(), [], []
 
     def run(self):
         while not self.over.wait(0.05):
             for address, path in self.rows:
-                begun = time.monotonic()
-                answer = ask(address, path, None, PATIENCE)
-                self.waits.append(time.monotonic() - begun)
+                answer, took = timed(ask, address, path, None, PATIENCE)
+                self.waits.append(took)
                 if answer.status != 200 or (path == TILE and answer.body != self.tile):
                     self.wrong.append((address, path, answer.status, answer.body[:100]))
 
@@ -110,9 +105,9 @@ class Behaving(threading.Thread):
         """Ends it, and prints what it saw; whether each answer was right."""
         self.over.set()
         self.join()
-        print(f"a client that behaves: {len(self.waits)} answers, the longest after {max(self.waits):.2f} s, "
-              f"the median after {1000 * statistics.median(self.waits):.1f} ms, {len(self.wrong)} wrong "
-              f"{self.wrong[:3] or ''}".rstrip())
+        print(f"a client that behaves: {len(self.waits)} answers, the longest after "
+              f"{max(self.waits):.0f} ms, the median after {statistics.median(self.waits):.1f} ms, "
+              f"{len(self.wrong)} wrong {self.wrong[:3] or ''}".rstrip())
         return not self.wrong
 
 
@@ -124,7 +119,7 @@ def state(farm, folder):
     """What the farm is: what each node told as published, its capabilities and the tile, and the tapes."""
     told = sorted(asked(farm, "/status")[1].split()[1:4] for _ in range(NODES))
     answers = {asked(farm, path) for path in (CAPABILITIES, TILE) for _ in range(NODES)}
-    return told, answers, {path.name: path.read_bytes() for path in pathlib.Path(folder).iterdir()}
+    return told, answers, contents(folder)
 
 
 def sockets(program, count, draw):
@@ -306,25 +301,21 @@ class Mutations:
     """Runs on mutated input, and what came of them."""
 
     def __init__(self, program, folder, seed):
-        self.program = program
-        self.folder = folder
-        self.seed = seed
-        self.statuses = collections.Counter()
-        self.dearest = 0.0
-        self.failures = []
+        self.program, self.folder, self.seed = program, folder, seed
+        self.statuses, self.dearest, self.failures = collections.Counter(), 0.0, []
         self.local = threading.local()
 
-    def runner(self):
+    def run(self, words, text):
         if not hasattr(self.local, "runner"):
             self.local.runner = Runner(self.program, self.folder)
-        return self.local.runner
+        return self.local.runner.run(words, text)
 
     def canon(self, number):
         """One mapfile through canon; a text that it writes is read again."""
         text = Maps(random.Random(f"{self.seed} canon {number}")).next()
-        ran = self.runner().run(["canon"], text)
+        ran = self.run(["canon"], text)
         failed = wrong(ran)
-        if not failed and ran[0] == 0 and self.runner().run(["canon"], ran[1])[:2] != (0, ran[1]):
+        if not failed and ran[0] == 0 and self.run(["canon"], ran[1])[:2] != (0, ran[1]):
             failed = "the canonical text isn't its own"
         return ran, failed, text, b""
 
@@ -334,7 +325,7 @@ class Mutations:
         maps = Maps(draw)
         text = maps.next() if draw.random() < 0.3 else maps.made().encode()
         query = Queries(draw).next()
-        ran = self.runner().run(["draw", "--", query], text)
+        ran = self.run(["draw", "--", query], text)
         return ran, wrong(ran), text, query.encode()
 
     def go(self, make, count, jobs):
@@ -364,29 +355,22 @@ def mutations(program, given):
         begun = time.monotonic()
         runs.go(runs.canon, given.count, given.jobs)
         runs.go(runs.draw, given.count // 5, given.jobs)
-    counted = ", ".join(f"{count} of {name} with status {status}" for (name, status),
-                        count in sorted(runs.statuses.items()))
+    counted = ", ".join(f"{count} of {name} with status {status}"
+                        for (name, status), count in sorted(runs.statuses.items()))
     print(f"{sum(runs.statuses.values())} runs on mutated input in {time.monotonic() - begun:.0f} s: "
           f"{counted}; at most {1000 * runs.dearest:.0f} ms "
           f"of processor time, within {MOST_MEMORY >> 10} MB of address space; {len(runs.failures)} failures")
     return not runs.failures
 
 
-def words():
-    asked_for = program_parser(__doc__)
-    asked_for.add_argument("--sockets", type=int, default=1_000, metavar="N",
-                           help="hostile connections (1,000)")
-    asked_for.add_argument("--processes", type=int, default=1_000, metavar="N",
-                           help="hostile connections to nodes and a replica (1,000)")
-    asked_for.add_argument("--count", type=int, default=100_000, metavar="N",
-                           help="mutated mapfiles (100,000)")
-    asked_for.add_argument("--seed", type=int, default=1, metavar="S")
-    asked_for.add_argument("--jobs", type=int, default=2, metavar="J", help="how many run at a time (2)")
-    return asked_for.parse_args()
-
-
 def main():
-    given = words()
+    words = program_parser(__doc__)
+    for name, default, said in (("--sockets", 1_000, "hostile connections"),
+                                ("--processes", 1_000, "hostile connections to nodes and a replica"),
+                                ("--count", 100_000, "mutated mapfiles"), ("--seed", 1, "of what is random"),
+                                ("--jobs", 2, "how many run at a time")):
+        words.add_argument(name, type=int, default=default, metavar="N", help=f"{said} ({default:,})")
+    given = words.parse_args()
     good = not given.count or mutations(given.program, given)
     for part, count in ((sockets, given.sockets), (processes, given.processes)):
         good = (not count or part(given.program, count, random.Random(given.seed))) and good

@@ -18,7 +18,7 @@ shapes share stay shared.
 It needs Debian's python3-mapscript and python3-shapely.
 """
 
-import argparse
+import contextlib
 import os
 import sys
 from dataclasses import replace
@@ -46,8 +46,7 @@ READ_BY_LIBRARY = ("ITEMS=", "NATIVE_FILTER=", "CLOSE_CONNECTION=")  # of PROCES
 
 
 def arguments():
-    raw = argparse.RawDescriptionHelpFormatter
-    parser = argparse.ArgumentParser(description=__doc__, formatter_class=raw)
+    parser = options.parser_of(__doc__)
     parser.add_argument("mapfile", help="the mapfile, beside which its data are")
     parser.add_argument("--crs", choices=OWN,
                         help="degrees (4326), or metres of the Mercator projection (3857)")
@@ -105,8 +104,8 @@ class Importer:
         for crs in OWN:
             if self.own.lower().lstrip("+") == OWN[crs]:
                 return crs
-        raise MapError(f"{self.asked.mapfile}: its system is {self.own or 'not named'}: write --crs 3857 or "
-                       f"--crs 4326")
+        raise MapError(f"{self.asked.mapfile}: its system is {self.own or 'not named'}: "
+                       f"write --crs 3857 or --crs 4326")
 
     def system(self, text, what):
         """The system of a map or layer, that of --source if it names none."""
@@ -152,8 +151,7 @@ class Importer:
         box = self.box_in(system, self.is_target(self.own))
         width, height = box.maxx - box.minx, box.maxy - box.miny
         self.map.units = system.getUnits()
-        self.map.setSize(*(max(2, round(MOST_PIXELS * side / max(width, height)))
-                           for side in (width, height)))
+        self.map.setSize(*(max(2, round(MOST_PIXELS * it / max(width, height))) for it in (width, height)))
         self.map.setExtent(box.minx, box.miny, box.maxx, box.maxy)
         return width, self.asked.scale or self.map.scaledenom
 
@@ -177,8 +175,8 @@ class Importer:
 
     def cut(self, whole):
         result = cut(whole, self.teller)
-        self.shapes_drawn -= sum(len(layer.features) for layer in whole.layers) - sum(
-            len(layer.features) for layer in result.layers)
+        before, after = (sum(len(layer.features) for layer in each.layers) for each in (whole, result))
+        self.shapes_drawn -= before - after
         return result
 
     def map_texts(self):
@@ -191,9 +189,8 @@ class Importer:
     def chosen_layers(self):
         """(name, layer, its block) of the layers that are asked for; the others aren't counted."""
         layers, blocks = [self.map.getLayer(i) for i in range(self.map.numlayers)], self.written.all("LAYER")
-        same = len(layers) == len(blocks) and all(layer.numclasses == len(block.all("CLASS")) for layer,
-                                                  block in zip(layers, blocks))
-        if not same:
+        counts = [layer.numclasses for layer in layers]
+        if counts != [len(block.all("CLASS")) for block in blocks]:
             raise MapError(f"{self.asked.mapfile}: its LAYER and CLASS blocks aren't those that MapServer "
                            f"reads")
         names = [layer.name or f"layer{place}" for place, layer in enumerate(layers, 1)]
@@ -377,11 +374,9 @@ class Importer:
 
     def reach(self, layer):
         """A box that has all of the layer's data."""
-        try:
+        with contextlib.suppress(*self.errors):
             if layer.connectiontype != self.script.MS_UNION:  # whose extent is made up
                 return layer.getExtent()
-        except self.errors:
-            pass
         return self.script.rectObj(-ANYWHERE, -ANYWHERE, ANYWHERE, ANYWHERE)
 
     def open(self, layer, name):
@@ -444,10 +439,9 @@ class Importer:
             if how not in classes:
                 classes.append(how)
         if len(classes) > MOST_CLASSES:
-            teller.add(f"its {len(classes)} classes became layers of {MOST_CLASSES} each ({name}, {name}_2, "
-                       f"..)")
-        items = [texts.plain(item, teller, "an attribute's name").replace(",", "_")
-                 for item in self.kept[name]]
+            teller.add(f"its {len(classes)} classes became layers of {MOST_CLASSES} each "
+                       f"({name}, {name}_2, ..)")
+        items = [texts.plain(it, teller, "an attribute's name").replace(",", "_") for it in self.kept[name]]
         for start in range(0, len(classes), MOST_CLASSES):
             some = classes[start : start + MOST_CLASSES]
             own = name if start == 0 else f"{name}_{start // MOST_CLASSES + 1}"

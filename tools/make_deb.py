@@ -10,8 +10,9 @@ Removing the package leaves folders of nodes as they are; purging it does too, s
 away is the one thing that a farm can't forgive.
 
 The program is the proved one that `rt ci` leaves, unless another is given; the revision is written into it
-(`tools/stamp.py`). The version is 0.1.0 and the date of the newest commit, as 0.1.0+20261126. Wants dpkg-deb
-(package dpkg). Prints the files' paths.
+(`tools/stamp.py`). The version is 0.1.0 and the time of the newest commit (UTC), as 0.1.0+20261126.150207:
+apt-get installs no package of the version that is there, so two of one day need two. Wants dpkg-deb (package
+dpkg). Prints the files' paths.
 """
 
 import email.utils
@@ -24,6 +25,7 @@ import shutil
 import subprocess
 import sys
 import tempfile
+import time
 
 import stamp
 from farmkit.command import lacks, program_parser, tell_missing
@@ -180,8 +182,8 @@ def fill(root, program, version, maintainer):
 
 
 def version_now():
-    date = stamp.git("log", "-1", "--format=%cs")
-    return "0.1.0+" + date.replace("-", "") if date else "0.1.0"
+    seconds = stamp.git("log", "-1", "--format=%ct")
+    return time.strftime("0.1.0+%Y%m%d.%H%M%S", time.gmtime(int(seconds))) if seconds else "0.1.0"
 
 
 def main():
@@ -201,7 +203,7 @@ def main():
         root.mkdir(mode=0o755)
         try:
             fill(root, program, options.version, options.maintainer)
-        except stamp.NoPlace as error:
+        except stamp.Unstamped as error:
             print(f"{program}: {error}", file=sys.stderr)
             return 1
         subprocess.run(["dpkg-deb", "--build", "--root-owner-group", str(root), str(package)], check=True,

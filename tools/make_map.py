@@ -25,6 +25,7 @@ python3-gdal and, for filled polygons and to simplify, python3-shapely.
 """
 
 import argparse
+import contextlib
 import copy
 import json
 import math
@@ -96,8 +97,7 @@ def ranges_of(text):
 
 
 def arguments():
-    raw = argparse.RawDescriptionHelpFormatter
-    parser = argparse.ArgumentParser(description=__doc__, formatter_class=raw)
+    parser = options.parser_of(__doc__)
     parser.add_argument("--name", required=True, help="the map's name")
     parser.add_argument("--title", help="its title (the name)")
     parser.add_argument("--abstract", default="", help="what it shows")
@@ -232,9 +232,8 @@ class Source:
         where = self.asked.where
         try:
             self.table.SetAttributeFilter(where)
-            rows = [feature
-                    for feature
-                    in self.table]  # no list(): it asks for a length, which OpenStreetMap's has none of
+            # (no list(): it asks for a length, which OpenStreetMap's has none of)
+            rows = [feature for feature in self.table]
         except RuntimeError as error:
             if where and self.is_readable():
                 raise MapError(f"{self.path}: --where {where!r} isn't understood: {error}: it has "
@@ -248,13 +247,12 @@ class Source:
 
     def is_readable(self):
         """Whether the table can be read without --where."""
-        try:
+        with contextlib.suppress(RuntimeError):
             self.table.SetAttributeFilter(None)
             self.table.ResetReading()
             self.table.GetNextFeature()
             return True
-        except RuntimeError:
-            return False
+        return False
 
     def parts_of(self, feature, change, crs, place):
         geometry = feature.GetGeometryRef()
@@ -298,22 +296,19 @@ def unread(gdal, path, error):
     text = str(error).strip()
     if not Path(path).exists() and not re.match("/vsi|[A-Za-z0-9]{2,}:", path):
         return "there is no such file"
-    try:
+    with contextlib.suppress(OSError, ValueError, KeyError, TypeError, AttributeError):
         listed = json.loads(Path(path).read_text(encoding="utf-8-sig"))["features"]
         for place, entry in enumerate(listed, 1):
             shape = entry.get("geometry")
             if shape is not None and not reads(gdal, shape):
                 return f"feature {place}: its geometry is malformed: repair it ({text})"
-    except (OSError, ValueError, KeyError, TypeError, AttributeError):
-        pass
     return f"GDAL can't read it: {text}"
 
 
 def reads(gdal, shape):
-    try:
+    with contextlib.suppress(RuntimeError):
         return gdal.ogr.CreateGeometryFromJson(json.dumps(shape)) is not None
-    except RuntimeError:
-        return False
+    return False
 
 
 def raw_parts(geometry, place):
@@ -398,10 +393,9 @@ class Classes:
         else:
             values = sorted({record.values[asked.class_by] for record in records} - {""})
             if len(values) >= MOST_CLASSES:
-                raise MapError(
-                    f"{asked.path}: attribute {asked.class_by} has {len(values)} values, and a layer at most "
-                    f"{MOST_CLASSES - 1} classes "
-                    "by value: name the most important by --class, or cut numbers by --ranges")
+                raise MapError(f"{asked.path}: attribute {asked.class_by} has {len(values)} values, and a "
+                               f"layer at most {MOST_CLASSES - 1} classes by value: name the most important "
+                               "by --class, or cut numbers by --ranges")
             self.take(values, shades(asked.palette or "soft", len(values)))
         self.others = [record for record in records if self.of(record) is None]
         if asked.class_by is not None and self.others:
@@ -426,8 +420,8 @@ class Classes:
         return range_of(text, self.asked.ranges) if self.asked.ranges else self.index.get(text)
 
     def drawn(self, kind, layer_name):
-        shaded = [Class(name, [style_of(kind, self.asked, shade)], label_of(self.asked)) for name,
-                  shade in zip(self.names, self.colors)]
+        shaded = [Class(name, [style_of(kind, self.asked, shade)], label_of(self.asked))
+                  for name, shade in zip(self.names, self.colors)]
         if self.others or not shaded:
             shaded.append(Class(OTHER if shaded else layer_name, [style_of(kind, self.asked, None)],
                                 label_of(self.asked)))

@@ -3,9 +3,10 @@
 has in their place, so that `wfarm --version` and the metrics tell one build from another, and no proof is
 made again for it.
 
-The program is the proved one that `rt ci` leaves, unless another is given. The revision is the newest
-commit's; where files are changed that aren't committed, it isn't known, and the zeros stay. Prints what the
-written program says of itself.
+The program is the proved one that `rt ci` leaves, unless another is given; not where a source, definition or
+proof of it is newer, since it isn't of this revision then. The revision is the newest commit's; where files
+are changed that aren't committed, it isn't known, and the zeros stay. Prints what the written program says of
+itself.
 """
 
 import argparse
@@ -15,15 +16,15 @@ import subprocess
 import sys
 
 from farmkit.command import add_program, parser
-from farmkit.repository import TOP
+from farmkit.repository import PROGRAM, TOP, below
 
 UNKNOWN = "0" * 40
 # the texts of crates/wf_version in which the revision stands
 PLACES = ("(revision {})", 'revision="{}"')
 
 
-class NoPlace(Exception):
-    """The program has no place for its revision."""
+class Unstamped(Exception):
+    """Why a program isn't given a revision."""
 
 
 def git(*words):
@@ -37,11 +38,24 @@ def revision_now():
     return UNKNOWN if changed else git("rev-parse", "HEAD") or UNKNOWN
 
 
+def newest_source():
+    """The newest of the sources, definitions and proofs of the program."""
+    files = (file for crate in below("wfarm") for file in (TOP / "crates" / crate).glob("[sp]*/**/*.*"))
+    return max(files, key=lambda file: file.stat().st_mtime)
+
+
+def fail_if_stale(program):
+    """Fails where the program that `rt ci` left was made before its sources became what they are."""
+    newest = newest_source()
+    if program == PROGRAM and program.stat().st_mtime < newest.stat().st_mtime:
+        raise Unstamped(f"{newest.relative_to(TOP)} is newer: `rt ci` makes the program of it")
+
+
 def stamped(program, revision):
     """The bytes of the program with that revision in each of its places."""
     for place in PLACES:
         if place.format(UNKNOWN).encode() not in program:
-            raise NoPlace(f"no {place.format('0..0')} in it")
+            raise Unstamped(f"no {place.format('0..0')} in it")
         program = program.replace(place.format(UNKNOWN).encode(), place.format(revision).encode())
     return program
 
@@ -55,14 +69,15 @@ def revision_of(word):
 
 def write_stamped(program, revision, path):
     """Writes the program with that revision, as a file that can be run."""
+    fail_if_stale(program)
     path.write_bytes(stamped(program.read_bytes(), revision))
     path.chmod(0o755)
 
 
 def main():
     words = parser(__doc__,
-                   "Exit status: that of `FILE --version`, 1 where the program can't be read or has no such "
-                   "place.")
+                   "Exit status: that of `FILE --version`, 1 where the program can't be read, has no such "
+                   "place, or is older than a source.")
     add_program(words)
     words.add_argument("--revision", type=revision_of, default=revision_now(),
                        help="forty hexadecimal digits")
@@ -70,7 +85,7 @@ def main():
     options = words.parse_args()
     try:
         write_stamped(pathlib.Path(options.program), options.revision, options.to)
-    except (OSError, NoPlace) as error:
+    except (OSError, Unstamped) as error:
         print(f"{options.program}: {error}", file=sys.stderr)
         return 1
     return subprocess.run([options.to.resolve(), "--version"], check=False).returncode

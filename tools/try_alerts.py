@@ -66,7 +66,7 @@ def case_of(alerts, series):
     return f"  - interval: 15s\n    input_series:\n{rows}    alert_rule_test:\n{tests}"
 
 
-def try_rules(trial, folder):
+def try_rules(trial, _, folder):
     code, told = promtool("check", "rules", RULES)
     trial.see("promtool takes the rules", code == 0, told)
     names = set(re.findall(r"alert: (\w+)", RULES.read_text()))
@@ -120,21 +120,19 @@ def try_rejection(trial, program, folder):
     try:
         for i in range(2):
             nodes.start(i)
-        is_counted = seconds_until(lambda: counted.search(metrics_of(nodes[0])), PATIENCE, 0.1) is not None
-        trial.see("a peer of another farm is counted as rejected", is_counted)
+        trial.wait("a peer of another farm is counted as rejected",
+                   lambda: counted.search(metrics_of(nodes[0])), PATIENCE)
     finally:
         nodes.end()
 
 
 def main():
-    options = program_parser(__doc__).parse_args()
-    if lacks("promtool"):
-        return tell_missing(lacks("promtool"))
-    trial = Trial()
+    options, trial = program_parser(__doc__).parse_args(), Trial()
+    if lacking := lacks("promtool"):
+        return tell_missing(lacking)
     with tempfile.TemporaryDirectory(prefix="wfarm-alerts-") as folder:
-        try_rules(trial, pathlib.Path(folder))
-        try_metrics(trial, options.program, pathlib.Path(folder))
-        try_rejection(trial, options.program, pathlib.Path(folder))
+        for attempt in (try_rules, try_metrics, try_rejection):
+            attempt(trial, options.program, pathlib.Path(folder))
     return trial.conclude()
 
 

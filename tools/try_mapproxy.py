@@ -8,9 +8,12 @@ and python3-pyproj), nginx and openssl.
 
 import io
 import pathlib
+import re
 import subprocess
 import sys
 import tempfile
+import time
+import urllib.request
 
 from farmkit.command import lacks, of_debian, program_parser, tell_missing
 from farmkit.nginx import changed
@@ -24,6 +27,9 @@ BOX = (-3.25, 51.5, -2.75, 52)
 SYSTEM = "EPSG:25832"
 SIDE = 512
 PATIENCE = 60
+# the tile 9/251/170 as Leaflet asks for it
+TILE = ("service?SERVICE=WMS&VERSION=1.1.1&REQUEST=GetMap&LAYERS=map_tiles&STYLES=&SRS=EPSG:3857&BBOX="
+        "-391357.5848,6653078.9419,-313086.0679,6731350.4589&WIDTH=256&HEIGHT=256&FORMAT=image/png")
 
 
 class MapProxy:
@@ -81,9 +87,16 @@ def attempt(trial, proxy, picture):
     common = [colour for colour, count in colours(own).items() if count > SIDE]
     trial.see(f"{SYSTEM}: a picture with the farm's colours", other is not None
               and all(colours(other).get(colour) for colour in common), common)
-    tile = image_of(proxy.ask("tiles/1.0.0/map_tiles/mercator/9/251/170.png?origin=nw")[1])
+    before = proxy.ask(TILE)[1]
+    tile = image_of(before)
     trial.see("a tile of Mercator with something on it", tile is not None and tile.size == (256, 256)
               and len(colours(tile)) > 1, tile)
+    with urllib.request.urlopen(f"http://{loopback(proxy.port)}/{TILE}", timeout=PATIENCE) as answer:
+        kept = [name for name in ("Cache-Control", "ETag", "Last-Modified") if answer.headers[name]]
+    trial.see("no browser is told to keep it", not kept, kept)
+    trial.publish(re.sub(rb"COLOR [0-9 ]+", b"COLOR 200 30 30 ", (EXAMPLES / "roads.map").read_bytes()))
+    time.sleep(1.1)  # nginx keeps a picture without MAPSEQ for a second
+    trial.see("nor does MapProxy keep it", proxy.ask(TILE)[1] != before)
     if picture and other is not None:
         both = of_debian("PIL.Image").new("RGB", (2 * SIDE + 8, SIDE), (190, 190, 190))
         both.paste(own, (0, 0))

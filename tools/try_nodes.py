@@ -7,23 +7,27 @@ sequence, whenever and from whichever node they come, and no node goes back. At 
 sequence, with equal histories.
 """
 
+import contextlib
 import os
 import re
 import shutil
 import socket
+import statistics
 import subprocess
 import sys
 import threading
 import time
+from concurrent.futures import ThreadPoolExecutor
 
 from farmkit.command import add_cases, listed, program_parser
 from farmkit.greetings import GREETING_BYTES, greeting, rejected_for
 from farmkit.ledger import Ledger, Watch
 from farmkit.mapfiles import a_map, canonical
+from farmkit.measure import timed
 from farmkit.nodes import NODES, Nodes
-from farmkit.processes import UNSIGNALLED, Node, free_ports, limited
+from farmkit.processes import UNSIGNALLED, limited
 from farmkit.tapes import record
-from farmkit.trial import chosen, go_through
+from farmkit.trial import go_through
 from farmkit.wanted import PATIENCE, until, want, want_none
 from farmkit.web import connect, loopback, received
 from trials_of_nodes import differing_histories, halted_nodes, replaced_machines, returned_folders
@@ -40,11 +44,8 @@ def publish(nodes):
             nodes.publish(i, a_map(f"once{i}{k}"))
             time.sleep(0.05)
 
-    threads = [threading.Thread(target=many, args=(i,)) for i in range(NODES)]
-    for thread in threads:
-        thread.start()
-    for thread in threads:
-        thread.join()
+    with ThreadPoolExecutor(NODES) as pool:
+        pool.map(many, range(NODES))
     return f"level after {nodes.level()} s at {nodes.published(0)}"
 
 
@@ -79,13 +80,10 @@ def pieces(nodes):
     return f"{k + 1} publishes, the slowest answered {1000 * slowest:.0f} ms after its last byte"
 
 
-def median(nodes, count=40):
-    times = []
-    for _ in range(count):
-        start = time.time()
-        want("no answer", nodes.get(0, "/status")[0] == 200)
-        times.append(1000 * (time.time() - start))
-    return round(sorted(times)[count // 2], 1)
+def median(nodes):
+    answers = [timed(nodes.get, 0, "/status") for _ in range(40)]
+    want("no answer", all(answer.status == 200 for answer, _ in answers))
+    return round(statistics.median(took for _, took in answers), 1)
 
 
 def clients(nodes):
@@ -99,10 +97,8 @@ def clients(nodes):
     def trickle():
         for byte in b"GET /status HTTP/1.1\r\nHost: " + b"x" * 1000:
             for client in trickling:
-                try:
+                with contextlib.suppress(OSError):
                     client.send(bytes([byte]))
-                except OSError:
-                    pass
             if is_over.wait(0.1):
                 return
 
@@ -165,12 +161,11 @@ def unknown(nodes):
         for source in ("127.0.0.9", "127.0.0.10"):
             told_to(nodes, 0, b"", source)
         time.sleep(0.05)
-    lines = nodes.lines(0, "dropped")
-    found = {source: [line for line in lines if "unknown-address" in line
-                      and re.search(rf"\b{source}\b", line)] for source in ("127.0.0.9", "127.0.0.10")}
-    count = sum("unknown-address" in line for line in lines)
-    want(f"{count} lines: {lines[:3]}", count == 2 and all(len(each) == 1 for each in found.values()))
-    return f"100 connections from two addresses, two lines: {found['127.0.0.9'][0].split(' ', 1)[1]}"
+    lines = [line for line in nodes.lines(0, "dropped") if "unknown-address" in line]
+    counts = [sum(bool(re.search(rf"\b{source}\b", line)) for line in lines)
+              for source in ("127.0.0.9", "127.0.0.10")]
+    want(f"{len(lines)} lines: {lines[:3]}", len(lines) == 2 and counts == [1, 1])
+    return f"100 connections from two addresses, two lines: {lines[0].split(' ', 1)[1]}"
 
 
 def dual(nodes):
@@ -193,22 +188,18 @@ def dual(nodes):
 def forged(nodes):
     """at the peers' port a peer's own greeting, and behind it half a message, or ballots and votes of other
     nodes: it is closed, and no vote counts"""
-    nodes.publish_whole(0, a_map("before"))
-    nodes.level()
+    nodes.publish_all(a_map("before"))
     nodes.kill(2)
     time.sleep(2)
-    sequence, ballot = (2).to_bytes(2, "big"), [(9).to_bytes(4, "big") + bytes([node])
-                                                for node in range(NODES)]
+    sequence = (2).to_bytes(2, "big")
+    ballot = [(9).to_bytes(4, "big") + bytes([node]) for node in range(NODES)]
     text = canonical(nodes.program, a_map("forged"))
     cases = {"half a message": (record(1, sequence + ballot[2])[:5], "silent"),
              "a ballot of another node": (record(1, sequence + ballot[0]), "wrong-sender"),
-             "an acceptance by another node's ballot": (record(3, sequence + ballot[1] + text),
-                                                        "wrong-sender"),
-             "a promise of another node": (record(2, bytes([0]) + sequence + ballot[2] + bytes(4)),
-                                           "wrong-sender"),
-             "a vote of another node": (record(4, bytes([1]) + sequence + ballot[2]), "wrong-sender"),
-             "a rejection of another node": (record(5, bytes([1]) + sequence + ballot[2] + ballot[1]),
-                                             "wrong-sender"),
+             "another node's acceptance": (record(3, sequence + ballot[1] + text), "wrong-sender"),
+             "another node's promise": (record(2, b"\0" + sequence + ballot[2] + bytes(4)), "wrong-sender"),
+             "another node's vote": (record(4, b"\1" + sequence + ballot[2]), "wrong-sender"),
+             "another's rejection": (record(5, b"\1" + sequence + ballot[2] + ballot[1]), "wrong-sender"),
              "no message": (record(99, b"nothing"), "bad-message")}
     for starts, (name, (message, why)) in enumerate(cases.items(), 10):
         came, seconds = told_to(nodes, 0, greeting(nodes, 2, starts=starts) + message)
@@ -221,28 +212,21 @@ def forged(nodes):
     nodes.publish_whole(0, a_map("after"))
     # what was told in its place counts, until it starts as often: it is told that it is an older start, and
     # isn't accused of it
-    nodes.start(2)
-    wrong = suspension(nodes, 2)
-    want(f"the node in whose place others told more: {', '.join(wrong)}", not wrong)
-    nodes.kill(2)
+    suspended_on(nodes, None, "the node in whose place others told more")
     path = nodes[2].folder / "farm"
     path.write_text(re.sub("(?m)^starts .*$", f"starts {starts:08x}", path.read_text()))
     nodes[2].clear()
-    nodes.start(2)
-    until(lambda: nodes.published(2) >= 0)
+    nodes.start_all([2])
     return f"{len(cases)} kinds closed; level after {nodes.level()} s"
 
 
 def forgot(nodes):
     """a node with an old copy of its folder or a new one, a clone, and the folder that has all once a copy of
     it was started, are suspended until they are cleared"""
-    for k in range(4):
-        nodes.publish_whole(0, a_map(f"first{k}"))
-    nodes.level()
+    nodes.publish_all(*(a_map(f"first{k}") for k in range(4)))
     nodes.kill(2)
     shutil.copytree(nodes[2].folder, nodes.folder / "old")
-    nodes.start(2)
-    until(lambda: nodes.published(2) >= 0)
+    nodes.start_all([2])
     for k in range(4):
         nodes.publish_whole(2, a_map(f"second{k}"))
     nodes.level()
@@ -252,23 +236,18 @@ def forgot(nodes):
     nodes.put(2)
     nodes.init(2)
     said.append(suspended_on(nodes, None, "a new folder"))
-    said.append(suspended_on(nodes, nodes.folder / "sound",
-                             "the folder that has all, of which a copy was started"))
-    for i in range(2):
-        nodes.kill(i)
+    said.append(suspended_on(nodes, nodes.folder / "sound", "the one with all, once its copy was started"))
+    nodes.kill(0, 1)
     for i in range(NODES):
         nodes[i].clear()
         nodes.start(i)
     until(lambda: all(nodes.health(i)[0] == 200 for i in range(NODES)))
     nodes.level()
     shutil.copytree(nodes[2].folder, nodes.folder / "clone")
-    http, listen = map(loopback, free_ports(2))
-    clone = Node(nodes.program, 2, nodes.folder / "clone", ",".join(map(loopback, nodes.peer)), http,
-                 loopback(0))
-    clone.start(more=["--listen", listen])
+    clone = nodes.beside(2, nodes.folder / "clone")
+    clone.start()
     try:
-        wrong = suspension(nodes, 2, PATIENCE)
-        want(f"the original beside its clone: {', '.join(wrong)}", not wrong)
+        want_none(suspension(nodes, 2, PATIENCE))
         said.append(nodes.health(2)[1])
     finally:
         clone.kill()
@@ -276,7 +255,7 @@ def forgot(nodes):
 
 
 def suspended_on(nodes, folder, name):
-    """What node 2 says that is suspended on a copy of this folder, or its own; then it is ended."""
+    """What node 2 says that is suspended on a copy of this folder, or on its own; then it is ended."""
     if folder:
         nodes.put(2, folder)
     nodes.start(2)
@@ -306,11 +285,9 @@ def refused(nodes):
 def zeros(nodes):
     """a tape with zeros behind its records, as a power cut may leave one, loses them; a node doesn't start on
     other bytes there"""
-    for k in range(3):
-        nodes.publish_whole(0, a_map(f"zeros{k}"))
-    nodes.level()
+    nodes.publish_all(*(a_map(f"zeros{k}") for k in range(3)))
     nodes.kill(2)
-    tape = nodes[2].folder / "node-2.tape"
+    tape = nodes[2].tape
     for count in (1, 100, 65_549):  # as many as the longest record has bytes
         with tape.open("ab") as file:
             file.write(bytes(count))
@@ -329,16 +306,13 @@ def zeros(nodes):
         want(f"{rest[:8]!r}: {ended}", ended == (1, f"the tape is damaged: P2: a bad record at {len(sound)}"))
         want(f"{rest[:8]!r}: the tape was changed", tape.read_bytes() == sound + rest)
     tape.write_bytes(sound)
-    nodes.start(2)
-    until(lambda: nodes.published(2) >= 0)
+    nodes.start_all([2])
     return f"{len(lines)} starts without the zeros, none on 4 other endings; level after {nodes.level()} s"
 
 
 def full(nodes):
     """a start on files that can't grow"""
-    for k in range(3):
-        nodes.publish_whole(0, a_map(f"full{k}", "x" * 900))
-    nodes.level()
+    nodes.publish_all(*(a_map(f"full{k}", "x" * 900) for k in range(3)))
     nodes.kill(2)
     words = [*UNSIGNALLED, *nodes[2].command(), "--log"]
     ran = subprocess.run(words, preexec_fn=limited(1024), capture_output=True, text=True, timeout=PATIENCE)
@@ -359,28 +333,23 @@ UNEVEN = [forgot, *halted_nodes.CASES, *returned_folders.CASES, *differing_histo
 def attempt(case, folder, program):
     """What a case saw; raises what was wrong."""
     nodes = Nodes(program, folder, differing_histories.COUNTS.get(case, NODES))
-    watch = None
-    try:
-        nodes.begin()
-        watch = Watch(nodes.each, Ledger())
+    with contextlib.ExitStack() as ending:
+        ending.callback(nodes.end)
+        watch = Watch(nodes.begin().each, Ledger())
+        ending.callback(watch.end)
         said = case(nodes)
         if case not in UNEVEN:
             nodes.level()
         watch.end()
         want_none(watch.ledger.violations[:5])
         return f"{said}; {watch.ledger.counts['answers']} answers compared"
-    finally:
-        if watch:
-            watch.over.set()
-        nodes.end()
 
 
 def main():
     asked = program_parser(listed(__doc__, CASES))
     add_cases(asked, (case.__name__ for case in CASES))
     options = asked.parse_args()
-    return go_through(chosen(CASES, options.cases),
-                      lambda case, folder: attempt(case, folder, options.program))
+    return go_through(CASES, options.cases, lambda case, folder: attempt(case, folder, options.program))
 
 
 if __name__ == "__main__":

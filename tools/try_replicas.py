@@ -22,16 +22,12 @@ from farmkit.measure import percentile
 from farmkit.nodes import Nodes
 from farmkit.processes import UNSIGNALLED, Replica, free_ports, limited
 from farmkit.tapes import MOST_MAPS, tape_of
-from farmkit.trial import chosen, go_through
-from farmkit.wanted import is_so_within, want, want_none
+from farmkit.trial import go_through
+from farmkit.wanted import is_so_within, until, want, want_none
 from farmkit.web import Listener, connect, loopback
 
 VOTERS = 3
 PATIENCE = 60
-
-
-def until(is_so, seconds=PATIENCE):
-    return is_so_within(is_so, seconds, 0.01)
 
 
 class Farm(Nodes):
@@ -56,26 +52,30 @@ class Farm(Nodes):
 
     def some(self, count):
         made = [self.replica(f"replica-{number}") for number in range(count)]
-        want("a replica doesn't begin",
-             until(lambda: all(replica.published() is not None for replica in made)))
+        until(lambda: all(replica.published() is not None for replica in made), PATIENCE)
         return made
 
     def top(self):
         """The highest sequence that a voter tells."""
         return max(map(self.published, range(self.count)))
 
-    def publish_all(self, *numbers):
+    def publish_numbers(self, *numbers):
         """Publishes the maps of these numbers at the first voter."""
         for number in numbers:
             self.publish_whole(0, map_of(number))
 
 
+def ask_at(replica, sources):
+    """Starts a replica anew with other sources."""
+    replica.kill()
+    replica.words[replica.words.index("--peers") + 1] = ",".join(sources)
+    replica.start()
+
+
 def mislead(farm, other):
     replica = farm.replica("misled")
-    want("the replica doesn't begin", until(lambda: (replica.published() or 0) >= 1))
-    replica.kill()
-    replica.words[replica.words.index("--peers") + 1] = ",".join(other.readers)
-    replica.start()
+    until(lambda: (replica.published() or 0) >= 1, PATIENCE)
+    ask_at(replica, other.readers)
     until(lambda: replica.ended() is not None, 20)
     return replica.ended(), replica.last_line()
 
@@ -84,10 +84,10 @@ def misled(options, top):
     """a replica that is pointed at another farm of the same name ends with status 1 and one line, whichever
     has published more"""
     with Farm(options, top, "ours") as ours, Farm(options, top, "theirs") as theirs:
-        ours.publish_all(*range(3))
-        theirs.publish_all(100)
+        ours.publish_numbers(*range(3))
+        theirs.publish_numbers(100)
         fewer = mislead(ours, theirs)
-        theirs.publish_all(*range(100, 104))
+        theirs.publish_numbers(*range(100, 104))
         ours.replicas.pop().kill()
         shutil.rmtree(ours.folder / "misled")
         more = mislead(ours, theirs)
@@ -147,11 +147,11 @@ def follows(farm, replica, numbers, pause, is_enough=lambda: False):
     for number in numbers:
         if wrong or is_enough():
             break
-        farm.publish_all(number)
+        farm.publish_numbers(number)
         time.sleep(pause)
         wrong.update(differences(farm, replica))
     top = farm.top()
-    if not wrong and not until(lambda: replica.published() == top, 10):
+    if not wrong and not is_so_within(lambda: replica.published() == top, 10):
         wrong.add(f"ten seconds later it says published {replica.published()}, and the voters {top}")
     wrong.update(differences(farm, replica))
     return sorted(wrong)
@@ -162,11 +162,11 @@ def twice(options, top):
     and the replica learns on"""
     found = []
     with Farm(options, top, "twice") as farm:
-        farm.publish_all(0)
+        farm.publish_numbers(0)
         for name, others in (("alone", []), ("among three", farm.readers[1:])):
             source = Repeater(farm.readers[0])
             replica = farm.replica(f"replica {name}", ",".join([loopback(source.port), *others]))
-            until(lambda: replica.published(), 5)
+            is_so_within(replica.published, 5)
             # a source that brings nothing for a second isn't asked again before the others
             first = farm.top()
             wrong = follows(farm, replica, range(first, first + 30), 1.3, lambda: source.brought >= 3)
@@ -185,12 +185,12 @@ def foreign(options, top):
     theirs, others = Farm(options, top, "theirs", voters=1), Farm(options, top, "others", farm="others",
                                                                   voters=1)
     with Farm(options, top, "ours") as ours, theirs, others:
-        ours.publish_all(*range(3))
-        others.publish_all(*range(3))
-        theirs.publish_all(100)
+        ours.publish_numbers(*range(3))
+        others.publish_numbers(*range(3))
+        theirs.publish_numbers(100)
         for name, farm in (("of another farm", others), ("of fewer maps", theirs), ("of more maps", theirs)):
             if name == "of more maps":
-                theirs.publish_all(*range(101, 131))
+                theirs.publish_numbers(*range(101, 131))
             found += [f"{name}: {what}" for what in beside(ours, farm, f"beside one {name}")]
     want_none(found)
     print("foreign: one source among three of another farm, and of another history with fewer and more maps: "
@@ -200,13 +200,11 @@ def foreign(options, top):
 def beside(ours, foreign_farm, name):
     """What is wrong with a replica that has one source of another farm among three."""
     replica = ours.replica(name)
-    want("it doesn't begin", until(lambda: replica.published() == ours.top(), 20))
+    until(lambda: replica.published() == ours.top(), 20)
     replica.kill()
-    place, (first, second, _) = replica.words.index("--peers") + 1, ours.readers
-    replica.words[place] = ",".join([first, *foreign_farm.readers, second])
     replica.log.write_bytes(b"")
-    replica.start()
-    until(lambda: replica.ended() is not None, 5)
+    ask_at(replica, [ours.readers[0], *foreign_farm.readers, ours.readers[1]])
+    is_so_within(lambda: replica.ended() is not None, 5)
     top = ours.top()
     wrong = follows(ours, replica, range(top, top + 2), 1)
     if ' warn lost source=1 why="refused by it: ' not in replica.log.read_text():
@@ -221,9 +219,9 @@ def tape(options, top):
     """a replica begins with what its tape has, also with a torn, missing or damaged one, and goes on where it
     can't be written"""
     with Farm(options, top, "tape") as farm:
-        farm.publish_all(1, 2, 3)
+        farm.publish_numbers(1, 2, 3)
         replica = farm.replica("replica")
-        want("three maps didn't come", until(lambda: replica.published() == 3, 20))
+        until(lambda: replica.published() == 3, 20)
         file = replica.folder / "replica.tape"
         whole = file.read_bytes()
         replica.kill()
@@ -239,19 +237,16 @@ def tape(options, top):
 
 def begin_with(farm, replica, content, left, told):
     """Starts a replica on this tape where no source answers, and then where they do."""
-    file, place = replica.folder / "replica.tape", replica.words.index("--peers") + 1
+    file = replica.folder / "replica.tape"
     file.unlink(missing_ok=True)
     if content is not None:
         file.write_bytes(content)
     replica.log.write_bytes(b"")
-    replica.words[place] = f"127.0.0.1:{free_ports(1)[0]}"
-    replica.start()
-    want(f"not {left} maps without a source", until(lambda: replica.published() == left, 20))
+    ask_at(replica, map(loopback, free_ports(1)))
+    want(f"not {left} maps without a source", is_so_within(lambda: replica.published() == left, 20))
     want(f"no line {told}", told in replica.log.read_text())
-    replica.kill()
-    replica.words[place] = ",".join(farm.readers)
-    replica.start()
-    want("the rest doesn't come", until(lambda: replica.published() == 3, 20))
+    ask_at(replica, farm.readers)
+    want("the rest doesn't come", is_so_within(lambda: replica.published() == 3, 20))
     replica.kill()
 
 
@@ -260,9 +255,9 @@ def write_no_more(farm, replica, most):
     # (its log would be a file too, so it goes to a pipe)
     replica.start(before=UNSIGNALLED, preexec_fn=limited(most), stderr=subprocess.PIPE)
     try:
-        want("it doesn't begin", until(lambda: replica.published() == 3, 20))
-        farm.publish_all(4, 5)
-        want("it doesn't learn on", until(lambda: replica.published() == 5, 20))
+        until(lambda: replica.published() == 3, 20)
+        farm.publish_numbers(4, 5)
+        want("it doesn't learn on", is_so_within(lambda: replica.published() == 5, 20))
         want("a replica took a publish", replica.ask("/publish", map_of(9)).status == 404)
         want("not told at the operator's port", replica.metrics().get("wfarm_tape_failed") == 1)
     finally:
@@ -277,10 +272,10 @@ def chain(options, top):
         for number in range(6):
             links.append(farm.replica(f"link-{number}", sources))
             sources = links[-1].readers
-            until(lambda: links[-1].published() is not None)
+            until(lambda: links[-1].published() is not None, PATIENCE)
             time.sleep(0.5)
-        farm.publish_all(1)
-        learned = [until(lambda: link.published() == 1, 5) for link in links]
+        farm.publish_numbers(1)
+        learned = [is_so_within(lambda: link.published() == 1, 5) for link in links]
         is_told = "too far" in links[-1].log.read_text()
     print(f"chain: of six replicas in a row learned {learned.count(True)}, the last says that it is too far: "
           f"{is_told}")
@@ -326,7 +321,7 @@ def lag(options, top):
             lines.pipe(process)
         lines.start()
         for process in farm.each + replicas:
-            until(lambda: process.published() is not None)
+            until(lambda: process.published() is not None, PATIENCE)
         time.sleep(2)
         for number in range(1, count + 1):
             farm.publish_whole(draw.randrange(VOTERS), map_of(number, 2_000))
@@ -343,11 +338,9 @@ def lags_in(seen):
     """Milliseconds from the first voter's line about a sequence to each replica's."""
     first, lags, last = {}, [], collections.Counter()
     for now, process, line in seen:
-        published, learned = re.search(r" published sequence=(\d+)",
-                                       line), re.search(r" learned published=(\d+)", line)
-        if published:
+        if published := re.search(r" published sequence=(\d+)", line):
             first.setdefault(int(published[1]), now)
-        if learned:
+        if learned := re.search(r" learned published=(\d+)", line):
             came = range(last[process] + 1, int(learned[1]) + 1)
             lags += [1000 * max(0, now - first.get(sequence, now)) for sequence in came]
             last[process] = int(learned[1])
@@ -358,15 +351,11 @@ def fill(options, top):
     """a replica learns 4,096 maps of 2 KB from nothing, within ten seconds"""
     size = tape_of(options.program, top / "full.tape", MOST_MAPS)
     with Farm(options, top, "fill", top / "full.tape") as farm:
-        begun = time.monotonic()
         replica = farm.replica("replica")
-        until(lambda: replica.published() == MOST_MAPS)
-        spent = time.monotonic() - begun
+        spent = until(lambda: replica.published() == MOST_MAPS, PATIENCE)
         replica.kill()
-        begun = time.monotonic()
         replica.start()
-        until(lambda: replica.published() == MOST_MAPS)
-        again = time.monotonic() - begun
+        again = until(lambda: replica.published() == MOST_MAPS, PATIENCE)
     print(f"fill: {MOST_MAPS:,} maps of {size:,} bytes in {spent:.1f} s from nothing, in {again:.1f} s from "
           f"its tape")
     want("not within ten seconds", spent < 10)
@@ -376,14 +365,13 @@ def spent_by(processes, seconds):
     """What processes cost, in percent of a core."""
     before = [process.processor_seconds() for process in processes]
     time.sleep(seconds)
-    return [100 * (process.processor_seconds() - begun) / seconds for process,
-            begun in zip(processes, before)]
+    return [100 * (each.processor_seconds() - begun) / seconds for each, begun in zip(processes, before)]
 
 
 def rest(options, top):
     """what replicas at rest cost a voter: below two percent of a core"""
     with Farm(options, top, "rest") as farm:
-        farm.publish_all(1, 2, 3)
+        farm.publish_numbers(1, 2, 3)
         time.sleep(2)
         alone = spent_by(farm.each, 10)
         replicas = farm.some(options.replicas)
@@ -404,7 +392,7 @@ def main():
     asked.add_argument("--replicas", type=int, default=10, metavar="N", help="of `lag` and `rest` (10)")
     add_cases(asked, (case.__name__ for case in CASES))
     options = asked.parse_args()
-    return go_through(chosen(CASES, options.cases), lambda case, folder: case(options, folder))
+    return go_through(CASES, options.cases, lambda case, folder: case(options, folder))
 
 
 if __name__ == "__main__":

@@ -17,6 +17,7 @@ import sys
 import tempfile
 
 from farmkit.command import program_parser
+from farmkit.folder import contents
 from farmkit.processes import UNSIGNALLED, Farm, limited, serve_words
 from farmkit.trial import Trial
 from farmkit.web import CAPABILITIES
@@ -32,10 +33,6 @@ def square(size, inside):
     white = b"\xff\xff\xff"
     rows = [[inside if 1 <= x <= 2 and 1 <= y <= 2 else white for x in range(size)] for y in range(size)]
     return b"P6\n%d %d\n255\n" % (size, size) + b"".join(b"".join(row) for row in rows)
-
-
-def tapes(folder):
-    return {path.name: path.read_bytes() for path in folder.iterdir()}
 
 
 def three_nodes(seen, program, folder):
@@ -103,12 +100,12 @@ def rejections(seen, program, folder):
     shutil.copy(other / "node-1.tape", copy / "node-1.tape")
     differ = f'cause="tapes differ" file="{copy}/node-0.tape" other="{copy}/node-1.tape" sequence=1'
     for place, nodes, cause in ((folder, 5, "one of 3 nodes"), (copy, 3, differ)):
-        before = tapes(place)
+        before = contents(place)
         status, printed, lines = start(program, place, nodes, log=True)
         told = [line for line in lines.splitlines() if " error fault cause=" in line]
         seen.same(cause, (status, printed, lines.splitlines()[-1:], cause in "".join(told), len(told)),
                   (1, "", ["serve fault"], True, 1))
-        seen.same("the files", tapes(place), before)
+        seen.same("the files", contents(place), before)
 
 
 def beginnings(seen, program, folder):
@@ -150,7 +147,7 @@ def files_that_cannot_grow(seen, program, folder):
     """The signal ends the program; without the signal a publish is answered 503."""
     copy = copied(folder, "limited")
     start(program, copy)  # shortens the tapes
-    most = max(len(tape) for tape in tapes(copy).values()) + 20
+    most = max(map(len, contents(copy).values())) + 20
     farm = Farm(program, 3, copy, preexec_fn=limited(most))
     farm.ask("/publish", (MAP % "9 9 9").encode())
     seen.same("the signal ends the program", farm.process.wait(timeout=20), -signal.SIGXFSZ)

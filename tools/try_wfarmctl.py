@@ -15,6 +15,7 @@ import subprocess
 import sys
 import tempfile
 import time
+from unittest import mock
 
 from farmkit import trial
 from farmkit.command import add_slack, program_parser
@@ -23,9 +24,22 @@ from farmkit.mapfiles import canonical
 from farmkit.nodes import Nodes
 from farmkit.processes import Replica
 from farmkit.repository import EXAMPLES
+from farmkit.web import Listener
 
 MAP = ('MAP NAME "{}" EXTENT 0 0 4 4 PROJECTION "init=epsg:3857" END '
        'WEB METADATA "wms_title" "{}" END END END\n')
+
+
+class Stranger(Listener):
+    """A port at which something else answers."""
+
+    def __init__(self, said):
+        self.said = said
+        super().__init__()
+
+    def serve(self, client):
+        client.recv(1 << 16)
+        client.sendall(self.said)
 
 
 class Trial(trial.Trial):
@@ -41,6 +55,14 @@ class Trial(trial.Trial):
         write_nodes(file, nodes.each)
         self.readers = ",".join(nodes.readers)
         return nodes.each, file
+
+    def start(self, nodes=None):
+        for node in nodes or self.nodes:
+            node.start()
+
+    def kill(self, nodes=None):
+        for node in nodes or self.nodes:
+            node.kill()
 
     def map(self, name, title=""):
         path = self.folder / f"{name}.map"
@@ -67,8 +89,7 @@ class Trial(trial.Trial):
 
 
 def try_well(trial):
-    for node in trial.nodes:
-        node.start()
+    trial.start()
     trial.wait("status: a new farm is well", lambda: trial.call("status")[0] == 0)
     told = trial.call("status")[1]
     trial.see("status: a head and a line per node, each ok",
@@ -96,8 +117,7 @@ def try_well(trial):
     trial.tells("map: the same as before", "map", 3, out=trial.canonical(first))
     trial.wait("all nodes have it", lambda: trial.all_at(3))
     trial.tells("replace: a node that the farm hasn't", "replace", 7, code=1, error="the farm has no node 7")
-    trial.tells("replace: one that doesn't join", "replace", 2, code=1,
-                error="node 2 doesn't join: it serves")
+    trial.tells("replace: one that doesn't join", "replace", 2, code=1, error="doesn't join: it serves")
     try_history(trial)
     try_file_of_nodes(trial)
 
@@ -110,6 +130,9 @@ def try_history(trial):
     length = str(len(trial.canonical(trial.folder / "second.map")))
     trial.see("history: sequence, bytes, name and title",
               lines[2:3] == [["2", length, "second", "another", "title"]], told)
+    told = trial.call("history", "--log", trial.nodes[0].log)[1]
+    trial.see("history: when, by the log of the node that took the maps",
+              len(re.findall(r"(?m)^ +[123] 20\d\d-\d\d-\d\dT\d\d:\d\d:\d\dZ +\d+ ", told)) == 3, told)
     code, told, error = trial.call("status", "-o", "json")
     read = json.loads(told) if code == 0 else {"processes": [{}]}
     trial.see("status: as JSON", (read.get("well"), read.get("published"), read.get("left"),
@@ -127,8 +150,8 @@ def try_export(trial):
     folder = trial.folder / "export"
     trial.tells("export: all maps", "export", folder, out=f"exported 3 maps to {folder}\n")
     files = sorted(folder.glob("*.map"))
-    trial.see("export: a file each", [file.read_text() for file in files] == [trial.call("map", at)[1]
-                                                                              for at in (1, 2, 3)], files)
+    maps = [trial.call("map", at)[1] for at in (1, 2, 3)]
+    trial.see("export: a file each", [file.read_text() for file in files] == maps, files)
     trial.tells("verify: an export", "verify", folder, out=f"{folder}: whole, published 3\n")
     (folder / "0003.map").unlink(missing_ok=True)
     trial.tells("verify: one that lacks a map", "verify", folder,
@@ -137,12 +160,12 @@ def try_export(trial):
               and sorted(folder.glob("*.map")) == files != [])
     second = folder / "0002.map"
     second.parent.mkdir(exist_ok=True)
-    second.write_text(trial.call("map", 1)[1])
+    second.write_text(maps[0])
     trial.tells("export: never beside another farm's maps", "export", folder,
                 code=1, error="0002.map: not the farm's map of sequence 2")
     trial.tells("verify: a map that was changed", "verify", folder,
                 code=1, error="the map of sequence 2 isn't the one that was exported")
-    second.write_text(trial.call("map", 2)[1])
+    second.write_text(maps[1])
 
 
 def try_file_of_nodes(trial):
@@ -163,6 +186,26 @@ def try_file_of_nodes(trial):
         took = time.monotonic() - begun
     trial.see("status: four silent hosts at once, two seconds", told.count(" ok\n") == 3
               and told.count("unreachable") == 4 and took < 4 + trial.slack, (took, told))
+
+
+def try_strangers(trial):
+    """Addresses at which no farm answers, and a proxy that the environment names."""
+    file = trial.folder / "strangers.nodes"
+    for said in (b"SSH-2.0-OpenSSH_9.2\r\n", b"HTTP/1.1 200 OK\r\nContent-Length: 99\r\n\r\ncut",
+                 b"HTTP/1.1 503 No\r\nContent-Length: 99\r\n\r\ncut", b"HTTP/1.1 200 OK\r\n\r\n\xff\n<html>"):
+        stranger = Stranger(said)
+        file.write_text(f"127.0.0.1:{stranger.port} 127.0.0.1:{stranger.port}\n")
+        for words in (["status"], ["history"], ["publish", trial.map("stray")]):
+            code, _, error = trial.call(*words, file=file, seconds=1)
+            trial.see(f"{words[0]}: one line where {said[:12]} answers",
+                      code == 1 and re.fullmatch("wfarmctl: .+\n", error), error)
+        stranger.end()
+    for address in ("127.0.0.1", "127.0.0.1:80a", "127.0.0.1:99999"):
+        file.write_text(f"{address} 127.0.0.1:1\n")
+        trial.tells(f"status: {address} is no address", "status", file=file, code=1,
+                    error="not a line per node with two addresses")
+    with mock.patch.dict("os.environ", http_proxy="http://127.0.0.1:1"):
+        trial.see("status: no proxy is asked", trial.call("status")[0] == 0)
 
 
 def try_replica(trial):
@@ -206,11 +249,12 @@ def try_failures(trial):
     trial.wait("the map is published once the majority is back", lambda: trial.all_at(6, trial.nodes[1:]))
     first.start()
     trial.wait("once, and everywhere", lambda: trial.all_at(6))
-    for node in trial.nodes:
-        node.kill()
+    trial.kill()
+    read = json.loads(trial.call("status", "-o", "json")[1])
+    trial.see("status: as JSON, what isn't known where no node answers",
+              (read["well"], read["published"], read["left"]) == (False, None, None), read)
     trial.tells("publish: no node", "publish", trial.map("seventh"), seconds=2, code=1, error="not published")
-    for node in trial.nodes:
-        node.start()
+    trial.start()
     trial.wait("status: well again", lambda: trial.call("status")[0] == 0)
 
 
@@ -243,8 +287,7 @@ def try_full(trial):
     trial.tells("publish: two of three", "publish", trial.map("eighth"), out="published 7 at node 0\n")
     trial.wait("status: the node whose tape can't grow is halted",
                lambda: trial.call("status")[1].splitlines()[3].endswith(" halted"))
-    resource.prlimit(node.running().pid, resource.RLIMIT_FSIZE,
-                     (resource.RLIM_INFINITY, resource.RLIM_INFINITY))
+    resource.prlimit(node.running().pid, resource.RLIMIT_FSIZE, 2 * (resource.RLIM_INFINITY,))
     trial.wait("status: with more room it is well by itself", lambda: trial.call("status")[0] == 0)
 
 
@@ -253,10 +296,8 @@ def try_copy(trial):
     source, part, export = trial.nodes[1], trial.folder / "part", trial.folder / "export"
     maps = [trial.call("map", sequence)[1] for sequence in range(1, source.published() + 1)]
     trial.tells("export: what came since", "export", export, out=f"exported {len(maps)} maps to {export}\n")
-    shutil.copytree(export, part, ignore=lambda _,
-                    names: [name for name in names if name == "history" or name > "0002.map"])
-    for node in (trial.nodes[0], trial.nodes[2]):
-        node.kill()
+    shutil.copytree(export, part, ignore=shutil.ignore_patterns("history", "000[3-9].map", "00[1-9]?.map"))
+    trial.kill(trial.nodes[::2])
     copy_to(trial, "second", source.operator, maps)
     source.kill()
     copy_to(trial, "third", source.folder, maps)
@@ -268,8 +309,7 @@ def try_copy(trial):
 
 def copy_to(trial, name, source, maps, first=None):
     nodes, file = trial.farm(name)
-    for node in nodes:
-        node.start()
+    trial.start(nodes)
     trial.wait(f"a new farm {name}", lambda: trial.call("status", file=file)[0] == 0)
     if first is not None:
         trial.tells("copy: the first maps", "copy", first, file, out="copied 2 maps\n")
@@ -286,8 +326,7 @@ def copy_to(trial, name, source, maps, first=None):
     if first is not None:
         trial.tells("copy: never onto a farm that has other maps", "copy", first, file,
                     code=1, error="has published maps already")
-    for node in nodes:
-        node.kill()
+    trial.kill(nodes)
 
 
 def try_verify(trial):
@@ -315,8 +354,7 @@ def try_changed(trial):
     tape.write_bytes(tape.read_bytes().replace(b"another title", b"Another title"))
     trial.tells("verify: histories that differ", "verify", *(each.folder for each in trial.nodes), code=1,
                 error=f"the histories of {trial.nodes[0].tape} and {tape} differ from sequence 2 on")
-    for each in trial.nodes[:2]:
-        each.start()
+    trial.start(trial.nodes[:2])
     trial.wait("two of three nodes", lambda: trial.all_at(7, trial.nodes[:2]))
     node.start()
     trial.wait("a node whose tape was changed doesn't start", lambda: node.process.poll() == 1)
@@ -350,8 +388,8 @@ def try_words(trial):
               ended.stdout in ("0\n", "1\n") and ended.stderr == "", ended)
 
 
-TRIALS = (try_well, try_replica, try_failures, try_suspended, try_full, try_copy, try_verify, try_changed,
-          try_words)
+TRIALS = (try_well, try_strangers, try_replica, try_failures, try_suspended, try_full, try_copy, try_verify,
+          try_changed, try_words)
 
 
 def main():
@@ -364,8 +402,7 @@ def main():
             for attempt in TRIALS:
                 attempt(seen)
         finally:
-            for node in seen.nodes:
-                node.kill()
+            seen.kill()
     return seen.conclude()
 
 

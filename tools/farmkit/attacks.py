@@ -33,6 +33,14 @@ def silent(peer: socket.socket, _: random.Random) -> None:
     drain(peer)
 
 
+def send(peer: socket.socket, data: bytes, ends: bool = True) -> None:
+    """Sends bytes, and ends behind them or stays."""
+    peer.sendall(data)
+    if ends:
+        peer.shutdown(socket.SHUT_WR)
+    drain(peer)
+
+
 def pieces(peer: socket.socket, data: bytes, pause: float = 0.005) -> None:
     """Sends a byte at a time."""
     peer.setsockopt(socket.IPPROTO_TCP, socket.TCP_NODELAY, 1)
@@ -44,10 +52,7 @@ def pieces(peer: socket.socket, data: bytes, pause: float = 0.005) -> None:
 
 def part(peer: socket.socket, draw: random.Random, data: bytes) -> None:
     """Sends a beginning, and ends or stays silent."""
-    peer.sendall(data[:draw.randrange(1, len(data))])
-    if draw.random() < 0.5:
-        peer.shutdown(socket.SHUT_WR)
-    drain(peer)
+    send(peer, data[:draw.randrange(1, len(data))], draw.random() < 0.5)
 
 
 # ---- at a clients' or an operator's port
@@ -62,34 +67,26 @@ def trickling(peer: socket.socket, _: random.Random) -> None:
 
 def staying(peer: socket.socket, draw: random.Random) -> None:
     """Its answer is read, and the connection stays open."""
-    peer.sendall(draw.choice((b"GET /x HTTP/1.1\r\n\r\n",
-                              b"POST /publish HTTP/1.1\r\nContent-Length: 200000\r\n\r\n",
-                              b"\x16\x03\x01\r\n\r\n")))
-    drain(peer)
+    send(peer, draw.choice((b"GET /x HTTP/1.1\r\n\r\n", b"\x16\x03\x01\r\n\r\n",
+                            b"POST /publish HTTP/1.1\r\nContent-Length: 200000\r\n\r\n")), ends=False)
 
 
 def cut(peer: socket.socket, draw: random.Random) -> None:
     whole = draw.choice((GOOD, b"POST /publish HTTP/1.1\r\nContent-Length: 200\r\n\r\n" + MAP))
-    peer.sendall(whole[:draw.randrange(1, len(whole))])
-    peer.shutdown(socket.SHUT_WR)
-    drain(peer)
+    send(peer, whole[:draw.randrange(1, len(whole))])
 
 
 def oversized(peer: socket.socket, draw: random.Random) -> None:
-    peer.sendall(draw.choice((
+    send(peer, draw.choice((
         b"GET /" + b"x" * draw.choice((8_193, 1 << 20)) + b" HTTP/1.1\r\n\r\n",
         b"GET /status HTTP/1.1\r\n" + b"a: b\r\n" * draw.choice((33, 2_000)) + b"\r\n",
         b"GET /status HTTP/1.1\r\n" + b"a: " + b"b" * 9_000 + b"\r\n\r\n",
         b"POST /publish HTTP/1.1\r\nContent-Length: 131073\r\n\r\n" + b" " * 131_073,
         b"POST /publish HTTP/1.1\r\nContent-Length: 99999999999999999999\r\n\r\n" + b"MAP " * 50_000)))
-    peer.shutdown(socket.SHUT_WR)
-    drain(peer)
 
 
 def pipelined(peer: socket.socket, draw: random.Random) -> None:
-    peer.sendall(GOOD * draw.choice((2, 100, 10_000)))
-    peer.shutdown(socket.SHUT_WR)
-    drain(peer)
+    send(peer, GOOD * draw.choice((2, 100, 10_000)))
 
 
 def resetting(peer: socket.socket, draw: random.Random) -> None:
@@ -101,17 +98,14 @@ def resetting(peer: socket.socket, draw: random.Random) -> None:
 def binary(peer: socket.socket, draw: random.Random) -> None:
     """Random bytes, or a request with some in it."""
     noise = draw.randbytes(draw.choice((1, 100, 5_000, 200_000)))
-    peer.sendall(draw.choice((noise, GOOD[:4] + noise[:3_000] + GOOD[4:],
-                              b"POST /publish HTTP/1.1\r\nContent-Length: %d\r\n\r\n" % len(noise) + noise)))
-    peer.shutdown(socket.SHUT_WR)
-    drain(peer)
+    send(peer, draw.choice((noise, GOOD[:4] + noise[:3_000] + GOOD[4:],
+                            b"POST /publish HTTP/1.1\r\nContent-Length: %d\r\n\r\n" % len(noise) + noise)))
 
 
 def no_map(peer: socket.socket, draw: random.Random) -> None:
     """A publish of a whole body that is no map."""
     body = MAP.replace(b"LAYER", draw.choice((b"LAYERS", b"INCLUDE", b"END", b"\xff", b'"')))
-    peer.sendall(b"POST /publish HTTP/1.1\r\nContent-Length: %d\r\n\r\n" % len(body) + body)
-    drain(peer)
+    send(peer, b"POST /publish HTTP/1.1\r\nContent-Length: %d\r\n\r\n" % len(body) + body, ends=False)
 
 
 CLIENTS: tuple[Attack, ...] = (cut, oversized, pipelined, resetting, binary, no_map)
@@ -121,12 +115,12 @@ SLOW: dict[Attack, int] = {silent: 64, trickling: 64, staying: 32}
 def operators(peer: socket.socket, draw: random.Random) -> None:
     """Requests that an operator's port takes, with numbers and words that they don't have."""
     number = draw.choice((b"-1", b"4097", b"99999999999999999999", b"x", b"", b"%00"))
-    peer.sendall(draw.choice((
+    asked = draw.choice((
         b"GET /map?seq=" + number, b"GET /history?from=" + number, b"GET " + CAPABILITIES.encode(),
         b"POST /replace/ask?node=" + number + b"&count=1&mark=" + b"0" * 32,
         b"POST /replace/agree?node=0&count=" + number + b"&mark=" + b"0" * draw.choice((31, 32, 33)),
-        b"POST /replace/begin?count=" + number)) + b" HTTP/1.1\r\nContent-Length: 0\r\n\r\n")
-    drain(peer)
+        b"POST /replace/begin?count=" + number))
+    send(peer, asked + b" HTTP/1.1\r\nContent-Length: 0\r\n\r\n", ends=False)
 
 
 # ---- at a node's port for peers, and at one for readers
@@ -144,8 +138,8 @@ class Strangers:
         pieces(peer, self.whole(draw))
 
     def noise(self, peer: socket.socket, draw: random.Random) -> None:
-        peer.sendall(draw.choice((GOOD, bytes(200), draw.randbytes(5_000), self.whole(draw)[:8] * 1_000)))
-        drain(peer)
+        send(peer, draw.choice((GOOD, bytes(200), draw.randbytes(5_000), self.whole(draw)[:8] * 1_000)),
+             ends=False)
 
 
 class Peers(Strangers):
@@ -169,20 +163,18 @@ class Peers(Strangers):
 
     def replaced(self, peer: socket.socket, draw: random.Random) -> None:
         """64 nodes were replaced, or more than a farm has."""
-        peer.sendall(draw.choice((self.rejected(draw, 64), self.own[:131] + b"\x41" + draw.randbytes(1_400),
-                                  self.own[:131] + b"\xff" + draw.randbytes(6_000))))
-        drain(peer)
+        send(peer, draw.choice((self.rejected(draw, 64), self.own[:131] + b"\x41" + draw.randbytes(1_400),
+                                self.own[:131] + b"\xff" + draw.randbytes(6_000))), ends=False)
 
     def behind(self, peer: socket.socket, draw: random.Random) -> None:
         """It is let in, and then comes what is no message."""
         let_in = self.own[:60] + next(self.starts).to_bytes(4, "big") + self.own[64:]
         whole = record(1, b"\0\2" + (9).to_bytes(4, "big") + b"\2")
-        peer.sendall(let_in + draw.choice((
+        send(peer, let_in + draw.choice((
             whole[:draw.randrange(1, len(whole))], whole[:2] + TOO_LONG.to_bytes(4, "big") + bytes(200_000),
             whole[:2] + b"\xff" * 4, record(99, b"nothing"), b"\x09" + whole[1:],
             record(1, b"\0\2" + bytes(5)), draw.randbytes(200_000),
-            record(3, b"\0\2" + (9).to_bytes(4, "big") + b"\2MAP"))))
-        drain(peer)
+            record(3, b"\0\2" + (9).to_bytes(4, "big") + b"\2MAP"))), ends=False)
 
 
 class Readers(Strangers):
@@ -201,10 +193,9 @@ class Readers(Strangers):
     def other(self, peer: socket.socket, draw: random.Random) -> None:
         """Of another farm or version, with another history, or further on than anybody."""
         whole = self.question()
-        peer.sendall(draw.choice((whole[:10] + b"other" + whole[15:], whole[:8] + b"\0\2" + whole[10:],
-                                  self.question(1, draw.randbytes(32)), self.question(4_096),
-                                  self.question(65_535, draw.randbytes(32)))))
-        drain(peer)
+        send(peer, draw.choice((whole[:10] + b"other" + whole[15:], whole[:8] + b"\0\2" + whole[10:],
+                                self.question(1, draw.randbytes(32)), self.question(4_096),
+                                self.question(65_535, draw.randbytes(32)))), ends=False)
 
     def many(self, peer: socket.socket, _: random.Random) -> None:
         """Many questions, whose replies nobody reads."""

@@ -7,7 +7,7 @@ import re
 import time
 from collections.abc import Iterator, Sequence
 
-from farmkit.folder import File, Folder
+from farmkit.folder import File, Folder, contents
 
 # those that are followed, and those that would change a file in a way that nothing here follows
 FOLLOWED = ("open openat creat close lseek write fsync fdatasync rename renameat renameat2 unlink unlinkat "
@@ -212,7 +212,7 @@ class Follower:
 
     def end(self) -> None:
         """Compares the model with the folder; the call that the program ended in was done, or it wasn't."""
-        real = {path.name: path.read_bytes() for path in pathlib.Path(self.path).iterdir()}
+        real = contents(self.path)
         if self.folder.contents() != real and self.doubtful is not None:
             self.finish(self.doubtful)
         if self.folder.contents() != real:

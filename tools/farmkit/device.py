@@ -11,6 +11,7 @@ import threading
 from collections.abc import Callable
 
 from farmkit.command import lacks
+from farmkit.processes import run
 
 # what the kernel asks a file system for, by their numbers in linux/fuse.h, as are all forms below
 LOOKUP, FORGET, GETATTR, SETATTR, OPEN, READ, WRITE = 1, 2, 3, 4, 14, 15, 16
@@ -152,10 +153,6 @@ class Mounted:
             os.close(self.channel)
 
 
-def run(*words: str) -> str:
-    return subprocess.run(words, check=True, capture_output=True, text=True).stdout.strip()
-
-
 class Machine:
     """A mounted disk with ext4, where a rename doesn't write out the file (`noauto_da_alloc`)."""
 
@@ -167,7 +164,7 @@ class Machine:
         self.mounted = Mounted(self.disk, self.below)
         self.loop: str | None = None
         try:
-            self.loop = run("losetup", "--find", "--show", str(self.below / "disk"))
+            self.loop = run("losetup", "--find", "--show", str(self.below / "disk")).strip()
             run("mount", "-t", "ext4", "-o", "noauto_da_alloc", self.loop, str(self.folder))
         except subprocess.CalledProcessError:
             self.stop()

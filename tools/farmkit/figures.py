@@ -38,8 +38,7 @@ def differing_rows(every: list[Document]) -> Iterator[str]:
                 continue
             other, before = seen.setdefault((heads, cells[0]), (document, cells))
             if before != cells and other is not document:
-                yield (f"{document.name}: {' | '.join(cells)}; "
-                       f"{other.name} has {' | '.join(before)}")
+                yield f"{document.name}: {' | '.join(cells)}; {other.name} has {' | '.join(before)}"
 
 
 def differing_names(every: list[Document]) -> Iterator[str]:

@@ -5,8 +5,25 @@ was made, or a file that was renamed, may be back as it was before until the fol
 a sync of the file alone settles nothing of its names.
 """
 
+import pathlib
 import random
 from collections.abc import Callable, Mapping
+
+
+Files = dict[str, bytes]
+
+
+def contents(path: str | pathlib.Path) -> Files:
+    """The files of a real folder."""
+    return {file.name: file.read_bytes() for file in pathlib.Path(path).iterdir()}
+
+
+def put(path: str | pathlib.Path, files: Files) -> None:
+    """Puts these files into a real folder, in place of its own."""
+    for file in pathlib.Path(path).iterdir():
+        file.unlink()
+    for name, content in files.items():
+        (pathlib.Path(path) / name).write_bytes(content)
 
 
 class File:

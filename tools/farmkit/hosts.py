@@ -1,22 +1,13 @@
-"""Hosts on one machine: network namespaces on a bridge, whose links may be silent, and nodes on them.
+"""Hosts on one machine: network namespaces on a bridge, whose links may be silent.
 
 Wants root, iproute2 and nftables.
 """
 
-import pathlib
 import subprocess
 from collections.abc import Iterable
 
 from farmkit.command import lacks
-from farmkit.processes import UNSIGNALLED, Node
-
-# where a host's programs listen: for nodes, for clients, for operators
-PEERS, CLIENTS, OPERATOR = 7000, 8080, 9090
-
-
-def run(*words: str, check: bool = True) -> str:
-    """Runs a command; what it writes."""
-    return subprocess.run(words, check=check, capture_output=True, text=True).stdout
+from farmkit.processes import run
 
 
 def missing(number: int) -> list[str]:
@@ -85,14 +76,3 @@ class Host:
 
     def inside(self, *words: str) -> str:
         return run(*self.entering, *words)
-
-
-class HostedNode(Node):
-    """A node on a host of its own."""
-
-    def __init__(self, host: Host, folder: pathlib.Path, program: str, hosts: Iterable[Host],
-                 farm: str) -> None:
-        self.host = host
-        super().__init__(program, host.number, folder, ",".join(each.at(PEERS) for each in hosts),
-                         host.at(CLIENTS), host.at(OPERATOR), before=[*host.entering, *UNSIGNALLED])
-        self.init(farm)

@@ -125,20 +125,17 @@ def undefined(line: str, crates: list[str], words: set[str]) -> Iterator[str]:
 def missing() -> Iterator[tuple[str, int, str, str]]:
     """Each name in the documents that isn't there, with the document and the line."""
     every = {it: Crate(it) for it in dependencies()}
-    words = OUTER | set(every) | {it for names in dependencies().values() for it in names}
-    words |= {low for line in (TOP / "crates.txt").read_text().splitlines()
-              for low in re.findall(r"\w+", line)}
-    words = words.union(*(it.words for it in every.values()))
+    crates_used = set(every).union(*dependencies().values())
+    words = (OUTER | crates_used).union(*(it.words for it in every.values()))
     proved = (TOP / "docs" / "PROVED.md").read_text(encoding="utf-8")
-    named = set(re.findall(r"\w+", " ".join(MARK.findall(proved))))
-    for name in sorted((set(every) | {it for names in dependencies().values() for it in names}) - named):
+    for name in sorted(crates_used - set(re.findall(r"\w+", " ".join(MARK.findall(proved))))):
         if not name.startswith("wf_test_"):
             yield "PROVED", 0, name, "isn't named there"
     for document in DOCUMENTS:
         crates: list[str] = []
         calls = is_code = False
-        for number, line in enumerate((TOP / "docs"
-                                       / f"{document}.md").read_text(encoding="utf-8").splitlines(), 1):
+        text = (TOP / "docs" / f"{document}.md").read_text(encoding="utf-8")
+        for number, line in enumerate(text.splitlines(), 1):
             is_code ^= line.startswith("```")
             if is_code or line.startswith("#"):
                 crates = []

@@ -107,17 +107,13 @@ class Nodes:
         """Waits until a node answers: each peer answered it, closed, or was silent for three seconds."""
         until(lambda: self.published(i) >= 0)
 
-    def pause(self, *those: int) -> None:
-        for i in those:
-            self[i].pause()
-
-    def go_on(self, *those: int) -> None:
-        for i in those:
-            self[i].go_on()
-
     def kill(self, *those: int) -> None:
         for i in those:
             self[i].kill()
+
+    def restart(self, i: int) -> None:
+        self.kill(i)
+        self.start(i)
 
     def kill_all(self) -> None:
         for node in self.each:
@@ -130,6 +126,13 @@ class Nodes:
         until(lambda: self[i].ended() is not None)
         return self[i].ended(), self[i].last_line()
 
+    def beside(self, i: int, folder: pathlib.Path, *more: str) -> Node:
+        """Another process of a node, on this folder and at ports of its own."""
+        http, admin, listen = map(loopback, free_ports(3))
+        made = Node(self.program, i, folder, ",".join(map(loopback, self.peer)), http, admin)
+        made.words += [*more, "--listen", listen]
+        return made
+
     def put(self, i: int, folder: pathlib.Path | None = None) -> None:
         """Puts a copy of a folder in a node's place, or nothing: from now on it may tell less than before."""
         shutil.rmtree(self[i].folder, ignore_errors=True)
@@ -138,8 +141,7 @@ class Nodes:
         self[i].life += 1
 
     def end(self) -> None:
-        for node in self.each:
-            node.kill()
+        self.kill_all()
         for writer in self.writers:
             writer.wait()
 
@@ -176,6 +178,12 @@ class Nodes:
         before = self.published(i)
         until(lambda: self.publish(i, text) == 202)
         until(lambda: before < self.published(i))
+
+    def publish_all(self, *texts: bytes) -> None:
+        """Publishes maps at the first node, until all nodes have them."""
+        for text in texts:
+            self.publish_whole(0, text)
+        self.level()
 
     def published(self, i: int) -> int:
         """A node's published sequence; -1 if it doesn't answer."""

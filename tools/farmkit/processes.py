@@ -42,6 +42,11 @@ def free_ports(count: int) -> list[int]:
     return ports
 
 
+def run(*words: str, check: bool = True) -> str:
+    """Runs a command; what it writes."""
+    return subprocess.run(words, check=check, capture_output=True, text=True).stdout
+
+
 def end(process: "subprocess.Popen[Any]") -> None:
     """Ends a process by SIGKILL, also one that is stopped, and waits for it."""
     process.kill()
@@ -81,9 +86,9 @@ def limited(most: int) -> Callable[[], None]:
 # ---- wfarm serve
 
 def serve_words(program: str | pathlib.Path, requests: int, folder: str | pathlib.Path | None, nodes: int = 3,
-                port: int = 0, log: bool = False) -> list[str]:
+                log: bool = False) -> list[str]:
     """The command line of a farm in one process."""
-    words = [str(program), "serve", "--nodes", str(nodes), "--port", str(port), "--requests", str(requests)]
+    words = [str(program), "serve", "--nodes", str(nodes), "--port", "0", "--requests", str(requests)]
     words += ["--log"] if log else []
     return words if folder is None else words + ["--state", str(folder)]
 
@@ -254,15 +259,12 @@ class Service:
                         process.start()
                         self.restarts += 1
 
-    def end(self) -> None:
-        self.over.set()
-        self.thread.join()
-
     def __enter__(self) -> "Service":
         return self
 
     def __exit__(self, *_: object) -> None:
-        self.end()
+        self.over.set()
+        self.thread.join()
 
 
 class Replica(Process):

@@ -17,9 +17,9 @@ def built(crate: str) -> pathlib.Path:
     return TOP / "crates" / crate / "out" / crate
 
 
-def git(*words: str | pathlib.Path, top: pathlib.Path = TOP) -> str:
+def git(*words: str | pathlib.Path) -> str:
     """What a git command prints; an error of git ends the program with git's own words."""
-    ran = subprocess.run(["git", "-C", top, *words], capture_output=True, text=True)
+    ran = subprocess.run(["git", "-C", TOP, *words], capture_output=True, text=True)
     if ran.returncode:
         sys.exit(ran.stderr.strip())
     return ran.stdout

@@ -13,7 +13,7 @@ from collections import Counter
 from collections.abc import Sequence
 
 from farmkit.calls import Follower, Call, Watcher, calls, traced
-from farmkit.folder import Folder, drawn, extremes
+from farmkit.folder import Files, Folder, contents, drawn, extremes, put
 from farmkit.ledger import MOST_VIOLATIONS
 from farmkit.mapfiles import map_of
 from farmkit.nodes import NODES, Nodes
@@ -21,8 +21,6 @@ from farmkit.processes import end, free_ports
 from farmkit.tapes import PUBLISHED, records, tape_of
 from farmkit.wanted import until
 from farmkit.web import loopback
-
-Files = dict[str, bytes]
 
 MAPS = 3
 # how long a start may take until it has come as far as is wanted
@@ -33,24 +31,13 @@ OPENED = re.compile(r"opened (?:node=0 )?published=([0-9]+)")
 STARTS = re.compile(rb"^starts ([0-9a-f]{8})$", re.MULTILINE)
 
 
-def contents(path: str | pathlib.Path) -> Files:
-    return {file.name: file.read_bytes() for file in pathlib.Path(path).iterdir()}
-
-
-def put(path: str | pathlib.Path, files: Files) -> None:
-    for file in pathlib.Path(path).iterdir():
-        file.unlink()
-    for name, content in files.items():
-        (pathlib.Path(path) / name).write_bytes(content)
-
-
 def is_unsynced(folder: Folder) -> bool:
     return folder.changes != [] or any(file.changes for file in folder.names.values())
 
 
-def new_folder(above: str, name: str = "state") -> str:
+def new_folder(above: str) -> str:
     """An empty folder that is there after a power cut."""
-    path = os.path.join(os.path.realpath(above), name)
+    path = os.path.join(os.path.realpath(above), "state")
     os.mkdir(path)
     handle = os.open(above, os.O_RDONLY)
     os.fsync(handle)

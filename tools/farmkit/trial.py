@@ -33,14 +33,11 @@ class Trial:
         return int(bool(self.wrong))
 
 
-def chosen(cases: Iterable[Callable[..., Any]], names: Sequence[str]) -> list[Callable[..., Any]]:
-    return [case for case in cases if not names or case.__name__ in names]
-
-
-def go_through(cases: Sequence[Callable[..., Any]],
+def go_through(every: Iterable[Callable[..., Any]], names: Sequence[str],
                attempt: Callable[[Callable[..., Any], pathlib.Path], str | None]) -> int:
-    """Tries each case in a folder of its own: prints what it saw or what was wrong. The status."""
-    failed = 0
+    """Tries the cases of these names, or all, each in a folder of its own: prints what it saw or what was
+    wrong. The status."""
+    failed, cases = 0, [case for case in every if not names or case.__name__ in names]
     for case in cases:
         with tempfile.TemporaryDirectory(prefix="wfarm-case-") as folder:
             try:

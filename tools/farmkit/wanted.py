@@ -20,6 +20,11 @@ def want_none(wrong: Sequence[str]) -> None:
     want("; ".join(wrong), not wrong)
 
 
+def unless(is_so: object, what: str) -> list[str]:
+    """What is wrong where it isn't so."""
+    return [] if is_so else [what]
+
+
 def seconds_until(is_so: Callable[[], object], seconds: float = PATIENCE,
                   pause: float = 0.01) -> float | None:
     """The seconds until it is so; None where it isn't in that time."""

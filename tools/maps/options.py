@@ -47,6 +47,11 @@ def distance(text):
     raise argparse.ArgumentTypeError(f"{text!r} isn't a distance in metres")
 
 
+def parser_of(document):
+    """A parser whose help is the tool's docstring."""
+    return argparse.ArgumentParser(description=document, formatter_class=argparse.RawDescriptionHelpFormatter)
+
+
 def add_common(parser):
     """Adds the options of the map that both tools have."""
     parser.add_argument("--digits", type=whole(0, 6), help="digits after the point of a coordinate (6 in degrees, 1 in metres)")

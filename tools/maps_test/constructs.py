@@ -4,7 +4,10 @@ lines of constructs.txt."""
 import re
 from pathlib import Path
 
-from .case import TOOLS, Case
+from farmkit.documents import Document
+
+from .case import Case
+from .keywords import PAGE
 
 CARRIED, CHANGED, LEFT_OUT, IDLE = "carried", "changed", "left out", "without effect"
 SYMBOLS = ('SYMBOL NAME dot TYPE ELLIPSE FILLED TRUE POINTS 1 1 END END SYMBOL NAME "lines" TYPE HATCH END '
@@ -83,16 +86,9 @@ CASES = [construct(*key, text) for key, text in MADE.items()]
 
 def table_of_the_page(folder, program, keep):
     """The page's table has each construct where it is tried, and no other."""
-    lines = (TOOLS.parent / "docs/MAPFILES.md").read_text(encoding="utf-8").splitlines()
-    start = next((i for i, line in enumerate(lines) if line.startswith("| Block | Carried |")), None)
-    if start is None:
-        return "docs/MAPFILES.md has no such table"
-    found = {}
-    for line in lines[start + 2 :]:
-        if not line.startswith("|"):
-            break
-        block, *cells = (cell.strip() for cell in line.strip("|").split("|"))
-        for fate, cell in zip((CARRIED, CHANGED, LEFT_OUT, IDLE), cells):
-            found.update({(block, fate, name.strip(" .")): True for name in cell.split(",") if name.strip(" .-")})
-    wrong = sorted(set(MADE) ^ set(found))
+    rows = [cells for heads, cells in Document(PAGE).rows() if heads[:1] == ("Carried",)]
+    found = {(block, fate, name.strip(" .")) for block, *cells in rows
+             for fate, cell in zip((CARRIED, CHANGED, LEFT_OUT, IDLE), cells)
+             for name in cell.split(",") if name.strip(" .-")}
+    wrong = sorted(set(MADE) ^ found)
     return f"{len(wrong)} constructs are tried or written alone: {wrong[:9]}" if wrong else None

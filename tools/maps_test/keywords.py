@@ -3,8 +3,10 @@
 import re
 import subprocess
 
-from .case import TOOLS
+from farmkit.documents import Document
+from farmkit.repository import TOP
 
+PAGE = TOP / "docs" / "MAPFILES.md"
 # Each block with the keywords that lead into it, and a map that has each keyword of each.
 BEFORE = {
     "MAP": "MAP", "WEB": "MAP WEB", "LAYER": "MAP LAYER", "CLASS": "MAP LAYER CLASS", "STYLE": "MAP LAYER CLASS STYLE",
@@ -26,14 +28,11 @@ END
 
 def written():
     """The keywords of each block in the page's table."""
-    lines = (TOOLS.parent / "docs/MAPFILES.md").read_text(encoding="utf-8").splitlines()
     found, block = {}, None
-    for line in lines[lines.index("| Block | Keyword | Argument | Default |") + 2 :]:
-        if not line.startswith("|"):
-            return found
-        name, keywords = (cell.strip() for cell in line.strip("|").split("|")[:2])
-        block = name or block
-        found.setdefault(block, set()).update(re.findall(r"\b[A-Z]{3,}\b", keywords))
+    for heads, cells in Document(PAGE).rows():
+        if heads == ("Keyword", "Argument", "Default"):
+            block = cells[0] or block
+            found.setdefault(block, set()).update(re.findall(r"\b[A-Z]{3,}\b", cells[1]))
     return found
 
 

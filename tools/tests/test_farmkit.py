@@ -2,13 +2,16 @@
 
 import contextlib
 import io
+import os
 import pathlib
 import random
 import socket
 import tempfile
 import unittest
+import unittest.mock
 
-from farmkit import calls, command, documents, figures, measure, processes, repository, tapes, wanted, web
+from farmkit import (calls, command, documents, figures, kit, measure, processes, repository, tapes, wanted,
+                     web)
 from farmkit.folder import Folder, drawn, extremes
 from farmkit.ledger import Ledger
 from farmkit.mapfiles import map_of, picture_of
@@ -208,9 +211,21 @@ class Others(unittest.TestCase):
     def test_crates(self) -> None:
         with tempfile.TemporaryDirectory() as folder:
             top = pathlib.Path(folder)
-            (top / "crates.txt").write_text("# crates\na: std\nb: a  # a comment\nc (program): b std\n")
+            (top / "crates.txt").write_text("# crates\na: std\nb: a  # a comment\nc staticlib: b std\n")
             self.assertEqual(repository.dependencies(top), {"a": ["std"], "b": ["a"], "c": ["b", "std"]})
             self.assertEqual(repository.below("c", top), {"a", "b", "c"})
+
+    def test_a_kit_that_takes_names_and_one_that_does_not(self) -> None:
+        usage = "echo usage: rt new FOLDER >&2; exit 2"
+        stopped = "echo rt: rt ci runs at the top of the repository >&2; echo 0 passed, 1 failed; exit 2"
+        with tempfile.TemporaryDirectory() as folder:
+            program = pathlib.Path(folder) / "rt"
+            path = f"{folder}{os.pathsep}{os.environ['PATH']}"
+            for text, takes in ((usage, False), (stopped, True)):
+                program.write_text(f"#!/bin/sh\n{text}\n")
+                program.chmod(0o755)
+                with self.subTest(text), unittest.mock.patch.dict(os.environ, PATH=path):
+                    self.assertIs(kit.ci_takes("wf_text"), takes)
 
 
 if __name__ == "__main__":

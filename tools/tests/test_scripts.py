@@ -155,14 +155,11 @@ class Wfarmctl(unittest.TestCase):
     def test_the_line_of_status(self) -> None:
         module = wfarmctl()
         for line in ("node 2 published 41 proposal running\n", "node 0 published 0 proposal none\n",
-                     "node 1 published 4096 proposal published 4096\n"):
+                     "node 1 published 4096 proposal published 4096\n", "replica published 7\n"):
             found = PUBLISHED.fullmatch(line.encode())
             assert found is not None
-            self.assertEqual(module.STATUS.fullmatch(line)[2], found[1].decode())
-        line = "replica published 7\n"
-        found = PUBLISHED.fullmatch(line.encode())
-        assert found is not None
-        self.assertEqual(module.REPLICA.fullmatch(line)[1], found[1].decode())
+            theirs = module.REPLICA.fullmatch(line) or module.STATUS.fullmatch(line)
+            self.assertIn(found[1].decode(), theirs.groups()[:2])
 
 
 if __name__ == "__main__":

@@ -17,7 +17,7 @@ from farmkit.mapfiles import a_map, canonical, map_of
 from farmkit.nodes import KEPT, NO_MAJORITY, VOTES
 from farmkit.processes import free_ports
 from farmkit.tapes import digest_of, publications
-from farmkit.wanted import is_so_within, until, want, want_none
+from farmkit.wanted import is_so_within, unless, until, want, want_none
 from trials_of_nodes.returned_folders import answers, put_back_copy, suspension
 
 # sequences, and those at which two histories differ: more are between them than an answer has
@@ -31,11 +31,10 @@ RESTARTS = 4
 
 # ---- histories
 
-def history(nodes, differs, length=LENGTH):
-    """The canonical texts of so many maps, of which some differ or not, of equal lengths."""
-    maps = [map_of(0x646464 + k + (100 if differs and k in DIFFERENT else 0), 0)
-            for k in range(1, length + 1)]
-    return [canonical(nodes.program, text) for text in maps]
+def histories(nodes):
+    """Two histories of canonical texts of equal lengths, which differ at some sequences."""
+    return [[canonical(nodes.program, map_of(0x646464 + k + (more if k in DIFFERENT else 0)))
+             for k in range(1, LENGTH + 1)] for more in (0, 100)]
 
 
 def begin_with(nodes, histories, starting=()):
@@ -72,29 +71,25 @@ def endings(nodes, those):
 
 def names_one(nodes, others, text):
     """Whether a text names one of these peers, its address and a sequence."""
-    return any(re.search(rf"\b(node |peer=){k}\b", text) and f"127.0.0.1:{nodes.peer[k]}" in text
-               for k in others) and \
-        re.search(r"\bsequence[ =]\d+\b", text) is not None
+    return re.search(r"\bsequence[ =]\d+\b", text) is not None and any(
+        re.search(rf"\b(node |peer=){k}\b", text) and f"127.0.0.1:{nodes.peer[k]}" in text for k in others)
 
 
-def difference(nodes, i, others, seconds=SOON):
+def difference(nodes, i, others):
     """What is wrong with a node that has to answer nobody, as its history differs from these peers'."""
-    is_so_within(lambda: nodes.health(i)[0] == 503, seconds)
+    is_so_within(lambda: nodes.health(i)[0] == 503, SOON)
     time.sleep(1)
-    wrong = endings(nodes, [i])
-    if wrong:
+    if wrong := endings(nodes, [i]):
         return wrong
-    told = {path: nodes.get(i, path, nodes.admin[i]) for path in ("/healthz", "/readyz", "/votez")}
-    for path, (status, text) in told.items():
-        if status != 503 or not names_one(nodes, others, text.decode()):
-            wrong.append(f"node {i}'s {path} is {status} {text.decode().strip()}")
-    if answers(nodes.http[i]):
-        wrong.append(f"node {i} answers a client: {answers(nodes.http[i])}")
-    if nodes[i].metrics().get("wfarm_history_differs") != 1:
-        wrong.append(f"node {i}'s wfarm_history_differs is {nodes[i].metrics().get('wfarm_history_differs')}")
-    if not any(names_one(nodes, others, line) and "differ" in line for line in nodes[i].log_lines()):
-        wrong.append(f"no line of node {i}'s log says which peer differs, at which address and sequence")
-    return wrong
+    for path in ("/healthz", "/readyz", "/votez"):
+        status, text = nodes.operator(i, path)
+        is_right = status == 503 and names_one(nodes, others, text)
+        wrong += unless(is_right, f"node {i}'s {path} is {status} {text}")
+    wrong += unless(not (said := answers(nodes.http[i])), f"node {i} answers a client: {said}")
+    metric = nodes[i].metrics().get("wfarm_history_differs")
+    wrong += unless(metric == 1, f"node {i}'s wfarm_history_differs is {metric}")
+    is_told = any(names_one(nodes, others, line) and "differ" in line for line in nodes[i].log_lines())
+    return wrong + unless(is_told, f"no line of node {i}'s log says which peer differs, where and since when")
 
 
 def agreement(nodes, those, wrong, done):
@@ -134,7 +129,7 @@ def rows(nodes, wrong):
     write_nodes(file, nodes.each)
     code, told, error = wfarmctl(nodes.program, file, "status")
     states = [re.split(r"127\.0\.0\.1:\d+ +", row, maxsplit=1)[1] for row in told.splitlines()[1:]]
-    wrong += [] if code == 1 else [f"wfarmctl status: {code} {states}"]
+    wrong += unless(code == 1, f"wfarmctl status: {code} {states}")
     return states + ([error.strip()] if error else [])
 
 
@@ -153,7 +148,7 @@ def end(wrong, *words):
 def changed(nodes):
     """a byte has changed on a disk: its node alone answers nobody, however often others start, and nobody is
     answered while another one is down"""
-    x, y = history(nodes, False), history(nodes, True)
+    x, y = histories(nodes)
     begin_with(nodes, [x, x, x], range(3))
     until(lambda: all(nodes.votes(i) == VOTES for i in range(3)))
     time.sleep(KEPT)
@@ -164,8 +159,7 @@ def changed(nodes):
     took = []
     for k in range(RESTARTS):
         for i in (0, 1) if k % 2 else (1, 0):
-            nodes.kill(i)
-            nodes.start(i)
+            nodes.restart(i)
         if nodes[2].ended() is not None:
             nodes.start(2)
         took.append(agreement(nodes, [0, 1], wrong, f"restart {k}"))
@@ -180,12 +174,12 @@ def changed(nodes):
     states = rows(nodes, wrong)
     nodes.kill(1)
     wrong += [f"node 1 is down: {what}" for what in difference(nodes, 0, {2})]
-    nodes.pause(2)
+    nodes[2].pause()
     time.sleep(SOON)
     wrong += [f"and node 2 is silent: {what}" for what in difference(nodes, 0, {2})]
     nodes.start(1)
     seconds = agreement(nodes, [0, 1], wrong, "node 1 is back")
-    nodes.go_on(2)
+    nodes[2].go_on()
     wrong += publication(nodes, [0, 1], "after it")
     nodes.kill(2)
     change(nodes, 2, y, x)
@@ -198,13 +192,13 @@ def changed(nodes):
 
 def split(nodes):
     """two nodes of different histories, and the third is down: nobody is answered; then it comes"""
-    x, y = history(nodes, False), history(nodes, True)
+    x, y = histories(nodes)
     begin_with(nodes, [x, y, x])
     readers = free_ports(1)[0]
     nodes.start(0, "--readers", f"127.0.0.1:{readers}")
     nodes.start(1)
     wrong = difference(nodes, 0, {1}) + difference(nodes, 1, {0})
-    wrong += ["a reader's connection stays open"] if answers(readers) else []
+    wrong += unless(not answers(readers), "a reader's connection stays open")
     states = rows(nodes, wrong)
     nodes.kill(1)
     time.sleep(SOON)
@@ -222,7 +216,7 @@ def split(nodes):
 def behind(nodes):
     """the same, and the third has only what is common to both: it agrees with neither yet and mixes nothing;
     once one of the two is ended, the others go on"""
-    x, y = history(nodes, False), history(nodes, True)
+    x, y = histories(nodes)
     begin_with(nodes, [x, y, x[:1]], range(3))
     begun, both = time.time(), 0
     while not (serve := serving(nodes, range(3), LENGTH)) and time.time() < begun + CAUGHT_UP:
@@ -230,7 +224,7 @@ def behind(nodes):
         both += len(told) == 2
         time.sleep(0.2)
     took = round(time.time() - begun, 1)
-    wrong = [f"both node 0 and node 1 answered clients, {both} times"] if both else []
+    wrong = unless(not both, f"both node 0 and node 1 answered clients, {both} times")
     wrong += endings(nodes, range(3))
     states = rows(nodes, wrong)
     if serve:
@@ -240,25 +234,23 @@ def behind(nodes):
     else:
         said = "neither is answered"
         wrong += difference(nodes, 0, {1}) + difference(nodes, 1, {0})
-        if nodes.votes(2)[0] != 503:
-            wrong.append(f"/votez of node 2, which is behind, is {nodes.votes(2)}, and no other node votes: "
-                         f"connected peers, majority {nodes.connected(2)}")
-        nodes.kill(1, 0)
-        nodes.start(0)
+        wrong += unless(nodes.votes(2)[0] == 503, f"/votez of node 2, which is behind, is {nodes.votes(2)}, "
+                        f"and no other node votes: connected peers, majority {nodes.connected(2)}")
+        nodes.kill(1)
+        nodes.restart(0)
         seconds = agreement(nodes, [0, 2], wrong, "node 1 is ended, and node 0 started again")
-        if not is_so_within(lambda: nodes.published(2) == LENGTH, SOON):
-            wrong.append(f"node 2 published {nodes.published(2)}")
+        wrong += unless(is_so_within(lambda: nodes.published(2) == LENGTH, SOON), "node 2 hasn't caught up")
         wrong += publication(nodes, [0, 2], "by two of three")
         said += f"; without node 1, and node 0 started again, two serve after {seconds} s"
     mine = nodes.get(2, f"/history?from={LENGTH}", nodes.admin[2])[1].decode().split()[1:2]
     own = ([], [digest_of(x).hex()], [digest_of(y).hex()])
-    wrong += [] if mine in own else ["node 2 has a history that is mixed from both"]
+    wrong += unless(mine in own, "node 2 has a history that is mixed from both")
     return end(wrong, said, shown(states))
 
 
 def lagging(nodes):
     """one of another history, and one that lacks the last sequence: it and the third go on by themselves"""
-    x, y = history(nodes, False), history(nodes, True)
+    x, y = histories(nodes)
     begin_with(nodes, [x, y, x[:-1]], range(3))
     begun = time.time()
     is_so_within(lambda: nodes.published(0) == nodes.published(2) == LENGTH, CAUGHT_UP)
@@ -274,7 +266,7 @@ def lagging(nodes):
 
 def halves(nodes):
     """two nodes of one history, two of another, and the fifth is down: nobody is answered; then it comes"""
-    x, y = history(nodes, False), history(nodes, True)
+    x, y = histories(nodes)
     begin_with(nodes, [x, x, y, y, x], range(4))
     wrong = []
     for i in range(4):
@@ -297,13 +289,11 @@ def alone(nodes):
     nodes.kill(2)
     nodes.start(1)
     wrong = suspension(nodes, 1)
-    if not is_so_within(lambda: nodes.votes(0) == NO_MAJORITY, SOON):
-        wrong.append(f"/votez of node 0: {nodes.votes(0)}")
+    wrong += unless(is_so_within(lambda: nodes.votes(0) == NO_MAJORITY, SOON), f"/votez: {nodes.votes(0)}")
     counts = nodes.connected(0)
-    if counts != [0, 0] or nodes.health(0)[0] != 200:
-        wrong.append(f"node 0: connected peers, majority {counts}, health {nodes.health(0)}")
-    if nodes.publish(0, a_map("waits")) != 202:
-        wrong.append("node 0 takes no map")
+    wrong += unless(counts == [0, 0] and nodes.health(0)[0] == 200,
+                    f"node 0: connected peers, majority {counts}, health {nodes.health(0)}")
+    wrong += unless(nodes.publish(0, a_map("waits")) == 202, "node 0 takes no map")
     states = rows(nodes, wrong)
     first = canonical(nodes.program, a_map("first"))
     changed_first = first.replace(b"first", b"First")
@@ -317,8 +307,7 @@ def alone(nodes):
     if nodes[0].ended() is None:
         nodes.start(2)
         agreement(nodes, [0, 2], wrong, "node 2 came with its own")
-        if not is_so_within(lambda: nodes.name(2, 2) == "waits", SOON):
-            wrong.append(f"what waited isn't published: {nodes.name(2, 2)} at 2")
+        wrong += unless(is_so_within(lambda: nodes.name(2, 2) == "waits", SOON), "what waited isn't there")
     return end(wrong + endings(nodes, range(3)), shown(states), shown(differ))
 
 

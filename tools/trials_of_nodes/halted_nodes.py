@@ -16,7 +16,7 @@ from farmkit.device import fill, make_room
 from farmkit.mapfiles import PICTURE, a_map, canonical, map_of
 from farmkit.nodes import KEPT, NODES
 from farmkit.tapes import ACCEPTED, PROMISED, PUBLISHED, TRIED, record, records
-from farmkit.wanted import is_so_within, until, want, want_none
+from farmkit.wanted import is_so_within, unless, until, want, want_none
 from farmkit.web import CAPABILITIES
 
 # more bytes than the last page of a tape may have left
@@ -91,8 +91,7 @@ def removed(nodes):
     until(lambda: nodes.published(2) >= 1)
     want("another map than x", {nodes.name(i, 1) for i in range(NODES)} == {"x"})
     nodes.publish_whole(2, a_map("z"))
-    nodes.kill(1)
-    nodes.start(1)
+    nodes.restart(1)
     ended = nodes.ended(1)
     want(f"a start without a tape: {ended}", ended[0] == 1 and "tape missing" in ended[1]
          and not nodes[1].tape.exists())
@@ -103,9 +102,8 @@ def may_mount(folder):
     if os.geteuid() != 0:
         return False
     folder.mkdir()
-    is_mounted = subprocess.run(["mount", "-t", "tmpfs", "tmpfs", folder],
-                                capture_output=True).returncode == 0
-    if is_mounted:
+    words = ["mount", "-t", "tmpfs", "tmpfs", folder]
+    if is_mounted := subprocess.run(words, capture_output=True).returncode == 0:
         subprocess.run(["umount", folder], check=True)
     folder.rmdir()
     return is_mounted
@@ -130,12 +128,6 @@ class Disk:
 
     def unmount(self):
         subprocess.run(["umount", "-l", self.place], check=True)
-
-    def fill(self):
-        fill(self.kept)
-
-    def make_room(self):
-        make_room(self.kept)
 
 
 @contextlib.contextmanager
@@ -162,7 +154,7 @@ def unmounted(nodes):
         nodes.publish_whole(0, a_map("x"))
         until(lambda: nodes.published(1) == 1)
         time.sleep(KEPT)
-        its.fill()
+        fill(its.kept)
         want("no publish", nodes.publish(0, LONG_MAP) == 202)
         until(lambda: nodes.health(1)[0] == 503)
         nodes.kill(0)
@@ -178,9 +170,8 @@ def unmounted(nodes):
         want(f"made where the disk was: {made}", not made)
         shutil.copytree(its.kept, nodes[1].folder, dirs_exist_ok=True,
                         ignore=shutil.ignore_patterns("filling"))
-        wrong = changes_while_halted(nodes, 1, 1, files)
-        want_none(wrong)
-        its.make_room()
+        want_none(changes_while_halted(nodes, 1, 1, files))
+        make_room(its.kept)
         its.mount()
         # (whether it goes on by itself, or an operator starts it, is left open)
         is_back = is_so_within(lambda: nodes.health(1)[0] == 200 or nodes.published(1) < 1, 10)
@@ -204,11 +195,10 @@ def room(nodes):
     nodes.kill(2)
     with disk_of(nodes, 2) as its:
         nodes.start_all([2])
-        nodes.publish_whole(0, a_map("first"))
-        nodes.level()
+        nodes.publish_all(a_map("first"))
         starts = nodes.starts(2)
         time.sleep(KEPT)
-        its.fill()
+        fill(its.kept)
         nodes.publish_whole(0, LONG_MAP)
         until(lambda: nodes.health(2)[0] == 503)
         want("a halted node took a publish", nodes.publish(2, a_map("refused")) == 503)
@@ -218,24 +208,23 @@ def room(nodes):
         want("no publish", nodes.publish(0, a_map("third")) == 202)
         time.sleep(1)
         want("published without a majority", nodes.published(0) == 2)
-        its.make_room()
+        make_room(its.kept)
         seconds = until(lambda: nodes.published(0) == nodes.published(2) == 3)
         counted = nodes.starts(2) - starts
         rejected = [line for line in nodes.lines(0, "dropped") + nodes.lines(2, "lost") if "refused" in line]
         nodes.start_all([1])
         compare_answers(nodes)
-        wrong = [f"{seconds} s from the room to the publication"] if seconds > SOON else []
-        wrong += [f"{counted} starts more are counted, not one"] if counted != 1 else []
-        want("; ".join(wrong + rejected), not wrong and not rejected)
+        wrong = unless(seconds <= SOON, f"{seconds} s from the room to the publication")
+        want_none(wrong + unless(counted == 1, f"{counted} starts more are counted, not one") + rejected)
         return f"published {seconds} s after there was room, and after {LONG_HALT} s without; one start more"
 
 
 # ---- other files in a halted node's folder
 
-def check_each(nodes, changes):
-    """Fails node 1's tape once for each change of a file (None: it is removed); what went wrong."""
+def check_each(nodes, file, changes):
+    """Fails node 1's tape once for each change of a file (None: it is removed)."""
     wrong, published = [], nodes.published(1)
-    for name, (file, changed) in changes.items():
+    for name, changed in changes.items():
         fail_tape(nodes, 1)
         path = nodes[1].folder / file
         sound = path.read_bytes()
@@ -250,14 +239,16 @@ def check_each(nodes, changes):
         nodes.kill(1)
         path.write_bytes(sound)
         nodes.start_limitable(1)
-    return wrong
+    want_none(wrong)
+    nodes.publish_whole(1, a_map("after"))
+    compare_answers(nodes)
+    return f"halted with each of {len(changes)} other files"
 
 
 def exchanged(nodes):
     """a tape that failed, and another one in its place"""
     for k in range(9):
-        nodes.publish_whole(0, a_map(f"first{k}"))
-        nodes.level()
+        nodes.publish_all(a_map(f"first{k}"))
         if any(kind == PROMISED for kind, _ in records(nodes[2].tape.read_bytes())[0]):
             break
     older = nodes[1].tape.read_bytes()
@@ -278,17 +269,12 @@ def exchanged(nodes):
     changes = {"an older copy": lambda _: older, "another node's tape of equal length": lambda _: other,
                "a tape of equal length with another text": lambda own: own.replace(b'"second"', b'"sec0nd"'),
                "its own with another record behind": lambda own: own + record(TRIED, (99).to_bytes(4, "big"))}
-    wrong = check_each(nodes, {name: ("node-1.tape", changed) for name, changed in changes.items()})
-    want_none(wrong)
-    nodes.publish_whole(1, a_map("after"))
-    compare_answers(nodes)
-    return f"halted with each of {len(changes)} other tapes"
+    return check_each(nodes, "node-1.tape", changes)
 
 
 def rewritten(nodes):
     """a tape that failed, and another file `farm` beside it, or none: its node stays halted"""
-    nodes.publish_whole(0, a_map("first"))
-    nodes.level()
+    nodes.publish_all(a_map("first"))
     nodes.kill(1)
     nodes.start_limitable(1)
 
@@ -300,19 +286,14 @@ def rewritten(nodes):
                "an older start": with_line("starts", lambda count: f"{int(count, 16) - 1:08x}"),
                "another mark": with_line("mark", lambda mark: mark[::-1]),
                "another node's": with_line("node", lambda _: "02"), "no file": lambda _: None}
-    wrong = check_each(nodes, {name: ("farm", changed) for name, changed in changes.items()})
-    want_none(wrong)
-    nodes.publish_whole(1, a_map("after"))
-    compare_answers(nodes)
-    return f"halted with each of {len(changes)} other files"
+    return check_each(nodes, "farm", changes)
 
 
 def completed(nodes):
     """a tape that failed, and has the record of the step that failed, as a failed sync may leave it: its node
     goes on with it, and has counted one start more"""
     # a tape that is longer than the other files of the folder, which stay as long as they are
-    nodes.publish_whole(0, a_map("first", "x" * 900))
-    nodes.level()
+    nodes.publish_all(a_map("first", "x" * 900))
     nodes.kill(1)
     nodes.start_limitable(1)
     nodes.level()

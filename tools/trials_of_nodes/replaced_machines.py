@@ -4,23 +4,24 @@ import subprocess
 import time
 
 from farmkit.command import lacks
-from farmkit.control import command, wfarmctl, write_nodes
+from farmkit.control import command, write_nodes
 from farmkit.mapfiles import a_map
-from farmkit.processes import Node, Service, free_ports
+from farmkit.processes import Service
 from farmkit.wanted import PATIENCE, is_so_within, until, want
-from farmkit.web import ask, loopback
+from farmkit.web import ask
 
 ALLOWED = "--replace-allowed"
 RETIRED = "retired: another folder took its place; end it, and never start its folder again"
 
 
 def started_anew(nodes):
-    """All nodes again, with replacements allowed."""
+    """All nodes again, with replacements allowed, and some maps."""
     nodes.kill_all()
     for node in nodes.each:
         node.words.append(ALLOWED)
     nodes.start_all()
     write_nodes(nodes.folder / "nodes", nodes.each)
+    publish_at_each(nodes, "before")
 
 
 def lose(nodes, i):
@@ -38,19 +39,16 @@ def lose(nodes, i):
 def give_vote(nodes, i):
     """The seconds until the new folder of a node votes, with maps published as it wants them."""
     begun = time.monotonic()
-    status, told, error = wfarmctl(nodes.program, nodes.folder / "nodes", *words_for(i))
-    want(f"replace {i}: {told} {error}", status == 0)
+    running = begun_replacement(nodes, i)
+    told = running.communicate()[0]
+    want(f"replace {i}: {told}", running.returncode == 0)
     return round(time.monotonic() - begun, 1)
-
-
-def words_for(i):
-    return ["replace", i, "--yes", "--force", "--publish"]
 
 
 def begun_replacement(nodes, i):
     """A `wfarmctl replace` that runs, with what it writes in a pipe."""
-    return subprocess.Popen(command(nodes.program, nodes.folder / "nodes", *words_for(i)),
-                            stdout=subprocess.PIPE, stderr=subprocess.STDOUT, text=True)
+    words = command(nodes.program, nodes.folder / "nodes", "replace", i, "--yes", "--force", "--publish")
+    return subprocess.Popen(words, stdout=subprocess.PIPE, stderr=subprocess.STDOUT, text=True)
 
 
 def see_through(nodes, running, word):
@@ -72,7 +70,6 @@ def publish_at_each(nodes, word):
 def replaced(nodes):
     """A folder takes a lost one's place, and votes; the old one, started again, is retired."""
     started_anew(nodes)
-    publish_at_each(nodes, "before")
     seconds = []
     with Service(nodes.each) as service:
         old = lose(nodes, 1)
@@ -85,8 +82,7 @@ def replaced(nodes):
         nodes.kill(2)
         nodes.publish_whole(0, a_map("two"))
         nodes.publish_whole(1, a_map("of three"))
-        nodes.start(2)
-        nodes.wait(2)
+        nodes.start_all([2])
         nodes.level()
         is_rejected = comes_back(nodes, 1, old)
         # node 0 last: each other node was replaced before
@@ -114,18 +110,9 @@ def comes_back(nodes, i, old):
     nodes[i].folder.rename(old)
     new.rename(nodes[i].folder)
     nodes[i].life += 1
-    nodes.start(i)
-    nodes.wait(i)
+    nodes.start_all([i])
     nodes.level()
     return said
-
-
-def beside(nodes, i, folder):
-    """Another process of a node, on this folder and at ports of its own."""
-    http, admin, listen = map(loopback, free_ports(3))
-    made = Node(nodes.program, i, folder, nodes[i].words[2], http, admin)
-    made.words += [ALLOWED, "--listen", listen]
-    return made
 
 
 def standing(node):
@@ -168,9 +155,8 @@ def rivals(nodes):
     until a replacement of a higher count is begun; the one that is left behind never votes; an old folder
     that is started beside the new one is retired"""
     started_anew(nodes)
-    publish_at_each(nodes, "before")
     old = lose(nodes, 1)
-    other = beside(nodes, 1, nodes.folder / "other")
+    other = nodes.beside(1, nodes.folder / "other", ALLOWED)
     other.init("tried", "--replace")
     other.start()
     until(lambda: health(other).startswith("joins"))
@@ -196,7 +182,7 @@ def rivals(nodes):
 
 def retired_beside(nodes, i, folder):
     """What an old folder is told that is started beside the one that took its place."""
-    old = beside(nodes, i, folder)
+    old = nodes.beside(i, folder, ALLOWED)
     old.start()
     try:
         until(lambda: health(old).startswith("suspended"))
@@ -214,20 +200,19 @@ def stopped(nodes):
     if lacking := lacks("strace"):
         return f"left out: {lacking}"
     started_anew(nodes)
-    publish_at_each(nodes, "before")
     said = []
     with Service(nodes.each):
-        for call, path in CUTS:
+        for call in ("openat", "fsync", "rename"):
             lose(nodes, 1)
             nodes.kill(0)
-            nodes[0].start(before=dying(call, nodes[0].folder / path, nodes.folder / "trace"))
+            nodes[0].start(before=dying(call, nodes[0].folder / "replaced.new", nodes.folder / "trace"))
             nodes.wait(0)
             running = begun_replacement(nodes, 1)
             until(lambda: nodes[0].ended() is not None)
             ended = nodes[0].ended()
             nodes.start(0)
-            want(f"{call} {path}: node 0 ended with {ended}", ended != 0)
-            said.append(f"{call} {path} {see_through(nodes, running, f'{call}{path}').splitlines()[-1]}")
+            want(f"{call}: node 0 ended with {ended}", ended != 0)
+            said.append(f"{call} {see_through(nodes, running, call).splitlines()[-1]}")
     return ", ".join(said)
 
 
@@ -237,7 +222,6 @@ def joining(nodes):
     if lacking := lacks("strace"):
         return f"left out: {lacking}"
     started_anew(nodes)
-    publish_at_each(nodes, "before")
     killed, usual = 0, nodes[1].before
     with Service(nodes.each):
         for call in ("fsync", "rename", "openat"):
@@ -250,7 +234,7 @@ def joining(nodes):
                 nodes.start(1)
                 until(lambda: nodes.health(1)[1].startswith("joins"))
                 running = begun_replacement(nodes, 1)
-                is_over = is_so_within(lambda: nodes[1].ended() not in (None, 0), 2 * PATIENCE, 0.02)
+                is_over = is_so_within(lambda: nodes[1].ended() not in (None, 0), 2 * PATIENCE)
                 if not is_over:
                     running.kill()
                 want(f"{call} {when}: it wasn't killed: {nodes.health(1)}", is_over)
@@ -272,15 +256,10 @@ def dying(call, path, trace, when=1):
             f"inject={call}:signal=SIGKILL:when={when}", "-o", str(trace)]
 
 
-# the calls at which a node is killed, and of which file of its folder
-CUTS = (("openat", "replaced.new"), ("fsync", "replaced.new"), ("rename", "replaced.new"))
-
-
 def resumed(nodes):
     """`wfarmctl replace` is ended after each of its lines and run again, with the same folder or, where its
     disk is lost too, with another one: it votes"""
     started_anew(nodes)
-    publish_at_each(nodes, "before")
     said = []
     with Service(nodes.each):
         for lines in range(1, 6):
@@ -303,7 +282,6 @@ def operators(nodes):
     """two operators run `wfarmctl replace` at once, five times: a folder votes, and all know of one
     replacement"""
     started_anew(nodes)
-    publish_at_each(nodes, "before")
     said = []
     with Service(nodes.each):
         for _ in range(5):

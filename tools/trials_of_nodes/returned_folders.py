@@ -6,27 +6,17 @@ import re
 import shutil
 import time
 
+from farmkit.folder import contents, put
 from farmkit.mapfiles import a_map
-from farmkit.nodes import KEPT, NODES
-from farmkit.processes import Farm, Node, free_ports
+from farmkit.nodes import KEPT, NODES, Nodes
+from farmkit.processes import Farm, free_ports
 from farmkit.tapes import ACCEPTED, PUBLISHED, records
-from farmkit.wanted import is_so_within, until, want, want_none
+from farmkit.wanted import is_so_within, unless, until, want, want_none
 from farmkit.web import connect, loopback
 
 # seconds for which a node is watched
 WATCHED = 5
 BACK = "bad folder: the tape went back: "
-
-
-def files(folder):
-    return {path.name: path.read_bytes() for path in folder.iterdir()}
-
-
-def all_published(nodes, names):
-    """Publishes maps of these names at node 0, until all nodes have them."""
-    for name in names:
-        nodes.publish_whole(0, a_map(name))
-    nodes.level()
 
 
 def copy_of(nodes, i):
@@ -36,83 +26,64 @@ def copy_of(nodes, i):
 
 # ---- a tape that went back, found by its node alone
 
-def rejection(node, says, before, line):
-    """What is wrong with a start that has to be rejected with a line that begins so."""
-    try:
-        if not is_so_within(lambda: node.ended() is not None, WATCHED):
-            return [f"it goes on: {says()}"]
-        is_rejected = node.ended() == 1 and node.last_line().startswith(line)
-        found = [] if is_rejected else [f"status {node.ended()}, {node.last_line()}"]
-        return found + (["its files were changed"] if files(node.folder) != before else [])
-    finally:
-        node.kill()
-
-
-def rejection_of_node(nodes, i, line):
+def rejection(nodes, i, line):
     """What is wrong with a start of a node that has to be rejected with a line that begins so."""
     nodes[i].life += 1  # it may say less than before: that is found here
-    before = files(nodes[i].folder)
+    before = contents(nodes[i].folder)
     nodes.start(i)
-    return rejection(nodes[i], lambda: f"published {nodes.published(i)}, health {nodes.health(i)}",
-                     before, line)
+    try:
+        if not is_so_within(lambda: nodes[i].ended() is not None, WATCHED):
+            return [f"it goes on: published {nodes.published(i)}, health {nodes.health(i)}"]
+        code, last = nodes.ended(i)
+        found = unless(code == 1 and last.startswith(line), f"status {code}, {last}")
+        return found + unless(contents(nodes[i].folder) == before, "its files were changed")
+    finally:
+        nodes.kill(i)
+
+
+def all_start(nodes, wrong):
+    """All nodes start, where nothing was wrong before: what a case that was rejected says."""
+    want_none(wrong)
+    nodes.start_all()
+    return f"rejected; level after {nodes.level()} s"
 
 
 def with_tape(nodes, i, content, line):
     """What is wrong with a start on other bytes as the tape; then the tape is as it was."""
-    sound = files(nodes[i].folder)
+    sound = contents(nodes[i].folder)
     nodes[i].tape.write_bytes(content)
-    found = rejection_of_node(nodes, i, line)
-    for path in nodes[i].folder.iterdir():
-        path.unlink()
-    for name, kept in sound.items():
-        (nodes[i].folder / name).write_bytes(kept)
+    found = rejection(nodes, i, line)
+    put(nodes[i].folder, sound)
     return found
 
 
 def emptied(nodes):
     """a start on an emptied tape, in a farm of three and in one of one"""
-    all_published(nodes, ("first", "second", "third"))
+    nodes.publish_all(*map(a_map, ("first", "second", "third")))
     time.sleep(KEPT)
     nodes.kill_all()
     line = BACK + "it had published 3, now 0"
     wrong = [f"of three: {what}" for what in with_tape(nodes, 1, b"", line)]
-    wrong += [f"alone: {what}" for what in emptied_alone(nodes, line)]
-    want_none(wrong)
-    nodes.start_all()
-    return f"rejected; level after {nodes.level()} s"
+    return all_start(nodes, wrong + [f"alone: {what}" for what in emptied_alone(nodes, line)])
 
 
 def emptied_alone(nodes, line):
     """What is wrong with a start of the one node of a farm, whose tape is emptied."""
-    http, admin, peers = map(loopback, free_ports(3))
-    node = Node(nodes.program, 0, nodes.folder / "alone", peers, http, admin)
-    node.init("alone")
-    node.start()
-    try:
-        until(lambda: node.published() == 0)
-        for k in range(3):
-            want("no publish", node.ask("/publish", a_map(f"alone{k}")).status == 202)
-            until(lambda: node.published() == k + 1)
+    with Nodes(nodes.program, nodes.folder / "alone", 1) as alone:
+        alone.publish_all(*(a_map(f"alone{k}") for k in range(3)))
         time.sleep(KEPT)
-    finally:
-        node.kill()
-    node.tape.write_bytes(b"")
-    before = files(node.folder)
-    node.start()
-    return rejection(node, lambda: node.ask("/status"), before, line)
+    alone[0].tape.write_bytes(b"")
+    return rejection(alone, 0, line)
 
 
 def older(nodes):
     """a start on the tape of two publishes ago"""
-    all_published(nodes, ("first", "second"))
+    nodes.publish_all(a_map("first"), a_map("second"))
     copy = nodes[1].tape.read_bytes()
-    all_published(nodes, ("third", "fourth"))
+    nodes.publish_all(a_map("third"), a_map("fourth"))
     time.sleep(KEPT)
     nodes.kill_all()
-    wrong = with_tape(nodes, 1, copy, BACK + "it had published 4, now 2")
-    want_none(wrong)
-    nodes.start_all()
-    return f"rejected; level after {nodes.level()} s"
+    return all_start(nodes, with_tape(nodes, 1, copy, BACK + "it had published 4, now 2"))
 
 
 def begins(tape):
@@ -128,7 +99,7 @@ def zeroed(nodes):
     """a start on a tape with zeros where a vote, or a publication, was that was synced over a second ago"""
     nodes.kill(0)
     nodes.start_limitable(0)
-    all_published(nodes, ("first",))
+    nodes.publish_all(a_map("first"))
     nodes.kill(2)
     # the leader's own vote fails, once it has asked for node 1's, and no other file of its folder has to be
     # written before
@@ -186,18 +157,13 @@ def suspension(nodes, i, seconds=2 * WATCHED):
             return [f"node {i} has ended, status {status}: {nodes[i].last_line()}"]
         return [f"node {i} isn't suspended: {nodes.health(i)}, published {nodes.published(i)}"]
     time.sleep(1)
-    wrong = []
-    if not is_suspended(nodes, i):
-        wrong.append(f"node {i} is suspended no more: {nodes.health(i)}")
+    wrong = unless(is_suspended(nodes, i), f"node {i} is suspended no more: {nodes.health(i)}")
     for path in ("/readyz", "/votez"):
         told = nodes.get(i, path, nodes.admin[i])
-        if told[0] != 503 or not told[1].startswith(b"suspended: node "):
-            wrong.append(f"{path}: {told}")
-    if nodes.get(i, "/metrics", nodes.admin[i])[0] != 200:
-        wrong.append("its operator's port has no metrics")
-    if answers(nodes.http[i]):
-        wrong.append(f"a client is answered: {answers(nodes.http[i])}")
-    return wrong
+        wrong += unless(told[0] == 503 and told[1].startswith(b"suspended: node "), f"{path}: {told}")
+    has_metrics = nodes.get(i, "/metrics", nodes.admin[i])[0] == 200
+    wrong += unless(has_metrics, "its operator's port has no metrics")
+    return wrong + unless(not (said := answers(nodes.http[i])), f"a client is answered: {said}")
 
 
 def restored(nodes):
@@ -209,17 +175,18 @@ def restored(nodes):
     copy = copy_of(nodes, 1)
     nodes.publish_whole(0, a_map("second"))
     # it has voted; what it says later would tell that it published
-    nodes.pause(1)
+    nodes[1].pause()
     time.sleep(KEPT)
     nodes.kill_all()
     nodes.put(1, copy)
-    before = len(nodes.lines(0, "accepted peer=1")), len(nodes.lines(0, "connected peer=1"))
+
+    def let_in():
+        return [len(nodes.lines(0, f"{event} peer=1")) for event in ("accepted", "connected")]
+
+    before = let_in()
     nodes.start_all([0])
     nodes.start(1)
-    wrong = suspension(nodes, 1)
-    if len(nodes.lines(0, "accepted peer=1")) > before[0] or len(nodes.lines(0,
-                                                                             "connected peer=1")) > before[1]:
-        wrong.append("node 0 lets node 1 in")
+    wrong = suspension(nodes, 1) + unless(let_in() == before, "node 0 lets node 1 in")
     nodes.kill(0)
     nodes.start_all([2])
 
@@ -232,33 +199,30 @@ def restored(nodes):
     nodes.start_all([0])
     is_so_within(lambda: nodes.published(2) >= 2, WATCHED)
     names = {i: nodes.name(i, 2) for i in range(NODES)}
-    if names[0] != "second" or names[2] != "second":
-        wrong.append(f"maps under 2: {names}")
-    want_none(wrong)
+    want_none(wrong + unless(names[0] == names[2] == "second", f"maps under 2: {names}"))
     return "suspended, and the map that was published under 2 stays"
 
 
 def promised(nodes):
     """all are killed after a new promise, a copy of a folder from before it is put back, and all are
     started"""
-    all_published(nodes, ("first",))
+    nodes.publish_all(a_map("first"))
     copy = copy_of(nodes, 1)
     # so that node 2 leads by node 1's promise
-    nodes.pause(0)
+    nodes[0].pause()
     nodes.publish_whole(2, a_map("second"))
     nodes.kill_all()
     nodes.put(1, copy)
     for i in range(NODES):
         nodes.start(i)
-    wrong = suspension(nodes, 1)
-    want_none(wrong)
+    want_none(suspension(nodes, 1))
     until(lambda: nodes.published(0) == nodes.published(2) == 2)
     return "suspended"
 
 
 def put_back_copy(nodes):
     """Puts a copy of node 1's folder back, from before its last start."""
-    all_published(nodes, ("first",))
+    nodes.publish_all(a_map("first"))
     nodes.kill(1)
     copy = copy_of(nodes, 1)
     nodes.start_all([1])
@@ -273,17 +237,15 @@ def suspended(nodes):
     count"""
     put_back_copy(nodes)
     wrong, readers = [], free_ports(1)[0]
-    for k, which in enumerate(("first", "second", "third")):
-        if k:
-            nodes.kill(1)
+    for which in ("first", "second", "third"):
+        nodes.kill(1)
         nodes.start(1, "--readers", f"127.0.0.1:{readers}")
-        wrong += [f"{which} start: {what}" for what in suspension(nodes, 1)]
-        if answers(readers):
-            wrong.append(f"{which} start: a reader's connection stays open")
+        wrong += [f"{which} start: {what}" for what in suspension(nodes, 1)
+                  + unless(not answers(readers), "a reader's connection stays open")]
     line = r"(?m)^suspended by ([0-9a-f]{8}) at 0{20}ffff7f000001 port ([0-9a-f]{8}) cause 00000006$"
     found = re.search(line, (nodes[1].folder / "farm").read_text())
-    if not found or nodes.peer[int(found[1], 16)] != int(found[2], 16):
-        wrong.append(f"the line of its file farm: {found and found[0]}")
+    wrong += unless(found and nodes.peer[int(found[1], 16)] == int(found[2], 16),
+                    f"the line of its file farm: {found and found[0]}")
     nodes.kill(1)
     nodes.put(1, nodes.folder / "copy")
     farm = nodes[1].folder / "farm"
@@ -292,18 +254,23 @@ def suspended(nodes):
     wrong += [f"the copy once more, with more starts than were heard of: {what}"
               for what in suspension(nodes, 1)]
     nodes.kill(0)
-    before = nodes.published(2)
-    nodes.publish(2, a_map("second"))
-    if is_so_within(lambda: nodes.published(2) > before, WATCHED):
-        wrong.append("a map was published by its vote")
-    nodes.kill(2, 1)
-    nodes.start(1)
+    wrong += counted_vote(nodes, 2)
+    nodes.kill(2)
+    nodes.restart(1)
     wrong += [f"without peers: {what}" for what in suspension(nodes, 1)]
     want_none(wrong)
     nodes.start(0)
     nodes.start(2)
     until(lambda: nodes.published(0) == nodes.published(2) >= 1)
     return "suspended at each of five starts"
+
+
+def counted_vote(nodes, i):
+    """What is wrong where a node can publish a map by a vote that doesn't count."""
+    before = nodes.published(i)
+    nodes.publish(i, a_map("by a vote"))
+    is_published = is_so_within(lambda: nodes.published(i) > before, WATCHED)
+    return unless(not is_published, "a map was published by its vote")
 
 
 def cleared(nodes):
@@ -319,9 +286,8 @@ def cleared(nodes):
         nodes[i].clear()
     for i in range(NODES):
         nodes.start(i)
-    if not is_so_within(lambda: all(nodes.health(i)[0] == 200 for i in range(NODES)), WATCHED):
-        wrong.append(f"after it: {[nodes.health(i) for i in range(NODES)]}")
-    want_none(wrong)
+    are_well = is_so_within(lambda: all(nodes.health(i)[0] == 200 for i in range(NODES)), WATCHED)
+    want_none(wrong + unless(are_well, f"after it: {[nodes.health(i) for i in range(NODES)]}"))
     nodes.publish_whole(1, a_map("after"))
     return f"level after {nodes.level()} s"
 
@@ -329,30 +295,27 @@ def cleared(nodes):
 def unwritten(nodes):
     """a node that can't write what it hears of its peers is as if it were halted, and its vote doesn't count;
     it goes on once it can write"""
-    all_published(nodes, ("first",))
+    nodes.publish_all(a_map("first"))
     time.sleep(KEPT)
     heard, second = nodes[1].folder / "heard", nodes[1].folder / "heard.new"
-    sound, wrong = heard.read_bytes(), []
+    sound = heard.read_bytes()
     heard.unlink()
     for path in (heard, second):
         (path / "in the way").mkdir(parents=True)
     nodes.publish_whole(2, a_map("second"))
-    if not is_so_within(lambda: nodes.health(1) == (503, "halted"), WATCHED):
-        wrong.append(f"node 1's health is {nodes.health(1)}")
-    if not any(re.search(r' folder-not-written file="?\S*heard\S*"? why="', line)
-               for line in nodes.lines(1, "folder-not-written")):
-        wrong.append("no line folder-not-written about heard")
+    wrong = unless(is_so_within(lambda: nodes.health(1) == (503, "halted"), WATCHED),
+                   f"node 1's health is {nodes.health(1)}")
+    is_told = any(re.search(r' folder-not-written file="?\S*heard\S*"? why="', line)
+                  for line in nodes.lines(1, "folder-not-written"))
+    wrong += unless(is_told, "no line folder-not-written about heard")
     nodes.kill(2)
     before = nodes.published(0)
-    nodes.publish(0, a_map("third"))
-    if is_so_within(lambda: nodes.published(0) > before, WATCHED):
-        wrong.append("a map was published by its vote")
+    wrong += counted_vote(nodes, 0)
     for path in (heard, second):
         shutil.rmtree(path)
     heard.write_bytes(sound)
-    if not is_so_within(lambda: nodes.health(1)[0] == 200, WATCHED):
-        wrong.append(f"once it can be written node 1's health is {nodes.health(1)}")
-    want_none(wrong)
+    want_none(wrong + unless(is_so_within(lambda: nodes.health(1)[0] == 200, WATCHED),
+                             f"once it can be written node 1's health is {nodes.health(1)}"))
     until(lambda: nodes.published(0) > before)
     return "halted; then it went on by itself"
 
@@ -362,7 +325,7 @@ def unwritten(nodes):
 def taken(nodes):
     """`wfarm init --from` takes the tape of this node, also without a file `farm`, and not one with votes for
     rounds that its node never tried (the other rejections are cases of `crates/wf_test_commands`)"""
-    all_published(nodes, ("first", "second"))
+    nodes.publish_all(a_map("first"), a_map("second"))
     serve, renamed, bare = (nodes.folder / name for name in ("serve", "renamed", "bare"))
     serve.mkdir()
     farm = Farm(nodes.program, 100, serve)
@@ -385,10 +348,9 @@ def taken(nodes):
         ran = nodes.run("init", "--state", place, "--farm", "new", "--id", 0, "--nodes", 3, "--from",
                         folder / "node-0.tape")
         lines = ran.stderr.splitlines()
-        if ran.returncode != status or len(lines) != (1 if said else 0) or said not in ran.stderr:
-            wrong.append(f"{folder.name}: status {ran.returncode}, {lines}")
-        if status and list(place.iterdir()):
-            wrong.append(f"{folder.name}: files were made")
+        is_told = len(lines) == (1 if said else 0) and said in ran.stderr
+        wrong += unless(ran.returncode == status and is_told, f"{folder.name}: {ran.returncode}, {lines}")
+        wrong += unless(status == 0 or not list(place.iterdir()), f"{folder.name}: files were made")
     want_none(wrong)
     return f"{len(cases)} tapes"
 

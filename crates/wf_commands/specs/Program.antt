@@ -24,7 +24,7 @@ use Rattle.wf_line.specs.declared.node_line.NodeCommand.{NodeCommand}
 use Rattle.wf_line.specs.declared.process_line.ProcessCommand.TheVariants as processes
 use Rattle.wf_line.specs.declared.replica_line.ReplicaLine.{ReplicaLine}
 use Rattle.wf_node_command.specs.Done as nodes
-use Rattle.wf_node_folder.specs.declared.fault.CommandFault.{CommandFault}
+use Rattle.wf_node_command.specs.Done.{CommandFault}
 use Rattle.wf_replica_command.specs.Done as replicas
 use Rattle.wf_replica_command.specs.Start.{IsLineRun}
 use Rattle.wf_replica_command.specs.declared.fault.ReplicaFault.{ReplicaFault}

@@ -20,21 +20,21 @@ use Rattle.wf_histories.specs.Runs.{LivesOf, made_of, steps_made, steps_over}
 -- ---- steps at the end
 
 -- each is a step of process i
-abbrev AreStepsOf : ℕ → List Step → Type 0
+abbrev pub AreStepsOf : ℕ → List Step → Type 0
 AreStepsOf i [] = Unit {0}
 AreStepsOf i (step ∷ steps) = (step.process ≡ i) × AreStepsOf i steps
 
-own_all : (i : ℕ) (steps : List Step) → AreStepsOf i steps → steps_of i steps ≡ steps
+pub own_all : (i : ℕ) (steps : List Step) → AreStepsOf i steps → steps_of i steps ≡ steps
 unfolding steps_of
 own_all i [] are = refl
 own_all i (step ∷ steps) are = rw (eq-eqb step.process i are.0) (ap (λ rest. step ∷ rest) (own_all i steps are.1))
 
-own_none : (i j : ℕ) (steps : List Step) → j ≢ i → AreStepsOf i steps → steps_of j steps ≡ []
+pub own_none : (i j : ℕ) (steps : List Step) → j ≢ i → AreStepsOf i steps → steps_of j steps ≡ []
 unfolding steps_of
 own_none i j [] differs are = refl
 own_none i j (step ∷ steps) differs are = rw (ne_eqb step.process j (λ same. differs (sym same ∙ are.0))) (own_none i j steps differs are.1)
 
-steps_both : (j : ℕ) (steps more : List Step) → steps_of j (steps ++ more) ≡ steps_of j steps ++ steps_of j more
+pub steps_both : (j : ℕ) (steps more : List Step) → steps_of j (steps ++ more) ≡ steps_of j steps ++ steps_of j more
 unfolding steps_of
 steps_both j [] more = refl
 steps_both j (step ∷ steps) more = elim (cases_eq step.process j) [
@@ -48,7 +48,7 @@ members_both n i [] [] less are own = tt
 members_both n i [] (step ∷ more) less are own = (subst (λ k. k < n) (sym own.0) less, members_both n i [] more less tt own.1)
 members_both n i (step ∷ steps) more less are own = (are.0, members_both n i steps more less are.1 own)
 
-sent_both : (sent : List Message) (steps more : List Step) → AreSentBefore sent steps → AreSentBefore (sent ++ outputs_in (items steps)) more → AreSentBefore sent (steps ++ more)
+pub sent_both : (sent : List Message) (steps more : List Step) → AreSentBefore sent steps → AreSentBefore (sent ++ outputs_in (items steps)) more → AreSentBefore sent (steps ++ more)
 unfolding AreSentBefore outputs_in
 sent_both sent [] more are later = subst (λ ms. AreSentBefore ms more) (append-nil sent) later
 sent_both sent (step ∷ steps) more are later =
@@ -97,7 +97,7 @@ module _ {T : Type 0} (tapes : Tape T) where
   none_made i [] now lives = refl
   none_made i (run ∷ ended) now lives = refl
 
-  begun_steps : (i : ℕ) (p : NodeProcess tapes) → p.over ≡ 0 → p.made ≡ 0 → steps_made i (made_by tapes p) ≡ []
+  pub begun_steps : (i : ℕ) (p : NodeProcess tapes) → p.over ≡ 0 → p.made ≡ 0 → steps_made i (made_by tapes p) ≡ []
   begun_steps i p first none =
       let ended = p.has.on.voter.process.ended.items in
       let now = p.has.on.voter.process.actor in
@@ -105,7 +105,7 @@ module _ {T : Type 0} (tapes : Tape T) where
       ∙ ap (λ (made : ℕ). steps_made i (made_of tapes ended now p.lives 0 made)) none
       ∙ none_made i ended now p.lives
 
-  begun_on : (n i : ℕ) (bytes : List ℕ) (processes : List (NodeProcess tapes)) (p : NodeProcess tapes) → AreOnFolder tapes n i bytes processes → HasBegun tapes n i bytes processes p
+  pub begun_on : (n i : ℕ) (bytes : List ℕ) (processes : List (NodeProcess tapes)) (p : NodeProcess tapes) → AreOnFolder tapes n i bytes processes → HasBegun tapes n i bytes processes p
       → AreOnFolder tapes n i bytes (processes ++ p ∷ [])
   unfolding ReadsAfter
   begun_on n i bytes [] p are begun = (begun.is, begun.reads, tt, tt)
@@ -156,7 +156,7 @@ module _ {T : Type 0} (tapes : Tape T) where
   by_one_more i (suc k) (first ∷ acts) (own ∷ origins) act origin at from =
       ap (λ rest. record { process = i; takes = first.input; origin = own; outputs = first.outputs } ∷ rest) (by_one_more i k acts origins act origin at from)
 
-  made_one_more : (i : ℕ) (ended : List (Actor T tapes × ℕ)) (now : Actor T tapes) (lives : LivesOf tapes ended now) (over made : ℕ) (act : Act T) (origin : Origin)
+  pub made_one_more : (i : ℕ) (ended : List (Actor T tapes × ℕ)) (now : Actor T tapes) (lives : LivesOf tapes ended now) (over made : ℕ) (act : Act T) (origin : Origin)
       → slice_get (run_in tapes ended now lives over).run.acts made ≡ Some act → slice_get (run_in tapes ended now lives over).origins made ≡ Some origin
       → steps_made i (made_of tapes ended now lives over (suc made)) ≡ steps_made i (made_of tapes ended now lives over made) ++ record { process = i; takes = act.input; origin = origin; outputs = act.outputs } ∷ []
   unfolding made_of run_in steps_over
@@ -183,7 +183,7 @@ module _ {T : Type 0} (tapes : Tape T) where
   abbrev at : NodeProcess tapes → (over made : ℕ) → NodeProcess tapes
   at p over made = record { line = p.line; old = p.old; new = p.new; has = p.has; lives = p.lives; come = p.come; over = over; made = made; end = p.end; cut_from = p.cut_from; left = p.left }
 
-  on_further : (n i : ℕ) (bytes : List ℕ) (earlier : List (NodeProcess tapes)) (p : NodeProcess tapes) (over made : ℕ) → AreOnFolder tapes n i bytes (earlier ++ p ∷ [])
+  pub on_further : (n i : ℕ) (bytes : List ℕ) (earlier : List (NodeProcess tapes)) (p : NodeProcess tapes) (over made : ℕ) → AreOnFolder tapes n i bytes (earlier ++ p ∷ [])
       → AreOnFolder tapes n i bytes (earlier ++ at p over made ∷ [])
   on_further n i bytes [] p over made are = (record { number = are.0.number; among = are.0.among }, are.1, tt, tt)
   on_further n i bytes (first ∷ earlier) p over made are =
@@ -202,7 +202,7 @@ module _ {T : Type 0} (tapes : Tape T) where
       ∙ ap (λ xs. own ++ xs) (sym (append_assoc cut (steps_on tapes i (earlier ++ p ∷ [])) more))
       ∙ sym (append_assoc own (cut ++ steps_on tapes i (earlier ++ p ∷ [])) more)
 
-  one_sent : (sent : List Message) (step : Step) → ArePeersSent sent step.origin (given_to step.takes) → AreSentBefore sent (step ∷ [])
+  pub one_sent : (sent : List Message) (step : Step) → ArePeersSent sent step.origin (given_to step.takes) → AreSentBefore sent (step ∷ [])
   unfolding AreSentBefore
   one_sent sent step connected = (connected, tt)
 
@@ -226,7 +226,7 @@ module _ {T : Type 0} (tapes : Tape T) where
   by_all i emitted (act ∷ acts) (origin ∷ origins) received =
       ap (λ rest. record { process = i; takes = act.input; origin = origin; outputs = act.outputs } ∷ rest) (by_all i (emitted ++ act.outputs) acts origins received.1)
 
-  made_next_run : (i : ℕ) (ended : List (Actor T tapes × ℕ)) (now : Actor T tapes) (lives : LivesOf tapes ended now) (over made : ℕ) → made ≡ length (run_in tapes ended now lives over).run.acts → over < length ended
+  pub made_next_run : (i : ℕ) (ended : List (Actor T tapes × ℕ)) (now : Actor T tapes) (lives : LivesOf tapes ended now) (over made : ℕ) → made ≡ length (run_in tapes ended now lives over).run.acts → over < length ended
       → steps_made i (made_of tapes ended now lives (suc over) 0) ≡ steps_made i (made_of tapes ended now lives over made)
   unfolding made_of run_in steps_over
   made_next_run i [] now lives over made all another = absurd (omega (arith, another))

@@ -24,12 +24,12 @@ use Rattle.wf_histories.specs.Theorems.{IsEver}
 -- ---- what is in a list
 
 module _ {A : Type 0} where
-  in_left : (x : A) (xs ys : List A) → IsIn x xs → IsIn x (xs ++ ys)
+  pub in_left : (x : A) (xs ys : List A) → IsIn x xs → IsIn x (xs ++ ys)
   in_left x [] ys is = absurd is
   in_left x (y ∷ xs) ys (inl same) = inl same
   in_left x (y ∷ xs) ys (inr is) = inr (in_left x xs ys is)
 
-  in_right : (x : A) (xs ys : List A) → IsIn x ys → IsIn x (xs ++ ys)
+  pub in_right : (x : A) (xs ys : List A) → IsIn x ys → IsIn x (xs ++ ys)
   in_right x [] ys is = is
   in_right x (y ∷ xs) ys is = inr (in_right x xs ys is)
 
@@ -42,7 +42,7 @@ module _ {A : Type 0} where
   at_place x (y ∷ xs) (inl same) = record { place = 0; at = ap Some (sym same) }
   at_place x (y ∷ xs) (inr is) = let later = at_place x xs is in record { place = suc later.place; at = later.at }
 
-  take_whole : (n : ℕ) (xs : List A) → length xs ≤ n → take n xs ≡ xs
+  pub take_whole : (n : ℕ) (xs : List A) → length xs ≤ n → take n xs ≡ xs
   take_whole zero [] short = refl
   take_whole zero (x ∷ xs) short = absurd (omega (arith, short))
   take_whole (suc n) [] short = refl
@@ -75,7 +75,7 @@ module _ {T : Type 0} (tapes : Tape T) where
   among_at node values (entry ∷ first) rest are = among_at node values first rest are.1
 
   -- the log of a run has the node as it was at an earlier moment
-  logged_then : (node : Node T) (first before now : List (Node T × ℕ)) (run : Run T) → before ≡ first ++ (node, 0) ∷ [] → (rest : List (Node T × ℕ)) → before ++ rest ≡ now
+  pub logged_then : (node : Node T) (first before now : List (Node T × ℕ)) (run : Run T) → before ≡ first ++ (node, 0) ∷ [] → (rest : List (Node T × ℕ)) → before ++ rest ≡ now
       → AreAmongValues now (values_in run) → IsIn node (values_in run)
   logged_then node first before now run last rest same are =
       among_at node (values_in run) first rest
@@ -104,7 +104,7 @@ module _ {T : Type 0} (tapes : Tape T) where
     pub lived : HasLived tapes past
     pub earlier : IsEarlier tapes past now
 
-  one_of : (befores : List (Voter T tapes × ℕ)) (clients : List (Client × ℕ)) (afters : List (Voter T tapes × ℕ)) (now : Process T tapes) → AreAnswered tapes befores clients afters → AreEarlier tapes befores now
+  pub one_of : (befores : List (Voter T tapes × ℕ)) (clients : List (Client × ℕ)) (afters : List (Voter T tapes × ℕ)) (now : Process T tapes) → AreAnswered tapes befores clients afters → AreEarlier tapes befores now
       → (place count : ℕ) (voter : Voter T tapes) → slice_get befores place ≡ Some (voter, count) → HadLived voter.process now
   unfolding AreAnswered AreEarlier
   one_of [] clients afters now are earlier place count voter at = absurd (none-some (voter, count) at)
@@ -130,7 +130,7 @@ module _ {T : Type 0} (tapes : Tape T) where
       (whole_values node process.ended.items process.actor p.lives p.made
       (subst (λ over. length (run_in tapes process.ended.items process.actor p.lives over).run.acts ≤ p.made) whole.over whole.made) was)
 
-  was_ever : (n : ℕ) (before : ℕ → Career T) (folders : ℕ → List (NodeProcess tapes)) (i : ℕ) (p : NodeProcess tapes) → i < n → IsIn p (folders i) → (node : Node T) → IsIn node (values_made (made_by tapes p))
+  pub was_ever : (n : ℕ) (before : ℕ → Career T) (folders : ℕ → List (NodeProcess tapes)) (i : ℕ) (p : NodeProcess tapes) → i < n → IsIn p (folders i) → (node : Node T) → IsIn node (values_made (made_by tapes p))
       → IsEver tapes n before folders node
   was_ever n before folders i p member is_in node made =
       let found = at_place node (values_ever tapes before folders i) (in_right node (values (before i)) (values_on tapes (folders i)) (its_values p (folders i) node is_in made)) in

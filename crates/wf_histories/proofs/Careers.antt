@@ -14,10 +14,11 @@ use Rattle.wf_node.specs.Images.{StandsFor}
 use Rattle.wf_node.specs.Node.{Node, stored_of, volatile_of}
 use Rattle.wf_node.specs.Reopening.{HasStoredAs}
 use Rattle.wf_tape.specs.declared.tape.Tape.{Ghosts as Tape}
+use Rattle.wf_histories.specs.Events.{bytes_at_first}
 use Rattle.wf_histories.specs.Runs.{LifeOf, LivesOf, Made, TracedRun, first_acts, made_of, steps_over, traced_by, values_over}
 use Rattle.wf_histories.proofs.Acts.{done_first, items_by_acts}
 
-abbrev first_or : {A : Type 0} → A → List (A × ℕ) → A
+abbrev pub first_or : {A : Type 0} → A → List (A × ℕ) → A
 first_or other [] = other
 first_or other (entry ∷ rest) = entry.0
 
@@ -59,13 +60,8 @@ module _ {T : Type 0} (tapes : Tape T) (n i : ℕ) where
 
   -- ---- runs one after the other
 
-  -- the bytes that were read at the first of them
-  abbrev bytes_at_first : (ended : List (Actor T tapes × ℕ)) (now : Actor T tapes) → LivesOf tapes ended now → List ℕ
-  bytes_at_first [] now lives = lives.opened.opened.bytes
-  bytes_at_first (run ∷ ended) now lives = lives.0.opened.opened.bytes
-
-  opened_next : (actor : Actor T tapes) (ended : List (Actor T tapes × ℕ)) (now : Actor T tapes) → actor.stood.items ≡ (actor.node, 0) ∷ [] → AreRunsFrom tapes actor ended now → (lives : LivesOf tapes ended now)
-      → actor.node.id ≡ i → actor.node.n ≡ n → IsOpenedFrom n i (bytes_at_first ended now lives) actor.node
+  pub opened_next : (actor : Actor T tapes) (ended : List (Actor T tapes × ℕ)) (now : Actor T tapes) → actor.stood.items ≡ (actor.node, 0) ∷ [] → AreRunsFrom tapes actor ended now → (lives : LivesOf tapes ended now)
+      → actor.node.id ≡ i → actor.node.n ≡ n → IsOpenedFrom n i (bytes_at_first tapes ended now lives) actor.node
   opened_next actor [] now stood are lives id among = opened_so actor now stood are lives id among
   opened_next actor (run ∷ ended) now stood are lives id among = opened_so actor run.0 stood are.0 lives.0 id among
 
@@ -121,7 +117,7 @@ module _ {T : Type 0} (tapes : Tape T) (n i : ℕ) where
       let whole = is_run actor run.0 stood are.0 lives.0 bytes opened in
       let id : follower.node.id ≡ i = follows.number ∙ same_id actor run.0 stood are.0 lives.0 opened.id in
       let among : follower.node.n ≡ n = follows.among ∙ same_n actor run.0 stood are.0 lives.0 opened.among in
-      let from = bytes_at_first ended now lives.1 in
+      let from = bytes_at_first tapes ended now lives.1 in
       let opened_again = opened_next follower ended now follows.stood are.3 lives.1 id among in
       let halts : (last lives.0.run).halted ≡ true = ap (λ (node : Node T). node.halted) lives.0.now ∙ follows.halted in
       let compared : HasStoredAs (last lives.0.run) follower.node = subst (λ (node : Node T). HasStoredAs node follower.node) (sym lives.0.now) follows.stored in

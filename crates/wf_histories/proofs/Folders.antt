@@ -49,7 +49,7 @@ module _ {T : Type 0} (tapes : Tape T) (n i : ℕ) where
       let counted = p.has.is_start.is_counted in
       ap tape_in counted.is_counted.calls ∙ (ap tape_in counted.is_on_tape.calls ∙ ap tape_in counted.is_on_tape.is_compared.calls)
 
-  opened_as : (p : NodeProcess tapes) → IsProcessOf tapes n i p → IsOpenedFrom n i (bytes_read tapes p) p.has.started.actor.node
+  pub opened_as : (p : NodeProcess tapes) → IsProcessOf tapes n i p → IsOpenedFrom n i (bytes_read tapes p) p.has.started.actor.node
   opened_as p is =
       let opened = p.has.is_started.opened in
       record {
@@ -61,7 +61,7 @@ module _ {T : Type 0} (tapes : Tape T) (n i : ℕ) where
       }
 
   -- its runs follow one another from its start on
-  all_runs : (p : NodeProcess tapes) → AreRunsFrom tapes p.has.started.actor p.has.on.voter.process.ended.items p.has.on.voter.process.actor
+  pub all_runs : (p : NodeProcess tapes) → AreRunsFrom tapes p.has.started.actor p.has.on.voter.process.ended.items p.has.on.voter.process.actor
   all_runs p =
       let earlier = p.has.on.earlier in
       let none = p.has.is_started.first in

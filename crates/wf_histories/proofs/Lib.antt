@@ -10,6 +10,12 @@ mod Agreement
 mod Replicas
 mod Advance
 mod Answers
+mod Killed
 mod Lessons
 mod Joiners
 mod Emptied
+mod Joining
+mod Timeline
+mod Lifetimes
+mod Replaced
+mod LivesAdvance

@@ -5,4 +5,9 @@ pub mod Theorems
 pub mod Replicas
 pub mod Advance
 pub mod Answers
+pub mod Killed
 pub mod Joiners
+pub mod Joining
+pub mod Events
+pub mod Lifetimes
+pub mod LivesAdvance

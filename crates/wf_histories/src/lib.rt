@@ -20,13 +20,20 @@
 //!   have different definitions under one sequence; no list loses a definition, across restarts
 //!   too; and equal requests to the map service get equal bytes, a 503 for a failed allocation
 //!   aside ([`nodes_agree`]). Clients of a process that ended by itself were answered by such
-//!   values ([`answers_are_of_nodes`], `specs/Answers.antt`).
+//!   values ([`answers_are_of_nodes`], `specs/Answers.antt`); and so was each client that a process
+//!   had answered, before it was killed, by a moment at which it had lived by the first of the acts
+//!   that it made ([`killed_answers_are_of_nodes`], `specs/Killed.antt`). So such clients that ask
+//!   alike get equal bytes ([`clients_get_equally`]).
 //! - What replicas learn of such a farm is a beginning of that history, and they answer alike
 //!   ([`replicas_are_of_the_farm`]).
 //! - A folder that joins in the place of a lost one (`specs/Joiners.antt`) has learned what its
 //!   next process reads of the tape ([`joiners_have_learned`]), and where it ceased to join, that
 //!   process may vote with it ([`joined_folders_may_vote`]). So it has joined as `wf_rejoin_guard`
 //!   wants it ([`folders_join_by_learning`]).
+//! - So nodes of which some lost their disks, and folders joined in the place of these
+//!   (`specs/Lifetimes.antt`), are a timeline of `wf_replacement`
+//!   ([`replaced_nodes_are_a_timeline`]): there is one history, no list loses a definition, on
+//!   whichever folder, and equal queries get equal answers ([`replaced_nodes_agree`]).
 //!
 //! **Premises** (`AreNodeProcesses`). Of bytes: a process read of its tape what the one before it
 //! left, or what starts that didn't come to serve made of that; the first of a node, what an empty
@@ -39,6 +46,11 @@
 //! it can be met, one thing after the other ([`node_processes_go_on`], `specs/Advance.antt`).
 //! Of a folder that joins: what its file `joins` said is of its node and was answered; the file
 //! `farm` says no less when the next process reads it, which no clause says of what is put there.
+//! What is said of its processes can be met, too ([`joiners_go_on`], `specs/Joining.antt`).
+//! Of nodes that lose their disks (`AreLifetimes`): all began on empty tapes, nothing ran on a
+//! folder that was lost, each that took its place had joined by then, and no node was given a
+//! question of one that joins, which is no event of a timeline, unless a node had asked the same by
+//! then ([`lifetimes_go_on`], `specs/LivesAdvance.antt`).
 //!
 //! **Doesn't.** It opens no file and no socket, and no process of the program depends on it.
 #![tactic(auto)]
@@ -46,7 +58,9 @@
 mod theorem;
 
 pub use theorem::{
-    answers_are_of_nodes, folders_join_by_learning, joined_folders_may_vote, joiners_have_learned,
+    answers_are_of_nodes, clients_get_equally, folders_join_by_learning, joined_folders_may_vote,
+    joiners_go_on, joiners_have_learned, killed_answers_are_of_nodes, lifetimes_go_on,
     node_processes_go_on, nodes_agree, nodes_are_one_farm, processes_show_lives,
-    processes_show_what_came, replicas_are_of_the_farm, sent_messages_are_carried,
+    processes_show_what_came, replaced_nodes_agree, replaced_nodes_are_a_timeline,
+    replicas_are_of_the_farm, sent_messages_are_carried,
 };

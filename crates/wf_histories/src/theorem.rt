@@ -3,6 +3,10 @@ ghost use Rattle.wf_histories.specs.Advance.{ActAdvances, NothingAdvances, RunAd
 ghost use Rattle.wf_histories.specs.Answers.{AnswersAreOfNodes};
 ghost use Rattle.wf_histories.specs.Carried.{SentAreCarried};
 ghost use Rattle.wf_histories.specs.Joiners.{FoldersJoinByLearning, JoinedFoldersMayVote, JoinersHaveLearned};
+ghost use Rattle.wf_histories.specs.Joining.{ActJoins, CallsShowEmptied, FirstJoins, MoreIsSent, NextJoins, NextVotes, RunJoins};
+ghost use Rattle.wf_histories.specs.Killed.{AnswersByThenAreOfNodes, ClientsGetEqually, EarlierAnswersAreOfNodes, WholeIsWithinActs};
+ghost use Rattle.wf_histories.specs.Lifetimes.{LifetimesAnswerAlike, LifetimesAnswerMapsAlike, LifetimesAreTimeline, LifetimesNeverDiffer, LifetimesNeverGoBack, LifetimesShareHistory};
+ghost use Rattle.wf_histories.specs.LivesAdvance.{FirstStarts, FolderTakesPlace, LifeGoesOn, NothingLives};
 ghost use Rattle.wf_histories.specs.Replicas.{ReplicasAgree};
 ghost use Rattle.wf_histories.specs.Theorems.{NodesAgree, NodesAreOneFarm, ProcessesShowLives, ProcessesShowWhatCame};
 
@@ -11,6 +15,8 @@ use wf_career::{
     a_compared_node_goes_on, lists_grow, processes_agree, replicas_agree, replicas_answer_alike,
 };
 use wf_journal::records_are_read_one_way;
+use wf_rejoin_guard::learners_may_rejoin;
+use wf_replacement::{published_lists_grow, timelines_agree, timelines_answer_alike};
 use wf_replica::{a_replica_never_goes_back, what_is_learned_is_served};
 use wf_tape::Tape;
 use wf_wire::only_posted_messages_come;
@@ -69,6 +75,25 @@ pub fn answers_are_of_nodes<T: Tape>()
     ensures { AnswersAreOfNodes T.Tape }
 {}
 
+/// Each client that a process of the farm, killed or not, had answered by a moment within the acts
+/// that it made was answered by one of the values that its node had: so where one client was
+/// answered within them, each client before it was, too. A process that made all its acts is within
+/// them itself.
+pub fn killed_answers_are_of_nodes<T: Tape>()
+    ensures moment { AnswersByThenAreOfNodes T.Tape }
+    ensures earlier { EarlierAnswersAreOfNodes T.Tape }
+    ensures whole { WholeIsWithinActs T.Tape }
+{}
+
+/// Two clients of processes of the farm, each answered by a moment within the acts that its process
+/// made, that ask the map service the same get equal bytes, a 503 for a failed allocation aside:
+/// as [`nodes_agree`] has it, but nothing is presupposed of the values by which they were answered.
+pub fn clients_get_equally<T: Tape>()
+    ensures { ClientsGetEqually T.Tape }
+{
+    nodes_agree::<T>();
+}
+
 /// The premises can be met, one thing after the other: where nothing has started they hold, and
 /// they still do where a process starts on what the last one left, takes the next act of its run,
 /// by which it hears of a peer what was sent before, or goes on in its next run.
@@ -120,3 +145,59 @@ pub fn folders_join_by_learning<T: Tape>()
     joiners_have_learned::<T>();
     joined_folders_may_vote::<T>();
 }
+
+/// The premises about the processes of a folder that joins can be met, one thing after the other:
+/// where one starts on an empty tape they hold, and they still do where it takes the next act of
+/// its run, by which it hears what was sent before, goes on in its next run, ends, and another one
+/// starts on what it left; where that need not join, the folder has joined. That the file `joins`
+/// was emptied, the calls show.
+pub fn joiners_go_on<T: Tape>()
+    ensures first { FirstJoins T.Tape }
+    ensures act { ActJoins T.Tape }
+    ensures run { RunJoins T.Tape }
+    ensures more { MoreIsSent T.Tape }
+    ensures next { NextJoins T.Tape }
+    ensures votes { NextVotes T.Tape }
+    ensures calls { CallsShowEmptied T.Tape }
+{}
+
+/// Processes of nodes, of which some lost their disks and folders joined in the place of these, are
+/// a timeline of `wf_replacement`, in which each folder that took another's place had joined by
+/// learning; and what a node lived as it held there, in the same order.
+pub fn replaced_nodes_are_a_timeline<T: Tape>()
+    ensures { LifetimesAreTimeline T.Tape }
+{
+    records_are_read_one_way();
+    a_compared_node_goes_on::<T>();
+    runs_receive_their_own();
+    sent_messages_are_carried();
+    folders_join_by_learning::<T>();
+}
+
+/// The headline of `wfarm node` where disks are lost: there is one history, of which each list that
+/// a node ever published is a beginning, on whichever folder; no two have different definitions
+/// under one sequence, none goes back, and equal queries have equal answers.
+pub fn replaced_nodes_agree<T: Tape>()
+    ensures history { LifetimesShareHistory T.Tape }
+    ensures definition { LifetimesNeverDiffer T.Tape }
+    ensures grow { LifetimesNeverGoBack T.Tape }
+    ensures answer { LifetimesAnswerAlike T.Tape }
+    ensures map { LifetimesAnswerMapsAlike T.Tape }
+{
+    replaced_nodes_are_a_timeline::<T>();
+    learners_may_rejoin::<T>();
+    timelines_agree::<T>();
+    published_lists_grow::<T>();
+    timelines_answer_alike::<T>();
+}
+
+/// The premises about nodes of which some lose their disks can be met, one thing after the other:
+/// where no node has started they hold, and they still do where one goes on, which hears what was
+/// sent before; so does one whose first process starts, or of which a folder that had joined takes
+/// the place of a lost one, on which a process starts.
+pub fn lifetimes_go_on<T: Tape>()
+    ensures nothing { NothingLives T.Tape }
+    ensures goes_on { LifeGoesOn T.Tape }
+    ensures first { FirstStarts T.Tape }
+    ensures replaced { FolderTakesPlace T.Tape }
+{}

@@ -1,7 +1,7 @@
 -- The process of a hub, and the clients that it answered.
 use Rattle.std.specs.Prelude.{◌≡◌, ℕ, true, List, [], Option}
 use Rattle.std.specs.declared.net.socket_addr.SocketAddr.{SocketAddr}
-use Rattle.wf_actor.specs.declared.process.Process.{Process}
+use Rattle.wf_voter.specs.Process.{Process}
 use Rattle.wf_digest.specs.Digest.{AreDigestsOf}
 use Rattle.wf_voter.specs.Answer.{AreAnswered, AreEarlier}
 use Rattle.wf_voter.specs.Continuation.{HasLearnt, IsHeardKept, besides_asks}

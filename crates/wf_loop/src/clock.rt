@@ -5,13 +5,12 @@ ghost use Rattle.wf_voter.specs.Continuation.{Continues, ContinuesIn};
 use std::alloc::Global;
 use std::net::Net;
 use std::time::Clock;
-use wf_actor::Process;
 use wf_mesh::{Desk, Mesh, Pace};
 use wf_peering::{accept, ask_all, call_all, connect, greet_again, obey, save};
 use wf_sockets::Network;
 use wf_tape::Tape;
 use wf_visitors::Context;
-use wf_voter::{Clients, NodeFolder, Voter, retry};
+use wf_voter::{Clients, NodeFolder, Process, Voter, retry};
 
 /// What the node does in a turn by the clock, and for its peers.
 pub(crate) fn turn_by_clock<
@@ -132,7 +131,7 @@ fn retry_if_due<T: Tape + Drop, N: Network>(
     ensures { Continues T.Tape voter.old voter.new }
 {
     let proposal = voter.process.node().proposal();
-    if pace.is_retry_due(proposal, mesh.hears_majority(time), time) {
+    if pace.is_retry_due(proposal, mesh, time) {
         retry(alloc, voter);
     }
 }

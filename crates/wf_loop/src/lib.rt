@@ -30,6 +30,6 @@ mod service;
 mod turn;
 
 pub use hub::Hub;
-pub use wf_actor::Process;
 pub use wf_mesh::{Joiner, LoopFault, NodeEvent, NodePlan};
 pub use wf_visitors::Log;
+pub use wf_voter::Process;

@@ -1,6 +1,6 @@
 //! How a hub begins and goes on, turn after turn.
 ghost use Rattle.std.specs.Prelude.{◌≡◌, ◌≤◌, ◌+◌, ◌↔◌, ◌++◌, ◌∷◌, [], ℕ, List, true, Err, IfErr, IfOk, IsSome, IsTrue, OnErr, OnOk, Option};
-ghost use Rattle.wf_actor.specs.Process.{IsJustOpened};
+ghost use Rattle.wf_voter.specs.Process.{IsJustOpened};
 ghost use Rattle.wf_digest.specs.Digest.{AreDigestsOf};
 ghost use Rattle.wf_folder.specs.declared.suspension.Suspension.{Suspension as SuspensionValue};
 ghost use Rattle.wf_loop.specs.Hub.{GreetsAsNow, HasAnswered, IsBusy, IsHeardFirst, IsJoiner, IsOutvoted, IsOver, IsReopeningDue, IsSuspended, OnlyAnswersAsks, OnlyLearns, address_of, kept_of, membership_of, process_of, taken_in_by, time_of};
@@ -20,7 +20,6 @@ use std::alloc::Global;
 use std::net::{Net, SocketAddr};
 use std::rt::Files;
 use std::time::Clock;
-use wf_actor::Process;
 use wf_membership::Gate;
 use wf_mesh::{HubParts, HubStart, LoopFault, NodeEvent, NodePlan, Pace, TICK_MILLIS, bind};
 use wf_operator::Behind;
@@ -30,7 +29,9 @@ use wf_sockets::{Network, NetworkError, SystemNetwork};
 use wf_store::FileName;
 use wf_tape::Tape;
 use wf_visitors::{Context, Log, Visitors, now};
-use wf_voter::{Clients, NextRun, NodeFolder, NotReopened, TapeNotReopened, Voter, begin_run};
+use wf_voter::{
+    Clients, NextRun, NodeFolder, NotReopened, Process, TapeNotReopened, Voter, begin_run,
+};
 
 /// The most sockets of a turn.
 const MOST_READY: usize = 256;

@@ -35,6 +35,7 @@ impl<N: Network> Mesh<N> {
             address: dial.address(),
         });
         self.catch_up.connect(index, context.time);
+        self.connected_at = context.time;
         true
     }
 

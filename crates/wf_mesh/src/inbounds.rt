@@ -150,6 +150,7 @@ impl<N: Network> Mesh<N> {
     ) {
         let number = peer.number() as usize;
         self.catch_up.connect(number, context.time);
+        self.connected_at = context.time;
         context.log.write(&NodeEvent::Accepted { peer: number });
     }
 

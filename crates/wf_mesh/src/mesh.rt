@@ -75,6 +75,8 @@ pub struct Mesh<N: Network> {
     pub(crate) is_suspension_new: bool,
     // what can't be written to the folder
     pub(crate) unwritten: Option<FileName>,
+    // when a connection with a peer last began
+    pub(crate) connected_at: u64,
     // since when the hub runs
     pub(crate) since: u64,
     // since when what peers remember is waited for; None once it was
@@ -188,6 +190,7 @@ impl<N: Network> Mesh<N> {
             is_suspension_kept: suspension.is_some(),
             is_suspension_new: false,
             unwritten: None,
+            connected_at: time,
             since: time,
             began: Some(time),
             unlisted: Unlisted::new(alloc),
@@ -359,6 +362,12 @@ impl<N: Network> Mesh<N> {
             Some(state) => state.is_heard(time),
             None => false,
         }
+    }
+
+    /// When a connection with a peer last began, to it or from it. What was said before that may be
+    /// lost.
+    pub(crate) fn connected_at(&self) -> u64 {
+        self.connected_at
     }
 
     /// Closes all connections.

@@ -28,6 +28,10 @@ const MOST_REOPENING: u64 = 2_000;
 /// For how long a tape has to stand before the waits begin from the least one, in milliseconds.
 const LONG_STANDING: u64 = 60_000;
 
+/// How much longer than a node's first wait a round lasts at most once a connection with a peer has
+/// begun, in milliseconds: with the one before it, messages of the round may be lost.
+const LOST_MILLIS: u64 = 1_000;
+
 /// What a node does by the clock, and what was last seen of it.
 #[derive(Clone, Copy)]
 pub struct Pace {
@@ -38,6 +42,8 @@ pub struct Pace {
     keeping: Ticker,
     retries: Backoff,
     retry: Option<Alarm>,
+    // when the round of the running proposal began
+    tried_at: u64,
     reopenings: Backoff,
     reopening: Option<Alarm>,
     // since when the tape hasn't failed
@@ -57,6 +63,7 @@ impl Pace {
             keeping: Ticker::new(time, KEEPING_MILLIS),
             retries: retry_of(node),
             retry: None,
+            tried_at: time,
             reopenings: Backoff::new(LEAST_REOPENING, MOST_REOPENING),
             reopening: None,
             stands_since: time,
@@ -117,30 +124,40 @@ impl Pace {
 
     /// Whether a running proposal is to begin again: it is time to, or a majority is heard that
     /// wasn't.
-    pub fn is_retry_due(
+    pub fn is_retry_due<N: Network>(
         &mut self,
         proposal: ProposalState,
-        hears_majority: bool,
+        mesh: &Mesh<N>,
         time: u64,
     ) -> bool {
-        let is_back = self.notes_majority(hears_majority);
+        let is_back = self.notes_majority(mesh.hears_majority(time));
         if !matches!(proposal, ProposalState::Running) {
             self.retry = None;
             self.retries = retry_of(self.node);
             return false;
         }
-        let is_due = is_back
-            || match self.retry {
-                Some(alarm) => alarm.is_due(time),
-                None => false,
-            };
+        let is_due = is_back || self.is_round_over(mesh.connected_at(), time);
         if is_back {
             self.retries = retry_of(self.node);
         }
         if is_due || self.retry.is_none() {
+            self.tried_at = time;
             self.retry = Some(Alarm::after(time, self.retries.wait()));
         }
         is_due
+    }
+
+    /// Whether the answers to the round of a running proposal were waited for, where a connection
+    /// with a peer last began at this time.
+    fn is_round_over(&self, connected_at: u64, time: u64) -> bool {
+        let Some(alarm) = self.retry else {
+            return false;
+        };
+        if connected_at < self.tried_at {
+            return alarm.is_due(time);
+        }
+        let wait = self.retries.first.saturating_add(LOST_MILLIS);
+        alarm.sooner(Alarm::after(connected_at, wait)).is_due(time)
     }
 
     /// Whether a majority is heard that wasn't before; that it is heard is noted.

@@ -1,9 +1,7 @@
 -- A process whose folder joins goes on learning.
 use Rattle.std.proofs.Common.{◌≡◌, ◌∙◌, ℕ, List, [], ◌∷◌, ◌++◌, ap, refl, subst, sym}
 use Rattle.std.specs.Prelude.{Result, Ok, Err, OnErr, OnOk}
-use Rattle.wf_actor.specs.Process.{IsJustOpened}
-use Rattle.wf_actor.specs.declared.actor.Actor.{Actor}
-use Rattle.wf_actor.specs.declared.process.Process.{Process}
+use Rattle.wf_voter.specs.Process.{IsJustOpened, Actor, Process}
 use Rattle.wf_voter.specs.Continuation.{StaysInRun, besides_chosen, besides_questions}
 use Rattle.wf_loop.specs.Hub.{IsJoiner, OnlyLearns, process_of}
 use Rattle.wf_loop.specs.declared.hub.Hub.{Hub}

@@ -2,9 +2,7 @@
 use Rattle.std.proofs.Common.{◌≡◌, ◌∙◌, ℕ, Bool, false, true, List, [], ◌∷◌, ap, inl, inr, refl, sym, subst}
 use Rattle.std.proofs.lemmas.Bool.{false≢true}
 use Rattle.std.specs.Prelude.{◌↔◌, IsSome, IsTrue, Option, Some, None, Result, Ok, Err}
-use Rattle.wf_actor.specs.declared.actor.Actor.{Actor}
-use Rattle.wf_actor.specs.declared.actor.Origin.{Origin}
-use Rattle.wf_actor.specs.declared.process.Process.{Process}
+use Rattle.wf_voter.specs.Process.{Actor, Origin, Process}
 use Rattle.wf_codec.specs.Message.{view}
 use Rattle.wf_codec.specs.declared.message.Message.{Message}
 use Rattle.wf_line.specs.declared.node_line.NodeLine.{NodeLine}
@@ -45,6 +43,7 @@ system_cause line old new (faults.BadAddress option) is = absurd is
 system_cause line old new (faults.Rejected why) is = absurd is
 system_cause line old new (faults.PeerProgress why) is = absurd is
 system_cause line old new (faults.Replacement why) is = absurd is
+system_cause line old new (faults.TapeBad offset) is = absurd is
 system_cause line old new fault is = is
 
 -- what is left of what was heard was heard

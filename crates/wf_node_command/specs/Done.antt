@@ -1,6 +1,6 @@
 -- What a command did.
 use Rattle.std.specs.Prelude.{◌≡◌, ◌∷◌, ℕ, List, Option, Result, Ok, Err, IsSome}
-use Rattle.wf_actor.specs.declared.process.Process.{Process}
+use Rattle.wf_voter.specs.Process.{Process}
 use Rattle.wf_client.specs.Client.{Client}
 use Rattle.wf_folder.specs.declared.node_file.NodeFile.{NodeFile}
 use Rattle.wf_line.specs.declared.node_line.NodeCommand.{NodeCommand}
@@ -21,7 +21,7 @@ use Rattle.wf_node_command.specs.Learned.{HasOnlyLearned}
 use Rattle.wf_node_folder.specs.Made.{IsInitDone}
 use Rattle.wf_node_folder.specs.Ready.{IsNodePlanned}
 use Rattle.wf_node_folder.specs.Start.{IsNodeFault, IsStartOn, IsProcessStarted}
-use Rattle.wf_node_folder.specs.declared.fault.CommandFault.{CommandFault}
+pub use Rattle.wf_node_folder.specs.declared.fault.CommandFault.{CommandFault}
 use Rattle.wf_peer.specs.declared.heard.Heard.{Heard as HeardOfNode}
 use Rattle.wf_store.specs.Call.{Call, locked}
 use Rattle.wf_tape.specs.declared.tape.Tape.{Ghosts as Tape}

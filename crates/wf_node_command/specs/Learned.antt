@@ -1,7 +1,6 @@
 -- A process whose folder joins in the place of a lost one.
 use Rattle.std.specs.Prelude.{◌≡◌, ℕ, List, [], ◌∷◌}
-use Rattle.wf_actor.specs.declared.actor.Actor.{Actor}
-use Rattle.wf_actor.specs.declared.process.Process.{Process}
+use Rattle.wf_voter.specs.Process.{Actor, Process}
 use Rattle.wf_voter.specs.Continuation.{besides_chosen, besides_questions}
 use Rattle.wf_loop.specs.Hub.{IsJoiner, process_of}
 use Rattle.wf_loop.specs.declared.hub.Hub.{Hub}

@@ -1,6 +1,6 @@
 -- A node that runs.
 use Rattle.std.specs.Prelude.{◌≡◌, ◌∷◌, List, Option}
-use Rattle.wf_actor.specs.declared.process.Process.{Process}
+use Rattle.wf_voter.specs.Process.{Process}
 use Rattle.wf_line.specs.declared.node_line.NodeLine.{NodeLine}
 use Rattle.wf_mesh.specs.Membership.{membership_by}
 use Rattle.wf_membership.specs.declared.membership.Membership.{Membership}

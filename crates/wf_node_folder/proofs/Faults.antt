@@ -29,7 +29,7 @@ is_some (Some y) x is = refl
 
 pub from_fault : (line : InitLine) (from : Bor (List ℕ)) (fault : CommandFault) → line.from ≡ Some from → IsFromFault from.now line.id line.nodes fault → IsInitCause line fault
 from_fault line from (faults.FromUnread kind) some is = is_some line.from from some
-from_fault line from (faults.FromBad offset) some is = is_some line.from from some
+from_fault line from (faults.FromBad offset) some is = (is_some line.from from some, is)
 from_fault line from (faults.BesideUnread kind) some is = is_some line.from from some
 from_fault line from (faults.JoinsUnread kind) some is = is_some line.from from some
 from_fault line from faults.Memory some is = tt

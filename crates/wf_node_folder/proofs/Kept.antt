@@ -11,8 +11,8 @@ use Rattle.wf_journal.specs.declared.open_error.OpenFault.TheVariants.{TapeFaile
 use Rattle.wf_model.specs.DurableState.{DurableState, Record}
 use Rattle.wf_node.specs.Images.{StandsFor}
 use Rattle.wf_node.specs.OpenedNode.{IsFoldOf}
-use Rattle.wf_node_folder.specs.Held.{HasHeld, HoldsAll, IsWhyNotHeld, IsWhyNotHeldBy, ReadAlike}
-use Rattle.wf_node_folder.specs.Fault.{IsFromSystem}
+use Rattle.wf_node_folder.specs.Held.{HasHeld, HoldsAll, IsWhyNotHeld, IsWhyNotHeldBy, ReadAlike, copy_fault_of}
+use Rattle.wf_node_folder.specs.Damage.{IsWhyDamaged}
 use Rattle.wf_node_folder.specs.declared.fault.CommandFault.{CommandFault}
 use Rattle.wf_node_folder.specs.declared.fault.CommandFault.TheVariants as faults
 use Rattle.wf_tape.specs.Tape.{IsUnchanged}
@@ -83,8 +83,11 @@ held_by file content stored stands holds = record { stored = stored; stands = st
 pub not_held_by : (file : NodeFile) (content : List ℕ) (stored : DurableState Definition) (fault : CommandFault) → StandsFor stored content → IsWhyNotHeld file.known stored fault →
     IsWhyNotHeldBy file content fault
 not_held_by file content stored (faults.Rejected why) stands less = record { stored = stored; stands = stands; less = less }
+not_held_by file content stored (faults.TapeBad offset) stands is = absurd is
 not_held_by file content stored fault stands is = is
 
-pub unheld_of_system : (file : NodeFile) (content : List ℕ) (fault : CommandFault) → IsFromSystem fault → IsWhyNotHeldBy file content fault
-unheld_of_system file content (faults.Rejected why) is = absurd is
-unheld_of_system file content fault is = is
+-- no node opened on them
+pub not_opened_by : (file : NodeFile) (content : List ℕ) (why : OpenFault) (fault : CommandFault) → fault ≡ copy_fault_of why → IsWhyDamaged why content → IsWhyNotHeldBy file content fault
+not_opened_by file content TapeFailed fault is bad = subst (IsWhyNotHeldBy file content) (sym is) tt
+not_opened_by file content (BadRecord offset) fault is bad = subst (IsWhyNotHeldBy file content) (sym is) bad
+not_opened_by file content Memory fault is bad = subst (IsWhyNotHeldBy file content) (sym is) tt

@@ -1,4 +1,5 @@
 mod Clearing
+mod Damage
 mod Faults
 mod Found
 mod Joined

@@ -1,7 +1,7 @@
 -- The calls by which a node's tape is read, compared and opened.
 use Rattle.std.proofs.Common.{◌≡◌, ℕ, List, ◌∷◌, ap, inl, inr, subst, sym}
 use Rattle.std.specs.Prelude.{Option, Some, Result, Ok, Err, IfErr, IfOk, OnErr, OnOk}
-use Rattle.wf_actor.specs.declared.process.Process.{Process}
+use Rattle.wf_voter.specs.Process.{Process}
 use Rattle.wf_def.specs.Definition.{Definition}
 use Rattle.wf_folder.specs.declared.node_file.NodeFile.{NodeFile}
 use Rattle.wf_folder.specs.declared.reach.Known.{Known}
@@ -44,10 +44,12 @@ module _ (file : NodeFile) (bytes : List ℕ) (old new : List Call) (result : Re
       by_result : (r : Result ReadNode CommandFault) → IfErr r (IsWhyNotHeldBy file bytes) → IfErr r (IsWhyNotCompared file old new)
       by_result (Ok copy) is_why = tt
       by_result (Err (faults.Rejected rejection)) back = record { content = bytes; back = back; calls = is }
+      by_result (Err (faults.TapeBad offset)) damaged = record { content = bytes; damaged = damaged; calls = is }
       by_result (Err fault) is_why = is_why
 
 pub uncompared_of_system : (file : NodeFile) (old new : List Call) (fault : CommandFault) → IsFromSystem fault → IsWhyNotCompared file old new fault
 uncompared_of_system file old new (faults.Rejected why) is = absurd is
+uncompared_of_system file old new (faults.TapeBad offset) is = absurd is
 uncompared_of_system file old new fault is = is
 
 -- ---- opening

@@ -1,7 +1,7 @@
 -- The calls of a start, one after the other.
 use Rattle.std.proofs.Common.{◌≡◌, ◌⊎◌, ◌∙◌, ℕ, List, ◌∷◌, ap, inl, inr, subst, sym}
 use Rattle.std.specs.Prelude.{Option, Result, Ok, Err, IfErr, IfOk, IfSome, OnErr, option_map}
-use Rattle.wf_actor.specs.declared.process.Process.{Process}
+use Rattle.wf_voter.specs.Process.{Process}
 use Rattle.wf_def.specs.Definition.{Definition}
 use Rattle.wf_folder.specs.NodeFile.{node_text, raised_known}
 use Rattle.wf_folder.specs.declared.node_file.NodeFile.{NodeFile}
@@ -82,11 +82,13 @@ stop_unopened file old new fault is = is
 pub stop_of_system : (file : NodeFile) (old new : List Call) (fault : CommandFault) → IsFromSystem fault → IsStopFault file old new fault
 stop_of_system file old new (faults.Rejected why) is = absurd is
 stop_of_system file old new (faults.PeerProgress why) is = absurd is
+stop_of_system file old new (faults.TapeBad offset) is = absurd is
 stop_of_system file old new fault is = is
 
 stop_of_unheard : (file : NodeFile) (old new : List Call) (fault : CommandFault) → IsWhyUnheard new fault → IsStopFault file old new fault
 stop_of_unheard file old new (faults.Rejected why) is = absurd is
 stop_of_unheard file old new (faults.PeerProgress why) is = is
+stop_of_unheard file old new (faults.TapeBad offset) is = absurd is
 stop_of_unheard file old new fault is = is
 
 -- the tape wasn't opened, or no node was on it
@@ -177,12 +179,14 @@ plan_still tapes line files plan (Err fault) is same = tt
 pub not_admitted : (line : NodeLine) (old new : List Call) (fault : CommandFault) → IsWhyNotAdmitted line old new fault → IsHeldCause line old new fault
 not_admitted line old new (faults.Rejected why) is = inl is
 not_admitted line old new (faults.PeerProgress why) is = absurd is
+not_admitted line old new (faults.TapeBad offset) is = absurd is
 not_admitted line old new fault is = is
 
 stop_cause : (line : NodeLine) (file : NodeFile) (old admitted new : List Call) (fault : CommandFault) → IsStartAdmitted line file old admitted → IsStopFault file admitted new fault → IsHeldCause line old new fault
 stop_cause line file old admitted new (faults.Rejected why) is returned = inr (record { file = file; admitted = admitted; is_admitted = is; returned = returned })
 stop_cause line file old admitted new (faults.PeerProgress why) is heard = heard
 stop_cause line file old admitted new (faults.Replacement why) is bad = absurd bad
+stop_cause line file old admitted new (faults.TapeBad offset) is damaged = record { file = file; admitted = admitted; is_admitted = is; damaged = damaged }
 stop_cause line file old admitted new fault is why = why
 
 module _ {T : Type 0} (tapes : Tape T) (line : NodeLine) (file : NodeFile) (old admitted new : List Call) (is : IsStartAdmitted line file old admitted) (result : Result (ReadyNode T tapes) CommandFault) where
@@ -219,6 +223,7 @@ words_cause line old new (faults.BadAddress option) is = is
 words_cause line old new (faults.Rejected why) is = absurd is
 words_cause line old new (faults.PeerProgress why) is = absurd is
 words_cause line old new (faults.Replacement why) is = absurd is
+words_cause line old new (faults.TapeBad offset) is = absurd is
 words_cause line old new fault is = is
 
 -- a word of the command line is bad

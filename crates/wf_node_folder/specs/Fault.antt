@@ -42,6 +42,7 @@ IsFromSystem (faults.FromBad offset) = ⊥
 IsFromSystem (faults.FromRejected why) = ⊥
 IsFromSystem (faults.BesideUnread kind) = ⊥
 IsFromSystem (faults.JoinsUnread kind) = ⊥
+IsFromSystem (faults.TapeBad offset) = ⊥
 IsFromSystem fault = ⊤
 
 -- why nothing is known of what was heard: the file `heard` is bad, or the system failed

@@ -8,7 +8,10 @@ use Rattle.wf_folder.specs.NodeFile.{IsNodeFile, IsTextOf}
 use Rattle.wf_folder.specs.declared.farm_file.FarmFile.{FarmFile}
 use Rattle.wf_folder.specs.declared.node_file.NodeFile.{NodeFile}
 use Rattle.wf_journal.specs.Records.{IsTapeOf}
+use Rattle.wf_journal.specs.declared.open_error.OpenFault.{OpenFault}
+use Rattle.wf_journal.specs.declared.open_error.OpenFault.TheVariants.{BadRecord}
 use Rattle.wf_model.specs.DurableState.{Accepted, DurableState, Promised, Published, Record, Tried, fold}
+use Rattle.wf_node.specs.OpenedNode.{IsUnfitAt, IsWhyBad}
 use Rattle.wf_node_folder.specs.declared.fault.CommandFault.{CommandFault}
 use Rattle.wf_node_folder.specs.declared.fault.CommandFault.TheVariants as faults
 use Rattle.wf_node_folder.specs.declared.from_rejection.Beside.{Beside}
@@ -162,26 +165,35 @@ CannotBeRead (faults.JoinsUnread kind) = ⊤
 CannotBeRead faults.Memory = ⊤
 CannotBeRead fault = ⊥
 
--- no node opens on it
-abbrev pub OpensNoNode : CommandFault → Type 0
-OpensNoNode (faults.FromBad offset) = ⊤
-OpensNoNode faults.Memory = ⊤
-OpensNoNode fault = ⊥
+-- the error of a tape in memory on which no node opens
+abbrev pub from_fault_of : OpenFault → CommandFault
+from_fault_of (BadRecord offset) = faults.FromBad offset
+from_fault_of fault = faults.Memory
 
--- why a tape isn't taken by its records: no node opens on it, or it can't be this one
+-- why a tape isn't taken by its records: the one at this byte offset doesn't fit, so that no node
+-- opens on it; or it can't be this one
 abbrev pub IsRecordsFault : (id : ℕ) (records : List (Record Definition)) → CommandFault → Type 0
 IsRecordsFault id records (faults.FromRejected (causes.Untried round tried)) = HasUntried id records round tried
-IsRecordsFault id records fault = OpensNoNode fault
+IsRecordsFault id records (faults.FromBad offset) = (fold records ≡ None) × IsUnfitAt records offset
+IsRecordsFault id records faults.Memory = ⊤
+IsRecordsFault id records fault = ⊥
 
 -- and so by its bytes
 abbrev pub IsTapeFault : (id : ℕ) (bytes : List ℕ) → CommandFault → Type 0
 IsTapeFault id bytes (faults.FromRejected (causes.Untried round tried)) = IsTapeOfOther id bytes round tried
-IsTapeFault id bytes fault = OpensNoNode fault
+IsTapeFault id bytes (faults.FromBad offset) = IsWhyBad (BadRecord offset) bytes
+IsTapeFault id bytes faults.Memory = ⊤
+IsTapeFault id bytes fault = ⊥
+
+-- bytes were read as those of a tape, and no node opens on them: at this byte offset they are bad,
+-- or have a record that doesn't fit
+abbrev pub HasBadBytes : ℕ → Type 0
+HasBadBytes offset = (bytes : List ℕ) × IsWhyBad (BadRecord offset) bytes
 
 -- why the tape in this file isn't taken
 abbrev pub IsFromFault : (from : List ℕ) (id n : ℕ) → CommandFault → Type 0
 IsFromFault from id n (faults.FromUnread kind) = ⊤
-IsFromFault from id n (faults.FromBad offset) = ⊤
+IsFromFault from id n (faults.FromBad offset) = HasBadBytes offset
 IsFromFault from id n (faults.BesideUnread kind) = ⊤
 IsFromFault from id n (faults.JoinsUnread kind) = ⊤
 IsFromFault from id n faults.Memory = ⊤

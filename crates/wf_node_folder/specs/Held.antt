@@ -9,11 +9,14 @@ use Rattle.wf_folder.specs.declared.node_file.NodeFile.{NodeFile}
 use Rattle.wf_folder.specs.declared.reach.Known.{Known}
 use Rattle.wf_folder.specs.declared.reach.Reach.{Reach}
 use Rattle.wf_journal.specs.Journal.{ReadsSame}
+use Rattle.wf_journal.specs.declared.open_error.OpenFault.{OpenFault}
+use Rattle.wf_journal.specs.declared.open_error.OpenFault.TheVariants.{BadRecord}
 use Rattle.wf_voter.specs.Reach.{IsHighestVote}
 use Rattle.wf_model.specs.DurableState.{DurableState}
 use Rattle.wf_model.specs.VolatileState.{at_start}
 use Rattle.wf_node.specs.Images.{StandsFor}
 use Rattle.wf_node.specs.Node.{Node, stored_of, volatile_of}
+use Rattle.wf_node_folder.specs.Damage.{IsDamagedAt}
 use Rattle.wf_node_folder.specs.Fault.{IsFromSystem}
 use Rattle.wf_node_folder.specs.declared.fault.CommandFault.{CommandFault}
 use Rattle.wf_node_folder.specs.declared.fault.CommandFault.TheVariants as faults
@@ -60,9 +63,15 @@ pub record HasGoneBack (file : NodeFile) (content : List ℕ) (why : NodeRejecti
   pub stands : StandsFor stored content
   pub less : HoldsLess file.known stored why
 
+-- the error of a tape in memory on which no node opens
+abbrev pub copy_fault_of : OpenFault → CommandFault
+copy_fault_of (BadRecord offset) = faults.TapeBad offset
+copy_fault_of fault = faults.Memory
+
 -- why a node isn't admitted by the bytes of its tape
 abbrev pub IsWhyNotHeldBy : NodeFile → List ℕ → CommandFault → Type 0
 IsWhyNotHeldBy file content (faults.Rejected why) = HasGoneBack file content why
+IsWhyNotHeldBy file content (faults.TapeBad offset) = IsDamagedAt content offset
 IsWhyNotHeldBy file content fault = IsFromSystem fault
 
 -- The node of this file, of as many nodes as the file says, was just opened: it runs, with no

@@ -1,4 +1,5 @@
 pub mod Cleared
+pub mod Damage
 pub mod Fault
 pub mod Folder
 pub mod FolderTheorems

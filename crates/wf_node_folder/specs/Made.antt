@@ -6,7 +6,7 @@ use Rattle.wf_folder.specs.NodeFile.{IsNodeFile, node_text}
 use Rattle.wf_folder.specs.declared.node_file.NodeFile.{NodeFile}
 use Rattle.wf_line.specs.declared.node_line.InitLine.{InitLine}
 use Rattle.wf_node_folder.specs.Fault.{IsFromSystem}
-use Rattle.wf_node_folder.specs.From.{MayBeFrom, IsNotFrom}
+use Rattle.wf_node_folder.specs.From.{HasBadBytes, MayBeFrom, IsNotFrom}
 use Rattle.wf_node_folder.specs.declared.fault.CommandFault.{CommandFault}
 use Rattle.wf_node_folder.specs.declared.fault.CommandFault.TheVariants as faults
 use Rattle.wf_node_folder.specs.declared.from_rejection.FromRejection.{FromRejection}
@@ -88,7 +88,7 @@ IsInitCause line (faults.Id id nodes) = (id ≡ line.id) × (nodes ≡ line.node
 IsInitCause line faults.Name = ¬ (IsNameText line.farm.now)
 IsInitCause line faults.ReplaceFrom = (line.replaces ≡ true) × IsSome line.from
 IsInitCause line (faults.FromUnread kind) = IsSome line.from
-IsInitCause line (faults.FromBad offset) = IsSome line.from
+IsInitCause line (faults.FromBad offset) = IsSome line.from × HasBadBytes offset
 IsInitCause line (faults.BesideUnread kind) = IsSome line.from
 IsInitCause line (faults.JoinsUnread kind) = IsSome line.from
 IsInitCause line (faults.FromRejected why) = IsFromRejected line why

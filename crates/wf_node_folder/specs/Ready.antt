@@ -1,6 +1,6 @@
 -- A node that is ready to be served.
 use Rattle.std.specs.Prelude.{◌≡◌, List, [], Option, IfSome, option_map}
-use Rattle.wf_actor.specs.Process.{IsJustOpened}
+use Rattle.wf_voter.specs.Process.{IsJustOpened}
 use Rattle.wf_folder.specs.declared.node_file.NodeFile.{NodeFile}
 use Rattle.wf_line.specs.declared.node_line.NodeLine.{NodeLine}
 use Rattle.wf_mesh.specs.declared.plan.NodePlan.{NodePlan}

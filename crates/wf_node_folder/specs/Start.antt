@@ -1,8 +1,6 @@
 -- On what a node starts: what its folder has, and the calls by which that is read and written.
 use Rattle.std.specs.Prelude.{◌≡◌, ◌<◌, ◌⊎◌, ℕ, List, [], ◌∷◌, Option, Some, length, option_map}
-use Rattle.wf_actor.specs.Start.{IsOpened}
-use Rattle.wf_actor.specs.Process.{IsJustOpened}
-use Rattle.wf_actor.specs.declared.process.Process.{Process}
+use Rattle.wf_voter.specs.Process.{IsOpened, IsJustOpened, Process}
 use Rattle.wf_address.specs.Address.{IsFirstBad, IsNoAddress, words_of}
 use Rattle.wf_address.specs.declared.address_option.AddressOption.{AddressOption}
 use Rattle.wf_address.specs.declared.address_option.AddressOption.TheVariants as options
@@ -15,6 +13,7 @@ use Rattle.wf_folder.specs.declared.node_file.NodeFile.{NodeFile}
 use Rattle.wf_folder.specs.declared.presence.Presence.{Presence}
 use Rattle.wf_line.specs.declared.node_line.NodeLine.{NodeLine}
 use Rattle.wf_node.specs.Node.{stored_of}
+use Rattle.wf_node_folder.specs.Damage.{IsDamagedAt}
 use Rattle.wf_node_folder.specs.Fault.{IsFromSystem}
 use Rattle.wf_node_folder.specs.Folder.{IsFoundIn, IsHeardBad, IsHeardIn}
 use Rattle.wf_node_folder.specs.Held.{HasGoneBack, HasHeld, HoldsAll}
@@ -99,8 +98,15 @@ pub record IsReturned (file : NodeFile) (why : NodeRejection) (old new : List Ca
   pub back : HasGoneBack file content why
   pub calls : new ≡ read (NodeTape file.node) (Some content) ∷ old
 
+-- It was read, and is damaged at this byte offset.
+pub record IsReadDamaged (file : NodeFile) (offset : ℕ) (old new : List Call) : Type 0 where
+  pub content : List ℕ
+  pub damaged : IsDamagedAt content offset
+  pub calls : new ≡ read (NodeTape file.node) (Some content) ∷ old
+
 abbrev pub IsWhyNotCompared : NodeFile → List Call → List Call → CommandFault → Type 0
 IsWhyNotCompared file old new (faults.Rejected why) = IsReturned file why old new
+IsWhyNotCompared file old new (faults.TapeBad offset) = IsReadDamaged file offset old new
 IsWhyNotCompared file old new fault = IsFromSystem fault
 
 -- It was compared, and then opened.
@@ -210,6 +216,13 @@ pub record HasReturned (line : NodeLine) (why : NodeRejection) (old new : List C
   pub is_admitted : IsStartAdmitted line file old admitted
   pub returned : IsReturned file why admitted new
 
+-- It admitted the start, and its tape is damaged at this byte offset.
+pub record HasDamagedTape (line : NodeLine) (offset : ℕ) (old new : List Call) : Type 0 where
+  pub file : NodeFile
+  pub admitted : List Call
+  pub is_admitted : IsStartAdmitted line file old admitted
+  pub damaged : IsReadDamaged file offset admitted new
+
 -- why a start is rejected: by what was found in the folder, or by the tape
 abbrev pub IsStartRejected : NodeLine → NodeRejection → List Call → List Call → Type 0
 IsStartRejected line why old new = IsRejectedBy line why old new ⊎ HasReturned line why old new
@@ -238,6 +251,7 @@ IsWordsFault line fault = IsFromSystem fault
 abbrev pub IsStopFault : NodeFile → List Call → List Call → CommandFault → Type 0
 IsStopFault file old new (faults.Rejected why) = IsReturned file why old new
 IsStopFault file old new (faults.PeerProgress why) = IsHeardBad new
+IsStopFault file old new (faults.TapeBad offset) = IsReadDamaged file offset old new
 IsStopFault file old new fault = IsFromSystem fault
 
 -- why a start on a folder that is locked isn't counted
@@ -245,6 +259,7 @@ abbrev pub IsHeldCause : NodeLine → List Call → List Call → CommandFault �
 IsHeldCause line old new (faults.Rejected why) = IsStartRejected line why old new
 IsHeldCause line old new (faults.PeerProgress why) = IsHeardBad new
 IsHeldCause line old new (faults.Replacement why) = HasBadFile line why old new
+IsHeldCause line old new (faults.TapeBad offset) = HasDamagedTape line offset old new
 IsHeldCause line old new fault = IsFromSystem fault
 
 -- Why a node didn't begin: the list or an option of the command line, what was found in the folder,
@@ -256,6 +271,7 @@ IsNodeCause line old new (faults.BadAddress option) = IsBadOption line option
 IsNodeCause line old new (faults.Rejected why) = IsStartRejected line why (locked ∷ old) new
 IsNodeCause line old new (faults.PeerProgress why) = IsHeardBad new
 IsNodeCause line old new (faults.Replacement why) = HasBadFile line why (locked ∷ old) new
+IsNodeCause line old new (faults.TapeBad offset) = HasDamagedTape line offset (locked ∷ old) new
 IsNodeCause line old new fault = IsFromSystem fault
 
 -- Why, and what is left in its folder.

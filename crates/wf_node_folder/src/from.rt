@@ -4,11 +4,12 @@ ghost use Rattle.std.specs.Option.{option_copied};
 ghost use Rattle.std.specs.Path.{path_file_name};
 ghost use Rattle.wf_journal.specs.Record.{view};
 ghost use Rattle.wf_journal.specs.Records.{AreRecords};
-ghost use Rattle.wf_node_folder.specs.From.{AllCanBeOf, CanBeOf, CanBeRecordsOf, MayBeFrom, IsFromFault, IsNamed, IsOfNode, IsFarmFileReadAs, IsTapeFault, IsRecordsFault, IsTapeOfNode, IsThatIfAny, OpensNoNode, CannotBeRead, IsUntried, IsUntriedIn, IsWhyNotOfNode, ballot_of, digits, nodes_of, only_node, tape_name};
+ghost use Rattle.wf_node_folder.specs.From.{AllCanBeOf, CanBeOf, CanBeRecordsOf, MayBeFrom, IsFromFault, IsNamed, IsOfNode, IsFarmFileReadAs, IsTapeFault, IsRecordsFault, IsTapeOfNode, IsThatIfAny, CannotBeRead, IsUntried, IsUntriedIn, IsWhyNotOfNode, ballot_of, digits, from_fault_of, nodes_of, only_node, tape_name};
 
 use crate::fault::CommandFault;
 use crate::from_rejection::{Beside, FromRejection};
 use crate::tape::MOST_TAPE_BYTES;
+use crate::theorem::whole_records_are_bad_nowhere;
 use std::alloc::Global;
 use std::io::ErrorKind;
 use std::path::Path;
@@ -35,6 +36,7 @@ pub(crate) struct FirstTape {
 /// is that of a farm of as many nodes, or of this node, its folder doesn't join, the tape has the
 /// name of this node's, and it promised and voted for no round of the node's own that it hadn't
 /// tried. Without a file `farm` beside it its name doesn't matter. Nothing is written.
+#[tactic(auto, using(crate::proofs::Own::not_from))]
 pub(crate) fn tape_from<R: Files + AllocGlobal>(
     rt: &R,
     from: &str,
@@ -253,6 +255,7 @@ fn is_number_and_end(rest: &[u8], id: u8) -> bool
 
 /// Whether a node opens on a tape of these bytes, and can be this one by its records. It is opened
 /// on a copy.
+#[tactic(auto, using(crate::proofs::Own::bad_bytes, crate::proofs::Own::tape_fault))]
 fn examine(alloc: Global, bytes: &[u8], id: NodeId, n: u8) -> Result<(), CommandFault>
     requires nodes { n ≤ 64 }
     requires member { id < n }
@@ -276,6 +279,7 @@ fn examine(alloc: Global, bytes: &[u8], id: NodeId, n: u8) -> Result<(), Command
 }
 
 /// Whether a node opens on a tape that has these records, and can be this one by them.
+#[tactic(auto, using(crate::proofs::Own::bad_records))]
 fn examine_records(
     alloc: Global,
     tape: MemoryTape,
@@ -291,6 +295,7 @@ fn examine_records(
 {
     // Bytes are read as one list of records at most.
     records_are_read_one_way();
+    whole_records_are_bad_nowhere();
     match Node::open(alloc, tape, id, n) {
         Ok(node) => {
             let tried = node.last_round();
@@ -346,7 +351,7 @@ fn ballot_of(entry: &Record) -> Option<Ballot>
 
 /// The error of a tape in memory that doesn't open.
 fn from_fault(fault: OpenFault) -> CommandFault
-    ensures { OpensNoNode result }
+    ensures { result ≡ from_fault_of fault }
 {
     match fault {
         OpenFault::BadRecord(offset) => CommandFault::FromBad(offset),

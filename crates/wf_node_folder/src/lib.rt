@@ -20,8 +20,10 @@
 //!   without zeros that were never synced (`wf_recovery`): it had stored what they stand for. Then
 //!   it moved to its tape, of which nothing is read: its records replace what that held, in one
 //!   call. If the tape is durable, whatever a crash leaves stands for what the node had stored.
-//! - A start that is rejected by what its tape holds has changed no file of the folder. A bad file
-//!   `heard` is an error.
+//! - A start that is rejected by what its tape holds has changed no file of the folder. A tape is
+//!   called damaged only where the bytes that were read of it are (`specs/Damage.antt`): at the
+//!   offset of the error, behind its records, is something bad that isn't zeros that were never
+//!   synced, or there is a record that doesn't fit. A bad file `heard` is an error.
 //! - While the node runs, no tape is made or put in the place of another, and a file is opened or
 //!   written only where the folder at its path has been seen to be the one that is locked
 //!   (`specs/Folder.antt`).
@@ -36,7 +38,8 @@
 //! **Doesn't.** What the system does with files has no model: that its lock holds, and that what is
 //! read is what was written. What another program writes to a tape between its reading and its
 //! opening is replaced. The tape of `--from`, and the file beside it, are of another folder, and
-//! are read by their paths. Where a tape failed, a start tries a second copy of it for the system's
+//! are read by their paths: of an error of them it is known that bytes were read that cause it, and
+//! no call notes which. Where a tape failed, a start tries a second copy of it for the system's
 //! cause (`node-I.tape.new`, which is removed).
 #![tactic(auto)]
 
@@ -58,6 +61,7 @@ mod replacement_files;
 mod running;
 mod settled;
 mod tape;
+mod theorem;
 
 pub use clear::clear_folder;
 pub use fault::CommandFault;

@@ -23,7 +23,6 @@ use std::alloc::Global;
 use std::fs::File;
 use std::rt::Files;
 use std::time::Clock;
-use wf_actor::Process;
 use wf_ballot::NodeId;
 use wf_folder::{Known, NodeFile, NodeFound, Reach, admit_node};
 use wf_line::NodeLine;
@@ -31,6 +30,7 @@ use wf_mesh::NodePlan;
 use wf_peer::{Own, PeerProgress, Progress};
 use wf_store::{FileName, Store, path_in};
 use wf_visitors::Log;
+use wf_voter::Process;
 
 /// Starts a node on its folder, by its command line: locks the folder, opens the tape and counts
 /// the start. Err: the cause; by then the tape may be written anew, and the start counted.

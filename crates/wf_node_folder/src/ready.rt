@@ -1,10 +1,10 @@
 //! A node whose start is counted.
 
-use wf_actor::Process;
 use wf_folder::NodeFile;
 use wf_mesh::NodePlan;
 use wf_peer::PeerProgress;
 use wf_tape::Tape;
+use wf_voter::Process;
 
 /// A node whose start is counted in its folder, and that is ready to be served.
 #[derive(Drop)]

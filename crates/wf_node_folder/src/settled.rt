@@ -1,19 +1,24 @@
 //! A tape that is written anew, whole.
 ghost use Rattle.std.specs.Prelude.{◌≡◌, ◌≢◌, IfErr, IfOk};
-ghost use Rattle.wf_journal.specs.Journal.{IsBadAt, IsWhereBad};
+ghost use Rattle.wf_journal.specs.Journal.{IsBadAt, IsNotBad, IsWhereBad};
+ghost use Rattle.wf_node_folder.specs.Damage.{AreWhole, IsWhyDamaged};
 ghost use Rattle.wf_node_folder.specs.Held.{ReadAlike};
 
+use crate::theorem::whole_records_are_bad_nowhere;
 use std::alloc::Global;
 use wf_journal::{Journal, OpenFault, records_are_read_one_way};
 use wf_recovery::drop_unsynced;
 use wf_tape::{Tape, TapeFault};
 
 /// A tape written anew, with its whole records alone, and how many zeros were dropped that were
-/// behind them and never synced.
-#[tactic(auto, using(crate::proofs::Kept::alike_back))]
+/// behind them and never synced. Err: the byte offset at which the tape is damaged; or it failed,
+/// or an allocation did.
+#[tactic(auto, using(crate::proofs::Kept::alike_back, crate::proofs::Damage::damaged_there))]
 pub(crate) fn settle<T: Tape + Drop>(alloc: Global, tape: T) -> Result<(T, usize), OpenFault>
-    ensures { T.durable →
+    ensures alike { T.durable →
         IfOk result (λ settled. ReadAlike (T.content tape) (T.content settled.0)) }
+    ensures whole { T.durable → IfOk result (λ settled. AreWhole (T.content settled.0)) }
+    ensures why { T.durable → IfErr result (λ fault. IsWhyDamaged fault (T.content tape)) }
 {
     match rewrite(alloc, tape) {
         Ok(tape) => Ok((tape, 0)),
@@ -26,6 +31,7 @@ pub(crate) fn settle<T: Tape + Drop>(alloc: Global, tape: T) -> Result<(T, usize
 fn rewrite<T: Tape>(alloc: Global, tape: T) -> Result<T, (T, OpenFault)>
     ensures alike { T.durable →
         IfOk result (λ settled. ReadAlike (T.content tape) (T.content settled)) }
+    ensures whole { T.durable → IfOk result (λ settled. AreWhole (T.content settled)) }
     ensures kept { T.durable →
         IfErr result (λ e. e.1 ≢ OpenFault.TapeFailed → T.content e.0 ≡ T.content tape) }
     ensures bad { T.durable → IfErr result (λ e. IsWhereBad e.1 (T.content e.0)) }
@@ -51,7 +57,10 @@ fn recover<T: Tape + Drop>(
     requires { T.durable → IsWhereBad fault (T.content tape) }
     ensures alike { T.durable →
         IfOk result (λ settled. ReadAlike (T.content tape) (T.content settled.0)) }
+    ensures whole { T.durable → IfOk result (λ settled. AreWhole (T.content settled.0)) }
+    ensures why { T.durable → IfErr result (λ why. IsWhyDamaged why (T.content tape)) }
     ensures unfailed { IfOk result (λ _. fault ≢ OpenFault.TapeFailed) }
+    ensures failed { IfErr result (λ why. fault ≡ OpenFault.TapeFailed → IsNotBad why) }
 {
     match fault {
         OpenFault::BadRecord(offset) => settle_front(alloc, tape, offset),
@@ -63,16 +72,19 @@ fn recover<T: Tape + Drop>(
 }
 
 /// A tape that is bad at this offset, written anew, if what is there was never synced.
-#[tactic(auto, using(crate::proofs::Kept::alike_twice))]
+#[tactic(auto, using(crate::proofs::Kept::alike_twice, crate::proofs::Damage::never_bad))]
 fn settle_front<T: Tape + Drop>(
     alloc: Global,
     tape: T,
     offset: usize,
 ) -> Result<(T, usize), OpenFault>
     requires { T.durable → IsBadAt (T.content tape) offset }
-    ensures { T.durable →
+    ensures alike { T.durable →
         IfOk result (λ settled. ReadAlike (T.content tape) (T.content settled.0)) }
+    ensures whole { T.durable → IfOk result (λ settled. AreWhole (T.content settled.0)) }
+    ensures why { T.durable → IfErr result (λ fault. IsWhyDamaged fault (T.content tape)) }
 {
+    whole_records_are_bad_nowhere();
     let (front, dropped) = match drop_zeros(alloc, tape, offset) {
         Ok((front, dropped)) => (front, dropped),
         Err(fault) => return Err(fault),
@@ -88,14 +100,17 @@ fn settle_front<T: Tape + Drop>(
 
 /// A tape that is bad at this offset, without the zeros there, which were never synced, and their
 /// number. Err: it has something else there.
+#[tactic(auto, using(crate::proofs::Damage::front_whole, crate::proofs::Damage::none_dropped))]
 fn drop_zeros<T: Tape + Drop>(
     alloc: Global,
     tape: T,
     offset: usize,
 ) -> Result<(T, usize), OpenFault>
     requires { T.durable → IsBadAt (T.content tape) offset }
-    ensures { T.durable →
+    ensures alike { T.durable →
         IfOk result (λ front. ReadAlike (T.content tape) (T.content front.0)) }
+    ensures whole { T.durable → IfOk result (λ front. AreWhole (T.content front.0)) }
+    ensures why { T.durable → IfErr result (λ fault. IsWhyDamaged fault (T.content tape)) }
 {
     // Bytes are read as one list of records at most.
     records_are_read_one_way();

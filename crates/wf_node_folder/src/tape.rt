@@ -3,10 +3,11 @@ ghost use Rattle.std.specs.Prelude.{◌≡◌, ◌≤◌, IfErr, IfOk, OnOk};
 ghost use Rattle.wf_folder.specs.NodeFile.{IsNodeFile};
 ghost use Rattle.wf_node.specs.Images.{StandsFor};
 ghost use Rattle.wf_node.specs.Node.{stored_of};
-ghost use Rattle.wf_node.specs.OpenedNode.{IsFoldOf};
+ghost use Rattle.wf_node.specs.OpenedNode.{IsFoldOf, IsWhyBad};
+ghost use Rattle.wf_node_folder.specs.Damage.{IsWhyDamaged};
 ghost use Rattle.wf_node_folder.specs.Fault.{IsFromSystem};
 ghost use Rattle.wf_node_folder.specs.Folder.{StandsForRead, tape_in};
-ghost use Rattle.wf_node_folder.specs.Held.{HasHeld, IsExamined, IsKnownOf, IsOpenedFor, IsWhyNotHeldBy};
+ghost use Rattle.wf_node_folder.specs.Held.{HasHeld, IsExamined, IsKnownOf, IsOpenedFor, IsWhyNotHeldBy, copy_fault_of};
 ghost use Rattle.wf_node_folder.specs.Start.{IsCompared, IsProcessStarted, IsWhyNotCompared};
 ghost use Rattle.wf_store.specs.Call.{OnlyReads};
 
@@ -15,11 +16,11 @@ use crate::fault::CommandFault;
 use crate::held_state::examine_node;
 use crate::read_node::ReadNode;
 use crate::settled::settle;
+use crate::theorem::whole_records_are_bad_nowhere;
 use std::alloc::Global;
 use std::io::ErrorKind;
 use std::rt::Files;
 use std::time::Clock;
-use wf_actor::Process;
 use wf_ballot::NodeId;
 use wf_folder::{Known, NodeFile};
 use wf_journal::OpenFault;
@@ -27,6 +28,7 @@ use wf_node::{Node, NodeFault};
 use wf_store::{FileName, FolderFault, ProbeFault, Store, probe_file};
 use wf_tape::{MemoryTape, Tape};
 use wf_visitors::Log;
+use wf_voter::Process;
 
 /// The greatest length of a tape, in bytes.
 pub(crate) const MOST_TAPE_BYTES: usize = 8_589_934_592;
@@ -80,7 +82,7 @@ pub(crate) fn fault_of_tape<R: Files + AllocGlobal>(
 }
 
 /// The node of this file on a tape of these bytes, in memory, if it holds all that is known of it.
-#[tactic(auto, using(crate::proofs::Kept::held_by, crate::proofs::Kept::not_held_by, crate::proofs::Kept::unheld_of_system))]
+#[tactic(auto, using(crate::proofs::Kept::held_by, crate::proofs::Kept::not_held_by, crate::proofs::Kept::not_opened_by))]
 fn examine_bytes(alloc: Global, file: &NodeFile, bytes: Vec<u8>) -> Result<ReadNode, CommandFault>
     requires { IsNodeFile file.now }
     ensures examined { IfOk result (λ copy. IsExamined file.now copy.node copy.known) }
@@ -100,29 +102,30 @@ fn examine_bytes(alloc: Global, file: &NodeFile, bytes: Vec<u8>) -> Result<ReadN
                 Err(fault)
             }
         },
-        Err(fault) => Err(fault),
+        Err(fault) => Err(copy_fault(fault)),
     }
 }
 
 /// The node of this file on a tape of these bytes, in memory, and how many zeros were dropped
 /// behind its records.
-#[tactic(auto, using(crate::proofs::Kept::stands_back))]
+#[tactic(auto, using(crate::proofs::Kept::stands_back, crate::proofs::Damage::damaged_back))]
 fn open_copy(
     alloc: Global,
     file: &NodeFile,
     bytes: Vec<u8>,
-) -> Result<(Node<MemoryTape>, usize), CommandFault>
+) -> Result<(Node<MemoryTape>, usize), OpenFault>
     requires { IsNodeFile file.now }
     ensures opened { IfOk result (λ copy. IsOpenedFor file.now copy.0) }
     ensures stands { IfOk result (λ copy. StandsFor (stored_of copy.0) bytes.items) }
-    ensures fault { IfErr result IsFromSystem }
+    ensures why { IfErr result (λ fault. IsWhyDamaged fault bytes.items) }
 {
+    whole_records_are_bad_nowhere();
     match settle(alloc, MemoryTape::new(bytes)) {
         Ok((tape, dropped)) => match open_node(alloc, file, tape) {
             Ok(node) => Ok((node, dropped)),
             Err(fault) => Err(fault),
         },
-        Err(fault) => Err(copy_fault(fault)),
+        Err(fault) => Err(fault),
     }
 }
 
@@ -131,24 +134,25 @@ fn open_node(
     alloc: Global,
     file: &NodeFile,
     tape: MemoryTape,
-) -> Result<Node<MemoryTape>, CommandFault>
+) -> Result<Node<MemoryTape>, OpenFault>
     requires { IsNodeFile file.now }
     ensures opened { IfOk result (IsOpenedFor file.now) }
     ensures stored { IfOk result (λ node. IsFoldOf (stored_of node) tape.bytes) }
-    ensures fault { IfErr result IsFromSystem }
+    ensures bad { IfErr result (λ fault. IsWhyBad fault tape.bytes) }
 {
     match Node::open(alloc, tape, id_of(file), file.nodes) {
         Ok(node) => Ok(node),
         Err((tape, fault)) => {
             drop(tape);
-            Err(copy_fault(fault))
+            Err(fault)
         }
     }
 }
 
-/// The error of a tape in memory that doesn't open.
+/// The error of a tape in memory that doesn't open: it is damaged at an offset, or an allocation
+/// failed.
 fn copy_fault(fault: OpenFault) -> CommandFault
-    ensures { IsFromSystem result }
+    ensures { result ≡ copy_fault_of fault }
 {
     match fault {
         OpenFault::BadRecord(offset) => CommandFault::TapeBad(offset),

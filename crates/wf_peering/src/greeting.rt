@@ -5,13 +5,12 @@ ghost use Rattle.wf_peering.specs.Greeting.{IsGreetedWith, state_by};
 ghost use Rattle.wf_rejoin.specs.Replacements.{known_count};
 ghost use Rattle.wf_voter.specs.Reach.{IsHighestVoted};
 
-use wf_actor::Process;
 use wf_membership::Gate;
 use wf_mesh::{Mesh, Told};
 use wf_peer::{Greeting, NodeState, Progress};
 use wf_sockets::Network;
 use wf_tape::Tape;
-use wf_voter::{Voter, reach_of, told_votes};
+use wf_voter::{Process, Voter, reach_of, told_votes};
 
 /// How far the node is, in this start of its folder.
 fn progress<T: Tape + Drop, N: Network>(mesh: &Mesh<N>, process: &Process<T>) -> Progress

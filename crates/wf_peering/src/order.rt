@@ -4,7 +4,6 @@ ghost use Rattle.wf_voter.specs.Continuation.{ContinuesIn};
 
 use std::alloc::Global;
 use std::time::Clock;
-use wf_actor::Process;
 use wf_membership::{FolderError, Gate};
 use wf_mesh::{Mesh, Notes, Order};
 use wf_rejoin::Replacements;
@@ -12,7 +11,7 @@ use wf_sockets::Network;
 use wf_store::FolderFault;
 use wf_tape::Tape;
 use wf_visitors::Context;
-use wf_voter::{NodeFolder, Voter, reach_of};
+use wf_voter::{NodeFolder, Process, Voter, reach_of};
 
 /// Writes what is to be written about replacements, and goes by it then. What only the next start
 /// goes by ends this one: nothing more is sent or taken in. Where it can't be written, the node

@@ -18,8 +18,9 @@ use Rattle.wf_reader.specs.declared.rejection.QuestionRejection.{QuestionRejecti
 use Rattle.wf_replica.specs.Theorems.{AreReported, LearnedAreServed}
 use Rattle.wf_replica.specs.LearnedList.{learned}
 use Rattle.wf_replica_command.specs.Done.{HasServed, IsReplicaDone, IsReplicaEnd, IsServedUntil}
-use Rattle.wf_replica_command.specs.Fault.{IsReplicaSystemFault, IsOfFolder, IsReplicaPlanOf, IsReplicaFault, IsAddressTaken, plan_address, fault_of, value_of}
+use Rattle.wf_replica_command.specs.Fault.{IsReplicaSystemFault, IsReplicaPlanOf, IsReplicaFault, IsAddressTaken, IsReplicaWordsFault, plan_address, fault_of, value_of}
 use Rattle.wf_replica_command.specs.Heard.{Hears}
+use Rattle.wf_replica_command.specs.Start.{IsReplicaFolderCause}
 use Rattle.wf_replica_command.specs.ReplicaHub.{HasAnsweredByList, HasHeardNothing, HasLearned, HasOnlyGrown, IsOfFarm, IsListOnTape, IsRefused, state_of}
 use Rattle.wf_replica_command.specs.declared.fault.ReplicaFault.{ReplicaFault}
 use Rattle.wf_replica_command.specs.declared.fault.ReplicaFault.TheVariants as faults
@@ -27,22 +28,23 @@ use Rattle.wf_replica_command.specs.declared.hub.ReplicaHub.{ReplicaHub}
 use Rattle.wf_replica_command.specs.declared.hub.Turn.TheVariants as turns
 use Rattle.wf_replica_command.specs.declared.plan.ReplicaPlan.{ReplicaPlan}
 use Rattle.wf_sockets.specs.declared.connection.Connection.{Ghosts as Connection}
+use Rattle.wf_store.specs.Call.{Call}
 use Rattle.wf_tape.specs.declared.tape.Tape.{Ghosts as Tape}
 
 -- ---- the command line
 
-pub list_fault : (line : ReplicaLine) (why : ListFault) → IsListFault (words_of line.peers.now) why → IsReplicaFault line (fault_of why)
+pub list_fault : (line : ReplicaLine) (why : ListFault) → IsListFault (words_of line.peers.now) why → IsReplicaWordsFault line (fault_of why)
 list_fault line (lists.Bad index) is = is
 list_fault line (lists.Count count) is = is
 list_fault line lists.Memory is = tt
 
-pub bad_http : (line : ReplicaLine) → IsNoAddress line.http.now → IsReplicaFault line (faults.BadAddress options.Http)
+pub bad_http : (line : ReplicaLine) → IsNoAddress line.http.now → IsReplicaWordsFault line (faults.BadAddress options.Http)
 bad_http line bad = record { word = line.http.now; is = refl; bad = bad }
 
-pub bad_admin : (line : ReplicaLine) → (text : List ℕ) × (option_map (λ w. w.now) line.admin ≡ Some text) × IsNoAddress text → IsReplicaFault line (faults.BadAddress options.Admin)
+pub bad_admin : (line : ReplicaLine) → (text : List ℕ) × (option_map (λ w. w.now) line.admin ≡ Some text) × IsNoAddress text → IsReplicaWordsFault line (faults.BadAddress options.Admin)
 bad_admin line bad = record { word = bad.0; is = bad.1; bad = bad.2 }
 
-pub bad_readers : (line : ReplicaLine) → (text : List ℕ) × (option_map (λ w. w.now) line.readers ≡ Some text) × IsNoAddress text → IsReplicaFault line (faults.BadAddress options.Readers)
+pub bad_readers : (line : ReplicaLine) → (text : List ℕ) × (option_map (λ w. w.now) line.readers ≡ Some text) × IsNoAddress text → IsReplicaWordsFault line (faults.BadAddress options.Readers)
 bad_readers line bad = record { word = bad.0; is = bad.1; bad = bad.2 }
 
 -- ---- addresses that are taken
@@ -102,50 +104,43 @@ spelled line plan options.Listen address planned has = absurd (none-some address
 
 -- ---- what the system causes
 
-of_folder : (plan : ReplicaPlan) (fault : ReplicaFault) → IsOfFolder fault → IsReplicaSystemFault plan fault
-of_folder plan (faults.BadPeer index) is = absurd is
-of_folder plan (faults.PeerCount count) is = absurd is
-of_folder plan (faults.BadAddress option) is = absurd is
-of_folder plan faults.Name is = absurd is
-of_folder plan (faults.Folder why) is = tt
-of_folder plan faults.NotEmpty is = tt
-of_folder plan faults.Version is = tt
-of_folder plan faults.Kind is = tt
-of_folder plan faults.OtherFarm is = tt
-of_folder plan faults.Poll is = absurd is
-of_folder plan (faults.Taken option address) is = absurd is
-of_folder plan faults.Memory is = tt
-of_folder plan (faults.Ended why) is = absurd is
-
 pub planned_fault : (line : ReplicaLine) (plan : ReplicaPlan) (fault : ReplicaFault) → IsReplicaPlanOf line plan → IsReplicaSystemFault plan fault → IsReplicaFault line fault
 planned_fault line plan (faults.BadPeer index) planned is = absurd is
 planned_fault line plan (faults.PeerCount count) planned is = absurd is
 planned_fault line plan (faults.BadAddress option) planned is = absurd is
 planned_fault line plan faults.Name planned is = absurd is
-planned_fault line plan (faults.Folder why) planned is = tt
-planned_fault line plan faults.NotEmpty planned is = tt
-planned_fault line plan faults.Version planned is = tt
-planned_fault line plan faults.Kind planned is = tt
-planned_fault line plan faults.OtherFarm planned is = tt
+planned_fault line plan (faults.Folder why) planned is = absurd is
+planned_fault line plan faults.NotEmpty planned is = absurd is
+planned_fault line plan faults.Version planned is = absurd is
+planned_fault line plan faults.Kind planned is = absurd is
+planned_fault line plan faults.OtherFarm planned is = absurd is
 planned_fault line plan faults.Poll planned is = tt
 planned_fault line plan (faults.Taken option address) planned is = spelled line plan option address planned is
 planned_fault line plan faults.Memory planned is = tt
 planned_fault line plan (faults.Ended why) planned is = absurd is
 
-pub folder_fault : (line : ReplicaLine) (fault : ReplicaFault) → IsOfFolder fault → IsReplicaFault line fault
-folder_fault line (faults.BadPeer index) is = absurd is
-folder_fault line (faults.PeerCount count) is = absurd is
-folder_fault line (faults.BadAddress option) is = absurd is
-folder_fault line faults.Name is = absurd is
-folder_fault line (faults.Folder why) is = tt
-folder_fault line faults.NotEmpty is = tt
-folder_fault line faults.Version is = tt
-folder_fault line faults.Kind is = tt
-folder_fault line faults.OtherFarm is = tt
-folder_fault line faults.Poll is = absurd is
-folder_fault line (faults.Taken option address) is = absurd is
-folder_fault line faults.Memory is = tt
-folder_fault line (faults.Ended why) is = absurd is
+pub folder_fault : (line : ReplicaLine) (text : List ℕ) (old new : List Call) (fault : ReplicaFault) → IsReplicaFolderCause text old new fault → IsReplicaFault line fault
+folder_fault line text old new (faults.BadPeer index) is = absurd is.2
+folder_fault line text old new (faults.PeerCount count) is = absurd is.2
+folder_fault line text old new (faults.BadAddress option) is = absurd is.2
+folder_fault line text old new faults.Name is = absurd is.2
+folder_fault line text old new (faults.Folder why) is = tt
+folder_fault line text old new faults.NotEmpty is = tt
+folder_fault line text old new faults.Version is = tt
+folder_fault line text old new faults.Kind is = tt
+folder_fault line text old new faults.OtherFarm is = tt
+folder_fault line text old new faults.Poll is = absurd is.2
+folder_fault line text old new (faults.Taken option address) is = absurd is.2
+folder_fault line text old new faults.Memory is = tt
+folder_fault line text old new (faults.Ended why) is = absurd is.2
+
+pub words_fault : (line : ReplicaLine) (fault : ReplicaFault) → IsReplicaWordsFault line fault → IsReplicaFault line fault
+words_fault line (faults.BadPeer index) is = is
+words_fault line (faults.PeerCount count) is = is
+words_fault line (faults.BadAddress option) is = is
+words_fault line faults.Name is = is
+words_fault line faults.Memory is = tt
+words_fault line fault is = absurd is
 
 module _ {T : Type 0} (tapes : Tape T) where
   -- a word of the command line is bad, or the system failed

@@ -1,14 +1,30 @@
 -- The calls of a start, one after the other.
 use Rattle.std.proofs.Common.{◌≡◌, ◌⊎◌, ◌∙◌, ℕ, List, ◌∷◌, ap, inl, inr, refl, subst, sym}
-use Rattle.std.specs.Prelude.{None, Result, Err}
+use Rattle.std.specs.Prelude.{Some, None, Result, Ok, Err, IfErr}
 use Rattle.wf_line.specs.declared.replica_line.ReplicaLine.{ReplicaLine}
-use Rattle.wf_replica_command.specs.Fault.{IsReplicaFault}
-use Rattle.wf_replica_command.specs.Start.{HasServedClients, IsClaimed, IsReplicaRun, IsStarted, IsTapeLookedFor, IsUnclaimed, IsUnstarted}
+use Rattle.wf_replica_command.specs.Done.{IsReplicaEnd}
+use Rattle.wf_replica_command.specs.Fault.{IsReplicaFault, IsReplicaSystemFault, IsReplicaWordsFault}
+use Rattle.wf_replica_command.specs.Start.{
+  HasServedClients,
+  IsClaimed,
+  IsReplicaFolderCause,
+  IsOtherText,
+  IsReplicaRun,
+  IsReplicaStartCause,
+  IsStarted,
+  IsTapeLookedFor,
+  IsUnclaimed,
+  IsUnstarted,
+  IsWhyUnmadeText,
+  IsWhyUnwrittenText,
+}
 use Rattle.wf_replica_command.specs.declared.fault.ReplicaFault.{ReplicaFault}
 use Rattle.wf_replica_command.specs.declared.fault.ReplicaFault.TheVariants as faults
+use Rattle.wf_replica_command.specs.declared.plan.ReplicaPlan.{ReplicaPlan}
 use Rattle.wf_store.specs.Call.{Call, OnlyReads, locked, counted, read, opened, replaced, failed, failed_at}
 use Rattle.wf_store.specs.CallTheorems.{reads_both}
 use Rattle.wf_store.specs.declared.file_name.FileName.TheVariants.{Farm, ReplicaTape}
+use Rattle.wf_tape.specs.declared.tape.Tape.{Ghosts as Tape}
 
 -- ---- the file `farm`
 
@@ -64,6 +80,73 @@ not_touched text calls = inr (inr (inr refl))
 pub started_so : (text : List ℕ) (old new : List Call) → IsStarted text (locked ∷ old) new → IsUnstarted text old new
 started_so text old new started = inl started
 
+-- ---- why none starts
+
+-- the file `farm` was read, and has another text
+pub other_found : (text bytes : List ℕ) (old new : List Call) (result : Result (Unit {0}) ReplicaFault) → new ≡ read Farm (Some bytes) ∷ old → IfErr result (IsOtherText text bytes) → IfErr result (IsReplicaFolderCause text old new)
+other_found text bytes old new result calls why = by_result result why
+  where
+    by_result : (r : Result (Unit {0}) ReplicaFault) → IfErr r (IsOtherText text bytes) → IfErr r (IsReplicaFolderCause text old new)
+    by_result (Ok done) is = tt
+    by_result (Err faults.Version) is = (bytes, calls, is)
+    by_result (Err faults.Kind) is = (bytes, calls, is)
+    by_result (Err faults.OtherFarm) is = (bytes, calls, is)
+    by_result (Err faults.Memory) is = tt
+    by_result (Err fault) is = absurd is
+
+-- there is none, and none was made
+pub unmade_there : (text : List ℕ) (old mid new : List Call) (result : Result (Unit {0}) ReplicaFault) → mid ≡ read Farm None ∷ old → IfErr result (IsWhyUnmadeText mid new) → IfErr result (IsReplicaFolderCause text old new)
+unmade_there text old mid new result calls why = by_result result (subst (λ (m : List Call). IfErr result (IsWhyUnmadeText m new)) calls why)
+  where
+    by_result : (r : Result (Unit {0}) ReplicaFault) → IfErr r (IsWhyUnmadeText (read Farm None ∷ old) new) → IfErr r (IsReplicaFolderCause text old new)
+    by_result (Ok done) is = tt
+    by_result (Err (faults.Folder why)) is = inr is
+    by_result (Err faults.NotEmpty) is = is
+    by_result (Err faults.Memory) is = tt
+    by_result (Err fault) is = absurd is
+
+-- the folder is empty, and it wasn't written
+pub unwritten_there : (old mid new : List Call) (result : Result (Unit {0}) ReplicaFault) → mid ≡ counted 0 ∷ old → IfErr result (IsWhyUnwrittenText mid new) → IfErr result (IsWhyUnmadeText old new)
+unwritten_there old mid new result calls why = by_result result (subst (λ (m : List Call). IfErr result (IsWhyUnwrittenText m new)) calls why)
+  where
+    by_result : (r : Result (Unit {0}) ReplicaFault) → IfErr r (IsWhyUnwrittenText (counted 0 ∷ old) new) → IfErr r (IsWhyUnmadeText old new)
+    by_result (Ok done) is = tt
+    by_result (Err (faults.Folder why)) is = inr is
+    by_result (Err faults.Memory) is = tt
+    by_result (Err fault) is = absurd is
+
+pub memory_cause : (text : List ℕ) (old new : List Call) (fault : ReplicaFault) → fault ≡ faults.Memory → IsReplicaFolderCause text old new fault
+memory_cause text old new fault is = subst (IsReplicaFolderCause text old new) (sym is) tt
+
+-- the folder was locked before
+pub cause_on : (text : List ℕ) (old held new : List Call) (fault : ReplicaFault) → held ≡ locked ∷ old → IsReplicaFolderCause text held new fault → IsReplicaStartCause text old new fault
+cause_on text old held new fault is cause = by_fault fault (subst (λ (calls : List Call). IsReplicaFolderCause text calls new fault) is cause)
+  where
+    by_fault : (f : ReplicaFault) → IsReplicaFolderCause text (locked ∷ old) new f → IsReplicaStartCause text old new f
+    by_fault (faults.Folder why) why_not = inr why_not
+    by_fault faults.NotEmpty why_not = why_not
+    by_fault faults.Version why_not = why_not
+    by_fault faults.Kind why_not = why_not
+    by_fault faults.OtherFarm why_not = why_not
+    by_fault fault why_not = tt
+
+-- a word of the command line, or the system, is the cause
+pub words_cause : (line : ReplicaLine) (text : List ℕ) (old new : List Call) (fault : ReplicaFault) → IsReplicaWordsFault line fault → IsReplicaStartCause text old new fault
+words_cause line text old new (faults.Folder why) is = absurd is
+words_cause line text old new faults.NotEmpty is = absurd is
+words_cause line text old new faults.Version is = absurd is
+words_cause line text old new faults.Kind is = absurd is
+words_cause line text old new faults.OtherFarm is = absurd is
+words_cause line text old new fault is = tt
+
+pub system_cause : (plan : ReplicaPlan) (text : List ℕ) (old new : List Call) (fault : ReplicaFault) → IsReplicaSystemFault plan fault → IsReplicaStartCause text old new fault
+system_cause plan text old new (faults.Folder why) is = absurd is
+system_cause plan text old new faults.NotEmpty is = absurd is
+system_cause plan text old new faults.Version is = absurd is
+system_cause plan text old new faults.Kind is = absurd is
+system_cause plan text old new faults.OtherFarm is = absurd is
+system_cause plan text old new fault is = tt
+
 -- ---- a run
 
 -- what ends a replica that served isn't why another doesn't start
@@ -82,8 +165,25 @@ bad_words line faults.Poll is has = absurd has
 bad_words line (faults.Taken option address) is has = absurd has
 bad_words line faults.Memory is has = absurd has
 
-pub run_served : (text : List ℕ) (old new : List Call) (result : Result (Unit {0}) ReplicaFault) → IsStarted text (locked ∷ old) new → IsReplicaRun text old new result
-run_served text old new result started = record { served = λ _. started; others = inl started }
+pub run_served : {T : Type 0} (tapes : Tape T) (plan : ReplicaPlan) (text : List ℕ) (old new : List Call) (result : Result (Unit {0}) ReplicaFault) → IsReplicaEnd tapes plan result
+    → IsStarted text (locked ∷ old) new → IsReplicaRun text old new result
+run_served tapes plan text old new result ends started = record { served = λ _. started; others = inl started; cause = by_result result ends }
+  where
+    by_result : (r : Result (Unit {0}) ReplicaFault) → IsReplicaEnd tapes plan r → IfErr r (IsReplicaStartCause text old new)
+    by_result (Ok done) is = tt
+    by_result (Err (faults.Ended why)) is = tt
+    by_result (Err (faults.BadPeer index)) is = absurd is
+    by_result (Err (faults.PeerCount count)) is = absurd is
+    by_result (Err (faults.BadAddress option)) is = absurd is
+    by_result (Err faults.Name) is = absurd is
+    by_result (Err (faults.Folder why)) is = absurd is
+    by_result (Err faults.NotEmpty) is = absurd is
+    by_result (Err faults.Version) is = absurd is
+    by_result (Err faults.Kind) is = absurd is
+    by_result (Err faults.OtherFarm) is = absurd is
+    by_result (Err faults.Poll) is = tt
+    by_result (Err (faults.Taken option address)) is = tt
+    by_result (Err faults.Memory) is = tt
 
-pub not_run : (line : ReplicaLine) (text : List ℕ) (old new : List Call) (fault : ReplicaFault) → IsReplicaFault line fault → IsUnstarted text old new → IsReplicaRun text old new (Err fault)
-not_run line text old new fault is unstarted = record { served = λ has. absurd (bad_words line fault is has); others = unstarted }
+pub not_run : (line : ReplicaLine) (text : List ℕ) (old new : List Call) (fault : ReplicaFault) → IsReplicaFault line fault → IsReplicaStartCause text old new fault → IsUnstarted text old new → IsReplicaRun text old new (Err fault)
+not_run line text old new fault is cause unstarted = record { served = λ has. absurd (bad_words line fault is has); others = unstarted; cause = cause }

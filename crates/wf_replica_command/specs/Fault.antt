@@ -73,12 +73,22 @@ IsOfFolder faults.OtherFarm = ⊤
 IsOfFolder faults.Memory = ⊤
 IsOfFolder fault = ⊥
 
--- The error is one that files, sockets or memory caused before the replica began. An address that
--- is taken is one of its own.
+-- The error is one that sockets or memory caused before the replica began. An address that is taken
+-- is one of its own.
 abbrev pub IsReplicaSystemFault : ReplicaPlan → ReplicaFault → Type 0
 IsReplicaSystemFault plan faults.Poll = ⊤
 IsReplicaSystemFault plan (faults.Taken option address) = plan_address plan option ≡ Some address
-IsReplicaSystemFault plan fault = IsOfFolder fault
+IsReplicaSystemFault plan faults.Memory = ⊤
+IsReplicaSystemFault plan fault = ⊥
+
+-- a word of the command line is bad, or an allocation failed
+abbrev pub IsReplicaWordsFault : ReplicaLine → ReplicaFault → Type 0
+IsReplicaWordsFault line (faults.BadPeer index) = IsFirstBad (words_of line.peers.now) index
+IsReplicaWordsFault line (faults.PeerCount count) = (count ≡ length (words_of line.peers.now)) × (64 < count)
+IsReplicaWordsFault line (faults.BadAddress option) = IsBadReplicaOption line option
+IsReplicaWordsFault line faults.Name = ¬ (IsNameText line.farm.now)
+IsReplicaWordsFault line faults.Memory = ⊤
+IsReplicaWordsFault line fault = ⊥
 
 -- a word of its command line, or the system; an address that is taken is the one that the option's
 -- word spells

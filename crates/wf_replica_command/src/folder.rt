@@ -1,8 +1,7 @@
 //! The file `farm` of a replica's folder.
 ghost use Rattle.std.specs.Prelude.{◌≡◌, ◌⊎◌, ◌∷◌, IfErr, OnErr, OnOk};
 ghost use Rattle.wf_replica.specs.FarmFile.{replica_text};
-ghost use Rattle.wf_replica_command.specs.Fault.{IsOfFolder};
-ghost use Rattle.wf_replica_command.specs.Start.{IsClaimed, IsUnclaimed};
+ghost use Rattle.wf_replica_command.specs.Start.{IsClaimed, IsReplicaFolderCause, IsOtherText, IsUnclaimed, IsWhyUnmadeText, IsWhyUnwrittenText};
 ghost use Rattle.wf_store.specs.declared.file_name.FileName.TheVariants.{Farm};
 ghost use Rattle.wf_store.specs.Call.{OnlyReads, counted, failed_at, replaced};
 
@@ -22,7 +21,7 @@ const KIND_LINE: &[u8] = b"kind replica\n";
 
 /// Makes sure that a folder is that of a replica of this farm: its file `farm` says so, or the
 /// folder is empty, and gets such a file.
-#[tactic(auto, using(crate::proofs::Starting::claimed_anew, crate::proofs::Starting::unclaimed_anew, crate::proofs::Starting::unclaimed_at))]
+#[tactic(auto, using(crate::proofs::Starting::claimed_anew, crate::proofs::Starting::unclaimed_anew, crate::proofs::Starting::unclaimed_at, crate::proofs::Starting::other_found, crate::proofs::Starting::unmade_there))]
 pub(crate) fn claim<S: Store>(
     alloc: Global,
     store: &mut S,
@@ -31,7 +30,8 @@ pub(crate) fn claim<S: Store>(
     ensures claimed { OnOk result (IsClaimed (replica_text farm.now) (S.calls store.old)
         (S.calls store.new)) }
     ensures unclaimed { OnErr result (IsUnclaimed (S.calls store.old) (S.calls store.new)) }
-    ensures fault { IfErr result IsOfFolder }
+    ensures cause { IfErr result (IsReplicaFolderCause (replica_text farm.now) (S.calls store.old)
+        (S.calls store.new)) }
 {
     match store.read(FileName::Farm, MOST_FILE_BYTES) {
         Ok(Some(bytes)) => judge(alloc, &bytes, farm),
@@ -43,7 +43,7 @@ pub(crate) fn claim<S: Store>(
 /// Whether these bytes are the file of a replica of this farm.
 fn judge(alloc: Global, bytes: &[u8], farm: &FarmName) -> Result<(), ReplicaFault>
     ensures ours { OnOk result (bytes.now ≡ replica_text farm.now) }
-    ensures fault { IfErr result IsOfFolder }
+    ensures other { IfErr result (IsOtherText (replica_text farm.now) bytes.now) }
 {
     let text = replica_text(alloc, farm)?;
     if text.as_slice() == bytes {
@@ -60,12 +60,13 @@ fn judge(alloc: Global, bytes: &[u8], farm: &FarmName) -> Result<(), ReplicaFaul
 }
 
 /// Makes the file of a replica of this farm in an empty folder.
+#[tactic(auto, using(crate::proofs::Starting::unwritten_there))]
 fn make<S: Store>(alloc: Global, store: &mut S, farm: &FarmName) -> Result<(), ReplicaFault>
     ensures made { OnOk result
         (S.calls store.new ≡ replaced Farm (replica_text farm.now) ∷ counted 0 ∷ S.calls store.old) }
     ensures unmade { OnErr result (OnlyReads (S.calls store.old) (S.calls store.new)
         ⊎ (S.calls store.new ≡ failed_at Farm ∷ counted 0 ∷ S.calls store.old)) }
-    ensures fault { IfErr result IsOfFolder }
+    ensures cause { IfErr result (IsWhyUnmadeText (S.calls store.old) (S.calls store.new)) }
 {
     match store.count_names() {
         Ok(0) => write(alloc, store, farm),
@@ -80,7 +81,7 @@ fn write<S: Store>(alloc: Global, store: &mut S, farm: &FarmName) -> Result<(), 
         (S.calls store.new ≡ replaced Farm (replica_text farm.now) ∷ S.calls store.old) }
     ensures unwritten { OnErr result ((S.calls store.new ≡ S.calls store.old)
         ⊎ (S.calls store.new ≡ failed_at Farm ∷ S.calls store.old)) }
-    ensures fault { IfErr result IsOfFolder }
+    ensures cause { IfErr result (IsWhyUnwrittenText (S.calls store.old) (S.calls store.new)) }
 {
     let text = replica_text(alloc, farm)?;
     match store.replace(FileName::Farm, text) {

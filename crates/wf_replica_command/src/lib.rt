@@ -27,7 +27,9 @@
 //!   as this replica's, or was written in an empty folder; a folder that it doesn't take is left as
 //!   it was (`specs/Start.antt`).
 //! - An error of the command line has its cause, and status 2; any other has status 1. The address
-//!   in one is that which an option spells.
+//!   in one is that which an option spells. An error of the folder has its cause in what was read
+//!   of it (`specs/Start.antt`): of the file `farm` another first line, another kind or another
+//!   farm's text; names beside none; or the call that failed.
 //!
 //! **Doesn't.** What the system does with files, sockets and clocks has no model: that answers
 //! come, that a lock keeps others out and what the folder's files hold is tried with the built

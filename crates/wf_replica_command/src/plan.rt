@@ -1,6 +1,6 @@
 //! What a command line asks for, with its words tested.
 ghost use Rattle.std.specs.Prelude.{◌≡◌, IfErr, IfOk};
-ghost use Rattle.wf_replica_command.specs.Fault.{IsReplicaPlanOf, IsReplicaFault, fault_of};
+ghost use Rattle.wf_replica_command.specs.Fault.{IsReplicaPlanOf, IsReplicaWordsFault, fault_of};
 
 use crate::fault::ReplicaFault;
 use std::alloc::Global;
@@ -23,7 +23,7 @@ pub(crate) struct ReplicaPlan {
 #[tactic(auto, using(crate::proofs::Faults::list_fault, crate::proofs::Faults::bad_http, crate::proofs::Faults::bad_admin, crate::proofs::Faults::bad_readers))]
 pub(crate) fn plan_of(alloc: Global, line: &ReplicaLine<'_>) -> Result<ReplicaPlan, ReplicaFault>
     ensures plan { IfOk result (IsReplicaPlanOf line.now) }
-    ensures fault { IfErr result (IsReplicaFault line.now) }
+    ensures fault { IfErr result (IsReplicaWordsFault line.now) }
 {
     let Some(farm) = FarmName::new(line.farm.as_bytes()) else {
         return Err(ReplicaFault::Name);

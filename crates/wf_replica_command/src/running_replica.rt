@@ -6,7 +6,7 @@ ghost use Rattle.wf_replica.specs.FarmFile.{replica_text};
 ghost use Rattle.wf_replica_command.specs.Fault.{IsReplicaSystemFault, IsReplicaFault};
 ghost use Rattle.wf_replica_command.specs.Heard.{Hears};
 ghost use Rattle.wf_replica_command.specs.ReplicaHub.{HasAnsweredByList, HasHeardNothing, HasLearned, HasOnlyGrown, IsOfFarm, IsListOnTape, IsTurn, state_of};
-ghost use Rattle.wf_replica_command.specs.Start.{IsStarted, IsUnstarted};
+ghost use Rattle.wf_replica_command.specs.Start.{IsReplicaStartCause, IsStarted, IsUnstarted};
 ghost use Rattle.wf_store.specs.Call.{locked};
 
 use crate::event::ReplicaEvent;
@@ -41,7 +41,7 @@ impl<T: Tape + Drop, N: Network + Drop> Drop for RunningReplica<T, N> {
 /// Starts a replica on its folder, which is locked first and stays so as long as the store is
 /// there, and binds its addresses on a network, at this time in milliseconds. Err: the cause, as
 /// that of `wfarm replica`.
-#[tactic(auto, using(crate::proofs::Faults::planned_fault, crate::proofs::Starting::started_so))]
+#[tactic(auto, using(crate::proofs::Faults::planned_fault, crate::proofs::Starting::started_so, crate::proofs::Starting::system_cause))]
 pub fn start_replica<R: Clock + Eprint + Net + AllocGlobal, S: Store, N: Network + Drop>(
     rt: &R,
     network: N,
@@ -56,6 +56,8 @@ pub fn start_replica<R: Clock + Eprint + Net + AllocGlobal, S: Store, N: Network
     ensures unstarted { OnErr result (IsUnstarted (replica_text (pad line.now.farm.now))
         (S.calls store.old) (S.calls store.new)) }
     ensures fault { IfErr result (IsReplicaFault line.now) }
+    ensures cause { IfErr result (IsReplicaStartCause (replica_text (pad line.now.farm.now))
+        (S.calls store.old) (S.calls store.new)) }
 {
     let log = Log::new(rt, line.log);
     match ready(rt, store, &log, line) {

@@ -3,8 +3,8 @@ ghost use Rattle.std.specs.Prelude.{◌≡◌, ◌≤◌, ◌⊎◌, ◌∷◌, 
 ghost use Rattle.wf_folder.specs.Name.{pad};
 ghost use Rattle.wf_line.specs.ProcessLine.{IsReplicaInRange};
 ghost use Rattle.wf_replica.specs.FarmFile.{replica_text};
-ghost use Rattle.wf_replica_command.specs.Fault.{IsOfFolder, IsReplicaPlanOf, IsReplicaFault};
-ghost use Rattle.wf_replica_command.specs.Start.{IsStarted, IsTapeLookedFor, IsUnclaimed, IsUnstarted};
+ghost use Rattle.wf_replica_command.specs.Fault.{IsReplicaPlanOf, IsReplicaFault};
+ghost use Rattle.wf_replica_command.specs.Start.{IsReplicaFolderCause, IsReplicaStartCause, IsStarted, IsTapeLookedFor, IsUnclaimed, IsUnstarted};
 ghost use Rattle.wf_store.specs.Call.{OnlyReads, locked};
 
 use crate::event::ReplicaEvent;
@@ -20,7 +20,7 @@ use wf_tape::Tape;
 use wf_visitors::Log;
 
 /// Starts a replica on its folder, which is locked first, and made a replica's if it is empty.
-#[tactic(auto, using(crate::proofs::Starting::started_on, crate::proofs::Starting::unstarted_on, crate::proofs::Starting::not_locked, crate::proofs::Starting::not_touched, crate::proofs::Faults::folder_fault))]
+#[tactic(auto, using(crate::proofs::Starting::started_on, crate::proofs::Starting::unstarted_on, crate::proofs::Starting::not_locked, crate::proofs::Starting::not_touched, crate::proofs::Starting::cause_on, crate::proofs::Starting::words_cause, crate::proofs::Faults::folder_fault, crate::proofs::Faults::words_fault))]
 pub(crate) fn ready<R: Clock + Eprint + AllocGlobal, S: Store>(
     rt: &R,
     store: &mut S,
@@ -33,6 +33,8 @@ pub(crate) fn ready<R: Clock + Eprint + AllocGlobal, S: Store>(
     ensures started { OnOk result (IsStarted (replica_text (pad line.now.farm.now))
         (locked ∷ S.calls store.old) (S.calls store.new)) }
     ensures unstarted { OnErr result (IsUnstarted (replica_text (pad line.now.farm.now))
+        (S.calls store.old) (S.calls store.new)) }
+    ensures cause { IfErr result (IsReplicaStartCause (replica_text (pad line.now.farm.now))
         (S.calls store.old) (S.calls store.new)) }
 {
     let plan = match plan_of(rt.alloc(), line) {
@@ -49,7 +51,7 @@ pub(crate) fn ready<R: Clock + Eprint + AllocGlobal, S: Store>(
 }
 
 /// Starts a replica on its folder, which is locked.
-#[tactic(auto, using(crate::proofs::Starting::started_by, crate::proofs::Starting::begun_by, crate::proofs::Starting::not_claimed))]
+#[tactic(auto, using(crate::proofs::Starting::started_by, crate::proofs::Starting::begun_by, crate::proofs::Starting::not_claimed, crate::proofs::Starting::memory_cause))]
 fn start<R: Clock + Eprint + AllocGlobal, S: Store>(
     rt: &R,
     store: &mut S,
@@ -59,7 +61,8 @@ fn start<R: Clock + Eprint + AllocGlobal, S: Store>(
 ) -> Result<ReadyReplica<S::Tape>, ReplicaFault>
     requires { IsReplicaInRange line.now }
     ensures plan { IfOk result (λ ready. ready.plan ≡ plan) }
-    ensures fault { IfErr result IsOfFolder }
+    ensures cause { IfErr result (IsReplicaFolderCause (replica_text plan.farm)
+        (S.calls store.old) (S.calls store.new)) }
     ensures started { OnOk result (IsStarted (replica_text plan.farm)
         (S.calls store.old) (S.calls store.new)) }
     ensures unstarted { OnErr result (IsStarted (replica_text plan.farm)
@@ -74,7 +77,8 @@ fn start<R: Clock + Eprint + AllocGlobal, S: Store>(
     }
 }
 
-/// Starts the replica of a folder that is one, with what its tape has.
+/// Starts the replica of a folder that is one, with what its tape has. The only error is allocation
+/// failure.
 fn begin<R: Clock + Eprint + AllocGlobal, S: Store>(
     rt: &R,
     store: &mut S,
@@ -84,7 +88,7 @@ fn begin<R: Clock + Eprint + AllocGlobal, S: Store>(
 ) -> Result<ReadyReplica<S::Tape>, ReplicaFault>
     requires { IsReplicaInRange line.now }
     ensures plan { IfOk result (λ ready. ready.plan ≡ plan) }
-    ensures fault { IfErr result IsOfFolder }
+    ensures memory { IfErr result (λ fault. fault ≡ ReplicaFault.Memory) }
     ensures tape { IsTapeLookedFor (S.calls store.old) (S.calls store.new) }
 {
     match open(rt, store, log, line.cache as usize) {
@@ -104,7 +108,7 @@ fn ready_with<R: Clock + AllocGlobal, T: Tape + Drop>(
     follower: Follower<T>,
 ) -> Result<ReadyReplica<T>, ReplicaFault>
     ensures plan { IfOk result (λ ready. ready.plan ≡ plan) }
-    ensures fault { IfErr result IsOfFolder }
+    ensures memory { IfErr result (λ fault. fault ≡ ReplicaFault.Memory) }
 {
     match path_in(rt.alloc(), folder, FileName::ReplicaTape) {
         Ok(tape) => Ok(ReadyReplica {
@@ -121,7 +125,8 @@ fn ready_with<R: Clock + AllocGlobal, T: Tape + Drop>(
     }
 }
 
-/// A replica with what the tape of its folder has, and room for so many pictures.
+/// A replica with what the tape of its folder has, and room for so many pictures. The only error is
+/// allocation failure.
 fn open<R: Clock + Eprint + AllocGlobal, S: Store>(
     rt: &R,
     store: &mut S,
@@ -131,7 +136,7 @@ fn open<R: Clock + Eprint + AllocGlobal, S: Store>(
     requires least { 1 ≤ pictures }
     requires most { pictures ≤ 64 }
     ensures tape { IsTapeLookedFor (S.calls store.old) (S.calls store.new) }
-    ensures fault { IfErr result IsOfFolder }
+    ensures memory { IfErr result (λ fault. fault ≡ ReplicaFault.Memory) }
 {
     let tape = open_tape(store, log);
     match Follower::open(rt.alloc(), tape, pictures) {

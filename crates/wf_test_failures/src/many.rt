@@ -1,9 +1,11 @@
 //! More than three connections, on one thread: the clients send their requests before the server
-//! accepts. What a cache of pictures saves is told by the time alone, so the same requests are
-//! answered by a cache, and by one that has no room for their pictures. What fails for an
-//! allocation, or since the machine was busy, is repeated.
-ghost use Rattle.std.specs.Prelude.{◌≤◌};
+//! accepts. If an allocation failed, everything is repeated once.
+ghost use Rattle.std.specs.Prelude.{◌≡◌, ◌≤◌, []};
+ghost use Rattle.wf_delivery.specs.Reachability.{AreFresh};
+ghost use Rattle.wf_farm.specs.Farm.{size};
+ghost use Rattle.wf_farm.specs.Nodes.{AllRun, nodes_in};
 ghost use Rattle.wf_service.specs.Service.{IsService};
+ghost use Rattle.wf_wms.specs.CachedPictures.{most_cached, AllCached};
 
 use crate::machine::TestMachine;
 use crate::serve::{client, is_read};
@@ -12,9 +14,11 @@ use std::alloc::Global;
 use std::fs;
 use std::net::{Net, TcpListener, TcpStream};
 use std::process::Abort;
-use std::time::{Duration, Instant};
-use wf_serve::{Service, listen, serve};
+use wf_farm::Farm;
+use wf_serve::{Log, Service, listen, serve, serve_connections};
 use wf_stream::Output;
+use wf_tape::MemoryTape;
+use wf_wms::Cache;
 
 const STATUS: &[u8] = b"GET /status HTTP/1.1\r\n\r\n";
 
@@ -40,33 +44,29 @@ const TILE: &[u8] =
 
 const TILE_BYTES: usize = 196_724;
 
-/// The request to publish a map of lines.
-const LINES: &[u8] =
-    b"POST /publish HTTP/1.1\r\nContent-Length: 454\r\n\r\nMAP EXTENT 0 0 16 16 PROJECTION \"init=epsg:3857\" END LAYER NAME a TYPE LINE CLASS STYLE COLOR 0 0 0 WIDTH 16 END STYLE COLOR 30 0 0 WIDTH 14 END STYLE COLOR 60 0 0 WIDTH 12 END STYLE COLOR 90 0 0 WIDTH 10 END STYLE COLOR 120 0 0 WIDTH 8 END STYLE COLOR 150 0 0 WIDTH 6 END STYLE COLOR 180 0 0 WIDTH 4 END STYLE COLOR 210 0 0 WIDTH 2 END END FEATURE POINTS 0 0 16 1 0 2 16 3 0 4 16 5 0 6 16 7 0 8 16 9 0 10 16 11 0 12 16 13 0 14 16 15 0 16 END END END END";
+/// The request to publish a map of one layer.
+const MAP_OF_A_LAYER: &[u8] =
+    b"POST /publish HTTP/1.1\r\nContent-Length: 83\r\n\r\nMAP EXTENT 0 0 16 16 PROJECTION \"init=epsg:3857\" END LAYER NAME a TYPE LINE END END";
 
-/// Requests for a tile of the lines 64 times, whose picture is costly, on white and on black.
+/// Requests for a tile of it, on white and on black.
 const ON_WHITE: &[u8] =
-    b"GET /wms?VERSION=1.3.0&REQUEST=GetMap&LAYERS=a,a,a,a,a,a,a,a,a,a,a,a,a,a,a,a,a,a,a,a,a,a,a,a,a,a,a,a,a,a,a,a,a,a,a,a,a,a,a,a,a,a,a,a,a,a,a,a,a,a,a,a,a,a,a,a,a,a,a,a,a,a,a,a&STYLES=&CRS=EPSG:3857&BBOX=0,0,4,4&WIDTH=256&HEIGHT=256&FORMAT=image/x-portable-pixmap HTTP/1.1\r\n\r\n";
+    b"GET /wms?VERSION=1.3.0&REQUEST=GetMap&LAYERS=a&STYLES=&CRS=EPSG:3857&BBOX=0,0,4,4&WIDTH=256&HEIGHT=256&FORMAT=image/x-portable-pixmap HTTP/1.1\r\n\r\n";
 
 const ON_BLACK: &[u8] =
-    b"GET /wms?VERSION=1.3.0&REQUEST=GetMap&LAYERS=a,a,a,a,a,a,a,a,a,a,a,a,a,a,a,a,a,a,a,a,a,a,a,a,a,a,a,a,a,a,a,a,a,a,a,a,a,a,a,a,a,a,a,a,a,a,a,a,a,a,a,a,a,a,a,a,a,a,a,a,a,a,a,a&STYLES=&CRS=EPSG:3857&BBOX=0,0,4,4&WIDTH=256&HEIGHT=256&BGCOLOR=0x000000&FORMAT=image/x-portable-pixmap HTTP/1.1\r\n\r\n";
+    b"GET /wms?VERSION=1.3.0&REQUEST=GetMap&LAYERS=a&STYLES=&CRS=EPSG:3857&BBOX=0,0,4,4&WIDTH=256&HEIGHT=256&BGCOLOR=0x000000&FORMAT=image/x-portable-pixmap HTTP/1.1\r\n\r\n";
 
-/// This many nodes in memory or in a folder, for this many connections, with this many pictures
-/// cached for each.
-fn service(nodes: u8, requests: u32, cache: u8, state: Option<&str>) -> Service<'_>
+/// This many nodes in a folder, for forty connections.
+fn service(nodes: u8, folder: &str) -> Service<'_>
     requires some { 1 ≤ nodes }
     requires most { nodes ≤ 64 }
-    requires requests { requests ≤ 100 }
-    requires cache { 1 ≤ cache }
-    requires cache_most { cache ≤ 64 }
     ensures { IsService result }
 {
     Service {
         nodes,
         port: 0,
-        requests,
-        cache,
-        state,
+        requests: 40,
+        cache: 1,
+        state: Some(folder),
         log: false,
     }
 }
@@ -141,7 +141,7 @@ fn are_forty_answered(rt: &HostRuntime, nodes: u8, folder: &str, crowd: Crowd) -
     requires most { nodes ≤ 64 }
 {
     let Crowd { listener, clients } = crowd;
-    let mut are_answered = are_served(rt, listener, service(nodes, 40, 1, Some(folder)));
+    let mut are_answered = are_served(rt, listener, service(nodes, folder));
     for (number, client) in clients.into_iter().enumerate() {
         are_answered = is_answered(rt.alloc(), client, status_of(number, nodes)) && are_answered;
     }
@@ -186,43 +186,95 @@ fn is_tile(alloc: Global, client: TcpStream) -> bool {
     is_whole && is_tile
 }
 
-/// The time in which one node answers the first client, and sixteen others with tiles. None if one
-/// gets no tile.
-fn time_of(rt: &HostRuntime, cache: u8, crowd: Crowd) -> Option<Duration>
-    requires some { 1 ≤ cache }
-    requires most { cache ≤ 64 }
+/// How many pictures a cache drew to be kept, and how many tiles it cut out of those.
+type Counts = (u64, u64);
+
+/// The counts of the cache of the only node of a farm, once it has answered seventeen connections.
+#[tactic(auto, using(crate::proofs::Alone::cached_alone))]
+fn counts_after(
+    rt: &HostRuntime,
+    listener: &TcpListener,
+    farm: &mut Farm<MemoryTape>,
+    cache: Cache,
+) -> Counts
+    requires alone { size farm.old ≡ 1 }
+    requires running { AllRun farm.old.hosts }
+    requires fresh { AreFresh (nodes_in farm.old) }
+    requires cached { AllCached [] cache }
+{
+    let mut caches = [cache];
+    serve_connections(rt, &Log::new(rt, false), listener, farm, &mut caches, 17);
+    let counts = (caches[0].drawings(), caches[0].cached_tiles());
+    drop(caches);
+    counts
+}
+
+/// The counts of a new cache for this many pictures, likewise. None if an allocation fails.
+fn counts_with(
+    rt: &HostRuntime,
+    listener: &TcpListener,
+    farm: &mut Farm<MemoryTape>,
+    pictures: usize,
+) -> Option<Counts>
+    requires some { 1 ≤ pictures }
+    requires most { pictures ≤ most_cached }
+    requires alone { size farm.old ≡ 1 }
+    requires running { AllRun farm.old.hosts }
+    requires fresh { AreFresh (nodes_in farm.old) }
+{
+    match Cache::new(rt.alloc(), pictures) {
+        Ok(cache) => Some(counts_after(rt, listener, farm, cache)),
+        Err(_) => None,
+    }
+}
+
+/// The counts of such a cache of the node of a new farm. None if an allocation fails.
+fn counts_of(rt: &HostRuntime, listener: TcpListener, pictures: usize) -> Option<Counts>
+    requires some { 1 ≤ pictures }
+    requires most { pictures ≤ most_cached }
+{
+    let counts = match Farm::new(rt.alloc(), 1) {
+        Ok(mut farm) => {
+            let counts = counts_with(rt, &listener, &mut farm, pictures);
+            drop(farm);
+            counts
+        }
+        Err(_) => None,
+    };
+    drop(listener);
+    counts
+}
+
+/// Whether one node with a cache for this many pictures answers the first client, and sixteen
+/// others with tiles, and these are the counts then.
+fn are_counts(rt: &HostRuntime, pictures: usize, crowd: Crowd, expected: Counts) -> bool
+    requires some { 1 ≤ pictures }
+    requires most { pictures ≤ most_cached }
 {
     let Crowd { listener, clients } = crowd;
-    let start = Instant::now(rt).ok()?;
-    let mut are_answered = are_served(rt, listener, service(1, 17, cache, None));
-    let time = start.elapsed(rt).ok()?;
+    let mut are_met = counts_of(rt, listener, pictures) == Some(expected);
     for (number, client) in clients.into_iter().enumerate() {
-        are_answered = (is_tile(rt.alloc(), client) || number == 0) && are_answered;
+        are_met = (is_tile(rt.alloc(), client) || number == 0) && are_met;
     }
-    are_answered.then_some(time)
+    are_met
 }
 
-/// Whether a cache of two pictures takes less than a third of the time of a cache of one, for the
-/// same requests.
-fn is_saved(rt: &HostRuntime, crowd: Crowd, twin: Crowd) -> bool {
-    match (time_of(rt, 2, crowd), time_of(rt, 1, twin)) {
-        (Some(time), Some(time_of_one)) => time.saturating_mul(3) < time_of_one,
-        _ => false,
-    }
+/// A client that publishes a map, and sixteen that ask for a tile on white and on black in turn.
+fn gather_for_tiles<R: Abort + Net<Listener = TcpListener, Stream = TcpStream> + AllocGlobal>(
+    rt: &R,
+) -> Crowd {
+    gather(rt, MAP_OF_A_LAYER, &[ON_WHITE, ON_BLACK], 8)
 }
 
-/// Of sixteen pictures it draws two, and a cache of one draws each.
+/// Of sixteen tiles in turn it draws two, and a cache of one draws each.
 #[test]
 fn a_cache_of_two_pictures_keeps_two(rt: HostRuntime) {
-    let tiles: [&[u8]; 2] = [ON_WHITE, ON_BLACK];
-    let mut is_met = false;
-    for _ in 0..3 {
-        is_met = is_met
-            || is_saved(
-                &rt,
-                gather(&rt, LINES, &tiles, 8),
-                gather(&rt, LINES, &tiles, 8),
-            );
-    }
-    assert!(&rt; is_met);
+    assert!(&rt;
+        are_counts(&rt, 2, gather_for_tiles(&rt), (2, 14))
+            || are_counts(&rt, 2, gather_for_tiles(&rt), (2, 14))
+    );
+    assert!(&rt;
+        are_counts(&rt, 1, gather_for_tiles(&rt), (16, 0))
+            || are_counts(&rt, 1, gather_for_tiles(&rt), (16, 0))
+    );
 }

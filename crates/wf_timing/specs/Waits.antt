@@ -22,7 +22,7 @@ abbrev pub first_retry : ℕ → ℕ
 first_retry node = 100 + 40 * node
 
 abbrev pub longest_retry : ℕ → ℕ
-longest_retry node = first_retry node + 1000
+longest_retry node = first_retry node + 10000
 
 -- a node's wait before a retry, after that many
 abbrev pub retry_wait : (node tries : ℕ) → ℕ

@@ -10,8 +10,9 @@ const FIRST: u64 = 100;
 
 const APART: u64 = 40;
 
-/// How much longer than its first wait a node's longest is, in milliseconds.
-const MOST_LONGER: u64 = 1_000;
+/// How much longer than its first wait a node's longest is, in milliseconds: a round that is tried
+/// again before its answers can come never succeeds, so this is more than what a slow one takes.
+const MOST_LONGER: u64 = 10_000;
 
 /// The wait before the next try, which doubles from try to try up to a limit.
 #[derive(Clone, Copy, Debug, PartialEq, Eq)]
@@ -62,7 +63,7 @@ impl Backoff {
 }
 
 /// The waits before a node's running proposal is tried again: 100 ms and 40 more for each lower
-/// node, doubled up to a second more than that. A new proposal begins with the first.
+/// node, doubled up to ten seconds more than that. A new proposal begins with the first.
 pub fn retry_of(node: NodeId) -> Backoff
     ensures first { result.first ≡ first_retry node }
     ensures limit { result.limit ≡ longest_retry node }

@@ -2,4 +2,5 @@ pub mod Answer
 pub mod Continuation
 pub mod Folder
 pub mod Lived
+pub mod Process
 pub mod Reach

@@ -35,3 +35,4 @@ pub use clients::Clients;
 pub use reach::{reach_of, told_votes};
 pub use reopening::{NextRun, NodeFolder, NotReopened, TapeNotReopened};
 pub use voter::Voter;
+pub use wf_actor::Process;
