@@ -9,8 +9,7 @@ use crate::votes::OpenVotes;
 use std::alloc::{AllocError, Global};
 use std::marker::Model;
 use wf_ballot::{Ballot, NodeId, Slot};
-use wf_canon::Canon;
-use wf_codec::Message;
+use wf_codec::{Canon, Message};
 use wf_journal::Record;
 
 /// An acceptor's answer to a Prepare or an Accept.

@@ -7,7 +7,7 @@ ghost use Rattle.wf_acceptor.specs.Comparison.{HasAllBut, AreSameBut};
 use crate::same::is_same;
 use crate::votes::OpenVotes;
 use wf_ballot::{Ballot, Slot};
-use wf_canon::Canon;
+use wf_codec::Canon;
 
 /// Whether the two have the same votes, except at this slot.
 #[tactic(auto, using(crate::proofs::Compared::same_both_ways))]

@@ -10,8 +10,7 @@ use crate::votes::OpenVotes;
 use arrayvec::ArrayVec;
 use std::alloc::AllocError;
 use wf_ballot::{Ballot, Slot};
-use wf_canon::Canon;
-use wf_codec::{MOST_VOTES, Report, Votes};
+use wf_codec::{Canon, MOST_VOTES, Report, Votes};
 
 /// The report of the votes from the slot on.
 pub fn report_from(votes: &OpenVotes, slot: Slot) -> Result<Report, AllocError>

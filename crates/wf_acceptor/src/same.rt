@@ -4,7 +4,7 @@ ghost use Rattle.std.specs.Prelude.{◌≡◌, ◌↔◌, IsTrue};
 ghost use Rattle.wf_journal.specs.declared.record.Record.TheVariants.{Tried, Promised, Accepted, Published};
 
 use wf_ballot::{Ballot, Round, Slot};
-use wf_canon::Canon;
+use wf_codec::Canon;
 use wf_journal::Record;
 
 /// Whether the two records are equal.

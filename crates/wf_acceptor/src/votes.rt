@@ -7,7 +7,7 @@ ghost use Rattle.wf_acceptor.specs.OpenVotes.{IsSorted, IsEntryAt, IsGapFor};
 use std::alloc::{AllocError, Global};
 use std::marker::Model;
 use wf_ballot::{Ballot, Slot};
-use wf_canon::Canon;
+use wf_codec::Canon;
 
 /// The votes of an acceptor at the slots that aren't published, sorted by slot.
 #[derive(Drop)]

@@ -1,3 +1,4 @@
+pub use Rattle.wf_delivery.specs.Reachability
 pub mod Backlog
 pub mod Life
 pub mod Start

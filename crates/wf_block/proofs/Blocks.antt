@@ -1,7 +1,7 @@
 -- Keywords up to END, one by one.
 use Rattle.std.proofs.Common.{◌≡◌, ℕ, suc, ◌+◌, ◌-◌, ◌<◌, ◌≤◌, List, arith, Bool, rules}
 use Rattle.std.specs.Prelude.{Option, Some, None, if◌then◌else◌, bytes_eq, IsTrue, ◌↔◌}
-use Rattle.wf_token.specs.Token.{Token}
+use Rattle.wf_block.specs.Token.{Token}
 use Rattle.wf_block.specs.Grammar.{◌>>=◌, word, is_end}
 use Rattle.wf_block.specs.Steps.{fill}
 use Rattle.std.proofs.lemmas.Slice.Eq.{bytes_eq-Decides}

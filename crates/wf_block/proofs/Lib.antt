@@ -1,1 +1,3 @@
+pub mod TokenLemmas
+mod Prefix
 pub mod Blocks

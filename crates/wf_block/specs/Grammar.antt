@@ -7,7 +7,7 @@ use Rattle.wf_text.specs.Number as micro
 use Rattle.wf_text.specs.Text.{is_text}
 use Rattle.wf_text.specs.ValueList.{is_value_list}
 use Rattle.wf_text.specs.Number.{whole_between}
-use Rattle.wf_token.specs.Token.{Token, Word, Quoted, Braced}
+use Rattle.wf_block.specs.Token.{Token, Word, Quoted, Braced}
 use Rattle.std.specs.List.{list_any}
 
 -- the second reader reads the tokens that the first leaves

@@ -1,5 +1,9 @@
-pub use Rattle.wf_token.specs.Lexeme
-pub use Rattle.wf_token.specs.Token
+pub mod Token
+pub mod Lexeme
+pub mod Spelling
+pub mod SpellingTheorems
+pub mod WordTheorems
+pub mod Utf8Theorems
 pub mod Grammar
 pub mod Blocks
 pub mod Faults

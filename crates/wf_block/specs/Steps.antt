@@ -1,7 +1,7 @@
 -- Blocks read keyword by keyword: the effect of each on the slots.
 use Rattle.std.specs.Prelude.{ℕ, zero, suc, nat_lt, if◌then◌else◌, List, [], ◌∷◌, ◌++◌, length, Option, Some, None, is_some}
 use Rattle.std.specs.Option.{option_map_or}
-use Rattle.wf_token.specs.Token.{Token}
+use Rattle.wf_block.specs.Token.{Token}
 use Rattle.wf_block.specs.Grammar.{◌>>=◌, choice, word, is_end}
 
 -- a table of keywords, each with the reader of its arguments and their effect on the slots

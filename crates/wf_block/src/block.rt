@@ -7,13 +7,13 @@ use crate::fault::MapFault;
 use crate::keyword::is_end;
 use crate::parser::Parser;
 use crate::place::Block;
+use crate::token::Token;
 use std::mem::replace;
-use wf_token::Token;
 
 /// A block while it is read: what its keywords have set so far, within their limits.
 pub trait Slots {
     ghost use Rattle.std.specs.Prelude.{◌≡◌, ℕ, List, Option, OnOk};
-    ghost use Rattle.wf_token.specs.Token.{Token};
+    ghost use Rattle.wf_block.specs.Token.{Token};
     ghost use Rattle.wf_block.specs.ReadContract.{Gives};
 
     // The slots' value, in the terms of the block's definition.

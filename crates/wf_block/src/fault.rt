@@ -2,10 +2,10 @@
 ghost use Rattle.std.specs.Prelude.{◌≡◌};
 ghost use Rattle.wf_block.specs.Faults.{byte_offset, code};
 
+use crate::token::{LexFault, LexFaultKind};
 use std::alloc::{AllocError, AllocFailed};
 use std::error::Error;
 use std::fmt;
-use wf_token::{LexFault, LexFaultKind};
 
 /// The first error of a mapfile, from the left. Byte offsets count from the front of the file,
 /// from 0.

@@ -2,17 +2,17 @@
 ghost use Rattle.std.specs.Prelude.{◌≡◌, ◌∷◌, [], drop, false, is_some, length, IfOk, MatchOption, MatchResult, Some, None, if◌then◌else◌};
 ghost use Rattle.wf_text.specs.Text.{IsText, is_text};
 ghost use Rattle.wf_text.specs.ValueList.{is_value_list};
-ghost use Rattle.wf_token.specs.Token.{token_value, token_values};
+ghost use Rattle.wf_block.specs.Token.{token_value, token_values};
 ghost use Rattle.wf_block.specs.ReadContract.{Gives, is_memory};
 ghost use Rattle.wf_block.specs.Grammar.{argument, end, number, text, value_list, whole, word};
 
 use crate::fault::MapFault;
 use crate::keyword::is_end;
 use crate::place::{Block, Place};
+use crate::token::{Token, TokenKind};
 use std::alloc::Global;
 use std::marker::Model;
 use wf_text::{Micro, NumberFault, Text, TextFault, ValueList, Whole, check_list, check_text};
-use wf_token::{Token, TokenKind};
 
 /// The remaining tokens of a file. Model: their values.
 #[derive(Drop)]
@@ -26,7 +26,7 @@ pub struct Parser<'a> {
 
 impl<'a> Model for Parser<'a> {
     ghost use Rattle.std.specs.Prelude.{◌≤◌, List, drop, length};
-    ghost use Rattle.wf_token.specs.Token.{Token, token_values};
+    ghost use Rattle.wf_block.specs.Token.{Token, token_values};
 
     ghost Value = { List Token };
 

@@ -11,14 +11,14 @@ use Rattle.wf_def.specs.declared.choice.LabelSize.{LabelSize}
 use Rattle.wf_def.specs.declared.choice.LabelSize.TheVariants.{Tiny, Small, Medium, Large, Giant}
 use Rattle.wf_def.specs.declared.choice.LabelPosition.{LabelPosition}
 use Rattle.wf_def.specs.declared.choice.LabelPosition.TheVariants.{UpperLeft, UpperCenter, UpperRight, CenterLeft, CenterCenter, CenterRight, LowerLeft, LowerCenter, LowerRight}
-use Rattle.wf_token.specs.Token.{Word}
-use Rattle.wf_token.specs.Spelling.{tokens_of}
-use Rattle.wf_class.specs.declared.slots.StyleSlots.{StyleSlots}
-use Rattle.wf_class.specs.declared.slots.LabelSlots.{LabelSlots}
-use Rattle.wf_class.specs.declared.slots.ClassSlots.{ClassSlots}
-use Rattle.wf_class.specs.Style as styles
-use Rattle.wf_class.specs.Label as labels
-use Rattle.wf_class.specs.Class as classes
+use Rattle.wf_block.specs.Token.{Word}
+use Rattle.wf_block.specs.Spelling.{tokens_of}
+use Rattle.wf_mapfile.specs.StyleSlots.{StyleSlots}
+use Rattle.wf_mapfile.specs.LabelSlots.{LabelSlots}
+use Rattle.wf_mapfile.specs.ClassSlots.{ClassSlots}
+use Rattle.wf_mapfile.specs.Style as styles
+use Rattle.wf_mapfile.specs.Label as labels
+use Rattle.wf_mapfile.specs.Class as classes
 use Rattle.wf_spelling.specs.Canon.{size_word, position_word, force_word, expression_token, with_expression, with_color, when_there, style_lines, label_lines, optional_label_lines, class_lines}
 use Rattle.wf_canon.proofs.TokenTheorem.{text_again, list_again, whole_again, color_again, chosen_again}
 use Rattle.wf_canon.proofs.Steps.{Reads, inside, is_keyword, Fills, Ended, keyword, line, both, ended, there, each, holds_at, room_at, block_again}

@@ -8,7 +8,7 @@ use Rattle.std.specs.Char.{encode_utf8}
 use Rattle.std.proofs.lemmas.Bool.Decides.{nat_tests}
 use Rattle.std.proofs.lemmas.Str.{IsUtf8-append, IsUtf8-from_is_utf8, is_utf8-from_IsUtf8, chars-append}
 use Rattle.wf_text.specs.Booleans.{and_left, and_right}
-use Rattle.wf_token.specs.Utf8Theorems.{text_is_utf8}
+use Rattle.wf_block.specs.Utf8Theorems.{text_is_utf8}
 use Rattle.wf_def.specs.Text.{is_text, is_text_character, has_both_quotes}
 use Rattle.wf_def.specs.declared.choice.Projection.{Projection}
 use Rattle.wf_def.specs.declared.choice.Projection.TheVariants.{Epsg4326, Epsg3857}

@@ -15,15 +15,15 @@ use Rattle.wf_def.specs.Limit.{most_classes, most_items_bytes}
 use Rattle.wf_def.specs.declared.point.Point.{Point}
 use Rattle.wf_def.specs.declared.choice.LayerKind.{LayerKind}
 use Rattle.wf_def.specs.declared.choice.LayerKind.TheVariants.{Points, Lines, Polygons}
-use Rattle.wf_token.specs.Token.{Token, Word, Quoted}
-use Rattle.wf_token.specs.Spelling.{is_written, tokens_of}
+use Rattle.wf_block.specs.Token.{Token, Word, Quoted}
+use Rattle.wf_block.specs.Spelling.{is_written, tokens_of}
 use Rattle.wf_block.specs.Grammar.{is_end, word, argument, text, end}
 use Rattle.wf_mapfile.specs.Metadata.{pairs, all_differ, value_at, kept as kept_pairs, metadata}
 use Rattle.wf_mapfile.specs.declared.slots.Metadata.{Metadata}
-use Rattle.wf_feature.specs.declared.slots.FeatureSlots.{FeatureSlots}
+use Rattle.wf_mapfile.specs.FeatureSlots.{FeatureSlots}
 use Rattle.wf_mapfile.specs.declared.slots.LayerOnce.{LayerOnce}
 use Rattle.wf_mapfile.specs.declared.slots.LayerSlots.{LayerSlots}
-use Rattle.wf_feature.specs.Feature as features
+use Rattle.wf_mapfile.specs.Feature as features
 use Rattle.wf_mapfile.specs.Layer as layers
 use Rattle.wf_spelling.specs.Canon.{number_word, kind_word, end_line, point_line, part_lines, feature_lines, class_lines, metadata_lines, layer_lines}
 use Rattle.wf_canon.proofs.NumberWord.{number_word_is}

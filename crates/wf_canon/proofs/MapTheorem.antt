@@ -12,10 +12,10 @@ use Rattle.wf_def.specs.Limit.{most_layers, most_features, most_points}
 use Rattle.wf_def.specs.Extent.{ExtentValue, IsExtent}
 use Rattle.wf_def.specs.declared.choice.Projection.{Projection}
 use Rattle.wf_def.specs.declared.choice.Projection.TheVariants.{Epsg4326, Epsg3857}
-use Rattle.wf_token.specs.Token.{Token, Word}
+use Rattle.wf_block.specs.Token.{Token, Word}
 use Rattle.wf_block.specs.Grammar.{word, argument, text, end}
 use Rattle.wf_mapfile.specs.Metadata.{pairs, all_differ, value_at, kept as kept_pairs, metadata}
-use Rattle.wf_token.specs.Spelling.{tokens_of}
+use Rattle.wf_block.specs.Spelling.{tokens_of}
 use Rattle.wf_mapfile.specs.declared.slots.Metadata as slots
 use Rattle.wf_mapfile.specs.declared.slots.MapOnce.{MapOnce}
 use Rattle.wf_mapfile.specs.declared.slots.MapSlots.{MapSlots}

@@ -10,21 +10,21 @@ use Rattle.std.proofs.lemmas.List.Folds.{list_all-append}
 use Rattle.wf_text.specs.Booleans.{and_left, and_right}
 use Rattle.wf_def.specs.Definition.{Definition}
 use Rattle.wf_def.specs.Limits.{IsWithinLimits}
-use Rattle.wf_token.specs.Token.{Token, Word, Between, without_mark, tokens, tokens_from}
+use Rattle.wf_block.specs.Token.{Token, Word, Between, without_mark, tokens, tokens_from}
 use Rattle.wf_block.specs.Grammar.{◌>>=◌, word}
 use Rattle.wf_mapfile.specs.Meaning.{file, longest_mapfile, meaning, Means, MeansNothing}
 use Rattle.wf_block.specs.ReadContract.{IsNotUtf8, is_memory}
 use Rattle.wf_block.specs.declared.fault.MapFault.{MapFault}
 use Rattle.wf_block.specs.declared.fault.MapFault.TheVariants as reading
-use Rattle.wf_token.specs.Spelling.{is_written, are_written, line}
+use Rattle.wf_block.specs.Spelling.{is_written, are_written, line}
 use Rattle.wf_spelling.specs.Canon.{map_lines, canon, most_canon_bytes, IsCanon, IsCauseOf}
 use Rattle.wf_spelling.specs.declared.fault.CanonFault.{CanonFault}
 use Rattle.wf_spelling.specs.declared.fault.CanonFault.TheVariants.{TooBig, NotCanonical, Memory}
 use Rattle.wf_canon.specs.TextMeaning.{Denotes}
 use Rattle.wf_canon.specs.CanonFault.{HasNoCanon, IsWhyRejected, reject_again}
-use Rattle.wf_token.specs.Spelling.{tokens_of}
-use Rattle.wf_token.specs.SpellingTheorems.{lex_text}
-use Rattle.wf_token.specs.Utf8Theorems.{text_of-is_utf8}
+use Rattle.wf_block.specs.Spelling.{tokens_of}
+use Rattle.wf_block.specs.SpellingTheorems.{lex_text}
+use Rattle.wf_block.specs.Utf8Theorems.{text_of-is_utf8}
 use Rattle.wf_canon.proofs.Steps.{inside, is_keyword}
 use Rattle.wf_canon.proofs.MapTheorem.{map_again}
 

@@ -6,8 +6,8 @@ use Rattle.std.proofs.lemmas.Bool.Decides.{nat_tests}
 use Rattle.wf_def.specs.Number.{IsMicro}
 use Rattle.wf_block.specs.Grammar.{is_end}
 use Rattle.wf_text.specs.NumberText.{number_text}
-use Rattle.wf_token.specs.Spelling.{is_word, begins_like_number}
-use Rattle.wf_token.specs.WordTheorems as words
+use Rattle.wf_block.specs.Spelling.{is_word, begins_like_number}
+use Rattle.wf_block.specs.WordTheorems as words
 
 -- END begins with a letter
 number_is_no_end : (w : List ℕ) → begins_like_number w ≡ true → is_end w ≡ false

@@ -14,8 +14,8 @@ use Rattle.std.proofs.lemmas.List.Elements.{All-contains, All-same, Contains-app
 use Rattle.std.proofs.lemmas.List.Folds.{list_all-append}
 use Rattle.std.proofs.lemmas.List.Sums.{sum_by-append, sum_by-cons}
 use Rattle.wf_text.specs.Booleans.{and_left, and_right, not_true}
-use Rattle.wf_token.specs.Token.{Token, Word, is_plain, is_slash, is_quote, is_hash}
-use Rattle.wf_token.specs.Spelling.{is_word, is_written, tokens_of}
+use Rattle.wf_block.specs.Token.{Token, Word, is_plain, is_slash, is_quote, is_hash}
+use Rattle.wf_block.specs.Spelling.{is_word, is_written, tokens_of}
 use Rattle.wf_block.specs.Grammar.{is_end, word}
 use Rattle.wf_block.specs.Steps.{fill, block}
 use Rattle.wf_spelling.specs.Canon.{alone, end_line}

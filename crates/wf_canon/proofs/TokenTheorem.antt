@@ -15,11 +15,11 @@ use Rattle.wf_def.specs.declared.color.Color.{Color}
 use Rattle.wf_text.specs.Booleans.{and_left, and_right, not_true}
 use Rattle.wf_text.specs.NumberText.{fraction_text, magnitude_text, number_text}
 use Rattle.wf_text.specs.NumberTextTheorems as numbers
-use Rattle.wf_token.specs.Token.{Word, Quoted, Braced}
-use Rattle.wf_token.specs.Spelling.{is_word, lacks, is_written}
-use Rattle.wf_token.specs.WordTheorems.{decimal_is_word}
+use Rattle.wf_block.specs.Token.{Word, Quoted, Braced}
+use Rattle.wf_block.specs.Spelling.{is_word, lacks, is_written}
+use Rattle.wf_block.specs.WordTheorems.{decimal_is_word}
 use Rattle.wf_block.specs.Grammar.{is_end, argument, text, value_list, one_of, choice, number, whole}
-use Rattle.wf_class.specs.Color.{color, rgb_color, hash_digits}
+use Rattle.wf_mapfile.specs.Color.{color, rgb_color, hash_digits}
 use Rattle.wf_spelling.specs.Canon.{number_word, whole_word}
 use Rattle.wf_canon.proofs.NumberWord.{number_word_is}
 use Rattle.wf_canon.proofs.Steps.{Reads, is_keyword}

@@ -4,7 +4,7 @@ use Rattle.std.specs.Prelude.{◌≡◌, ℕ, true, List, Some}
 use Rattle.std.specs.Str.{is_utf8}
 use Rattle.wf_def.specs.Definition.{Definition}
 use Rattle.wf_def.specs.Limits.{IsWithinLimits}
-use Rattle.wf_token.specs.Token.{tokens}
+use Rattle.wf_block.specs.Token.{tokens}
 use Rattle.wf_block.specs.Grammar.{◌>>=◌}
 use Rattle.wf_mapfile.specs.Meaning.{file}
 use Rattle.wf_spelling.specs.Canon.{canon}

@@ -22,7 +22,7 @@ use Rattle.wf_delivery.specs.Reachability.{AreFresh}
 use Rattle.wf_delivery.specs.Outcome.{StepIsAnswered}
 use Rattle.wf_delivery.specs.IndexTheorems.{get_set_same, get_set_other}
 use Rattle.wf_delivery.specs.Delivery.{NoneHalted}
-use Rattle.wf_publication.specs.Publication.{AllPublish, PublishedOnAll, Rests}
+use Rattle.wf_delivery.specs.Publication.{AllPublish, PublishedOnAll, Rests}
 use Rattle.wf_tape.specs.declared.tape.Tape.{Ghosts as Tape}
 use Rattle.wf_career.specs.Run.{Act, Run, last_of, last, Between, IsAct, IsOpenedFrom}
 use Rattle.wf_career.specs.RunTheorems.{last_more}

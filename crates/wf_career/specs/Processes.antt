@@ -11,7 +11,7 @@ use Rattle.wf_node.specs.Node.{Node, stored_of}
 use Rattle.wf_node.specs.Step.{IsStep}
 use Rattle.wf_delivery.specs.Delivery.{AreHandedOut}
 use Rattle.wf_delivery.specs.Delivery.{NoneHalted}
-use Rattle.wf_publication.specs.Publication.{AllPublish}
+use Rattle.wf_delivery.specs.Publication.{AllPublish}
 use Rattle.wf_tape.specs.declared.tape.Tape.{Ghosts as Tape}
 use Rattle.wf_career.specs.Run.{Run, last, IsOpenedFrom}
 use Rattle.wf_career.specs.Career.{Career, Item, IsFarm}

@@ -7,10 +7,9 @@ ghost use Rattle.wf_career.specs.Run.{IsOpenedFrom};
 use crate::run::open;
 use std::alloc::{AllocError, Global};
 use wf_ballot::NodeId;
-use wf_delivery::a_step_is_answered;
+use wf_delivery::{a_step_is_answered, new_nodes_publish};
 use wf_journal::records_are_read_one_way;
 use wf_node::Node;
-use wf_publication::new_nodes_publish;
 use wf_tape::{MemoryTape, Tape};
 
 /// Node `id` of `n` on an empty tape in memory, as the first run of its process begins. Err if an

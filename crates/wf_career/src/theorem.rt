@@ -5,7 +5,7 @@ ghost use Rattle.wf_career.specs.Theorems.{FarmIsOneRun, ListsGrow, OneAnswer, O
 ghost use Rattle.wf_career.specs.CrashImages.{ComparisonLeaves, LeavesBetween, LeavesFailed, LeavesWithin};
 ghost use Rattle.wf_career.specs.Replica.{OneServed, ServedAgree, ServedAnswer, ServedMapAnswer};
 
-use wf_canon::Canon;
+use wf_codec::Canon;
 use wf_journal::records_are_read_one_way;
 use wf_tape::Tape;
 use wf_trace::{a_trace_is_a_run, lives_are_one_trace};

@@ -10,7 +10,7 @@ use Rattle.wf_def.specs.Definition.{Definition}
 use Rattle.wf_mapfile.specs.Meaning.{Means, longest_mapfile}
 use Rattle.wf_mapfile.specs.Rejection.{HasError}
 use Rattle.wf_spelling.specs.Canon.{canon, most_canon_bytes}
-use Rattle.wf_token.specs.Token.{without_mark}
+use Rattle.wf_block.specs.Token.{without_mark}
 use Rattle.wf_check.specs.Message.{IsFindingMessage}
 use Rattle.wf_check.specs.NumberedLine.{characters, first_line, is_feed, last_line, line_number}
 use Rattle.wf_check.specs.declared.fault.CheckFault.{CheckFault}

@@ -2,7 +2,7 @@
 ghost use Rattle.std.specs.Prelude.{◌≡◌, ◌+◌, ◌≤◌, drop, length, take};
 ghost use Rattle.std.specs.List.{prefix_len, suffix_len};
 ghost use Rattle.wf_check.specs.NumberedLine.{characters, first_line, is_feed, last_line, line_number, starts_character, stays_in_line};
-ghost use Rattle.wf_token.specs.Token.{without_mark};
+ghost use Rattle.wf_block.specs.Token.{without_mark};
 
 /// U+FEFF in UTF-8, which may stand at the front of a file and is shown by no editor.
 const BYTE_ORDER_MARK: [u8; 3] = [0xEF, 0xBB, 0xBF];
@@ -132,7 +132,7 @@ fn first_line(after: &[u8]) -> &[u8]
 }
 
 /// The bytes without a byte order mark.
-#[tactic(auto, unfolding(wf_token::specs::Token::without_mark))]
+#[tactic(auto, unfolding(wf_block::specs::Token::without_mark))]
 fn without_mark(bytes: &[u8]) -> &[u8]
     ensures { result.now ≡ without_mark bytes.now }
 {

@@ -12,11 +12,10 @@ use crate::shown::Quote;
 use crate::skim::{Act, ShortShape, block_at, events_of, short_shape};
 use std::alloc::{AllocError, Global};
 use std::fmt::Write;
-use wf_block::{Block, MapFault};
+use wf_block::{Block, MapFault, Token, tokenize};
 use wf_def::{MOST_CLASSES, MOST_FEATURES, MOST_LAYERS, MOST_POINTS, MOST_STYLES};
 use wf_mapfile::{Keyword, MOST_MAPFILE_BYTES, Takes, keyword_of, keywords_of};
 use wf_text::MOST_TEXT_BYTES;
-use wf_token::{Token, tokenize};
 
 /// The most bytes of a file that are counted.
 pub const MOST_COUNTED_BYTES: usize = 16_777_216;

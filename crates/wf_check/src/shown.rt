@@ -3,7 +3,7 @@
 ghost use Rattle.std.specs.Prelude.{◌≡◌, ◌<◌, ◌≤◌, ℕ, drop, length, take, IfSome};
 
 use std::fmt;
-use wf_token::{Token, TokenKind};
+use wf_block::{Token, TokenKind};
 
 /// The most bytes of a line that are shown on each side of an offset.
 const MOST_BESIDE: usize = 50;

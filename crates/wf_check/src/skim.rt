@@ -3,9 +3,8 @@
 //! A skim reads no argument and goes on behind an error, so it has what a report counts there.
 
 use std::alloc::{AllocError, Global};
-use wf_block::{Block, choose, is_end};
+use wf_block::{Block, Token, TokenKind, choose, is_end};
 use wf_mapfile::{Takes, keyword_of};
-use wf_token::{Token, TokenKind};
 
 /// What a token of a file does.
 #[derive(Clone, Copy, PartialEq, Eq)]

@@ -5,7 +5,7 @@ use Rattle.wf_def.specs.Definition.{ClassDefinition, ExpressionDefinition}
 use Rattle.wf_def.specs.declared.expression.Expression.TheVariants.{Equals, OneOf}
 use Rattle.wf_class.specs.declared.slots.ClassOnce.{ClassOnce}
 use Rattle.wf_class.specs.declared.slots.ClassSlots.{ClassSlots}
-use Rattle.wf_token.specs.Token.{Token, Word, Quoted, Braced, is_slash}
+use Rattle.wf_block.specs.Token.{Token, Word, Quoted, Braced, is_slash}
 use Rattle.wf_block.specs.Grammar.{◌>>=◌, text, value_list}
 use Rattle.wf_block.specs.Steps.{once, again, step_by, step_or, put_into, block}
 use Rattle.wf_class.specs.Style.{style}

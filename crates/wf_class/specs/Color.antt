@@ -3,7 +3,7 @@ use Rattle.std.specs.Prelude.{ℕ, ◌==◌, if◌then◌else◌, List, [], ◌�
 use Rattle.std.specs.Option.{option_map_or}
 use Rattle.wf_def.specs.Color.{hexadecimal_color}
 use Rattle.wf_def.specs.declared.color.Color.{Color}
-use Rattle.wf_token.specs.Token.{Token, Word, Quoted, Braced}
+use Rattle.wf_block.specs.Token.{Token, Word, Quoted, Braced}
 use Rattle.wf_block.specs.Grammar.{◌>>=◌, whole}
 
 unfoldable pub rgb_color : List Token → Option (Color × List Token)

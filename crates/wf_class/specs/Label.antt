@@ -8,7 +8,7 @@ use Rattle.wf_def.specs.declared.choice.LabelPosition.TheVariants.{UpperLeft, Up
 use Rattle.wf_def.specs.Limit.{most_priority, most_buffer}
 use Rattle.wf_def.specs.Definition.{LabelDefinition}
 use Rattle.wf_class.specs.declared.slots.LabelSlots.{LabelSlots}
-use Rattle.wf_token.specs.Token.{Token}
+use Rattle.wf_block.specs.Token.{Token}
 use Rattle.wf_block.specs.Grammar.{◌>>=◌, one_of, whole}
 use Rattle.wf_block.specs.Steps.{once, step_by, block}
 use Rattle.wf_class.specs.Color.{color}

@@ -3,7 +3,7 @@ use Rattle.std.specs.Prelude.{ℕ, List, [], ◌∷◌, codes, Option, Some, Non
 use Rattle.wf_def.specs.Limit.{most_width, most_size}
 use Rattle.wf_def.specs.Definition.{StyleDefinition}
 use Rattle.wf_class.specs.declared.slots.StyleSlots.{StyleSlots}
-use Rattle.wf_token.specs.Token.{Token}
+use Rattle.wf_block.specs.Token.{Token}
 use Rattle.wf_block.specs.Grammar.{◌>>=◌, whole}
 use Rattle.wf_block.specs.Steps.{once, step_by, block}
 use Rattle.wf_class.specs.Color.{color}

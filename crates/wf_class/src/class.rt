@@ -8,9 +8,11 @@ use crate::label::read_label;
 use crate::slots::{ClassOnce, ClassSlots};
 use crate::style::read_style;
 use std::alloc::{AllocError, Global};
-use wf_block::{Block, MapFault, Parser, Slots, fill_block, is_name, once, text_or_empty};
+use wf_block::{
+    Block, MapFault, Parser, Slots, Token, TokenKind, fill_block, is_name, is_slash, once,
+    text_or_empty,
+};
 use wf_def::{Class, Expression, Styles};
-use wf_token::{Token, TokenKind, is_slash};
 
 impl Slots for ClassSlots {
     ghost use Rattle.wf_class.specs.declared.slots.ClassSlots.{ClassSlots as Value};

@@ -2,11 +2,10 @@
 ghost use Rattle.std.specs.Prelude.{◌≡◌, ◌==◌, option_copied};
 ghost use Rattle.wf_class.specs.Color.{color, hash_digits, rgb_color};
 ghost use Rattle.wf_block.specs.ReadContract.{Gives};
-ghost use Rattle.wf_token.specs.Token.{token_value};
+ghost use Rattle.wf_block.specs.Token.{token_value};
 
-use wf_block::{MapFault, Parser};
+use wf_block::{MapFault, Parser, Token, TokenKind};
 use wf_def::Color;
-use wf_token::{Token, TokenKind};
 
 /// Reads a colour (MapServer mapfile reference, COLOR).
 #[tactic(auto, unfolding(crate::specs::Color::color))]

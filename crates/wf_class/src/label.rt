@@ -5,9 +5,8 @@ ghost use Rattle.wf_block.specs.ReadContract.{Gives};
 
 use crate::color::read_color;
 use crate::slots::LabelSlots;
-use wf_block::{Block, MapFault, Parser, Slots, fill_block, is_name, once, or_least};
+use wf_block::{Block, MapFault, Parser, Slots, Token, fill_block, is_name, once, or_least};
 use wf_def::{Color, Label, LabelPosition, LabelSize, MOST_BUFFER, MOST_PRIORITY};
-use wf_token::Token;
 
 /// The colour of letters without COLOR.
 const BLACK: Color = Color { r: 0, g: 0, b: 0 };

@@ -5,9 +5,8 @@ ghost use Rattle.wf_class.specs.Style.{style, style_of};
 
 use crate::color::read_color;
 use crate::slots::StyleSlots;
-use wf_block::{Block, MapFault, Parser, Slots, fill_block, is_name, once, or_least};
+use wf_block::{Block, MapFault, Parser, Slots, Token, fill_block, is_name, once, or_least};
 use wf_def::{MOST_SIZE, MOST_WIDTH, Style};
-use wf_token::Token;
 
 impl Slots for StyleSlots {
     ghost use Rattle.wf_class.specs.declared.slots.StyleSlots.{StyleSlots as Value};

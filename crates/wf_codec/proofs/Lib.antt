@@ -1,3 +1,4 @@
+pub use Rattle.wf_canon.proofs.MeaningTheorem
 pub mod Texts
 pub mod Fields
 pub mod Encoded

@@ -6,7 +6,7 @@ use Rattle.wf_model.specs.Message.{Vote}
 use Rattle.std.proofs.lemmas.List.{length-map}
 use Rattle.wf_ballot.specs.Ballot.{Ballot}
 use Rattle.wf_def.specs.Definition.{Definition}
-use Rattle.wf_spelling.specs.Canon.{canon, most_canon_bytes}
+use Rattle.wf_canon.specs.Canon.{canon, most_canon_bytes}
 use Rattle.wf_frame.specs.Report.{AreVotesOf, vote_with, votes_with, vote_definitions, votes_definitions, votes_in_report, front_vote, votes_of}
 use Rattle.wf_codec.specs.declared.fault.DecodeFault.{DecodeFault}
 use Rattle.wf_codec.specs.declared.fault.DecodeFault.TheVariants.{Short, BadVersion, BadKind, BadField, NotCanonical, TooLong, Memory}

@@ -6,7 +6,7 @@ use Rattle.wf_frame.specs.Report.{vote_bytes, votes_bytes, vote_with, votes_with
 use Rattle.wf_frame.specs.Row.{Row, row_bytes, layout_of}
 use Rattle.wf_frame.specs.Frame.{Format}
 use Rattle.wf_frame.specs.Frame as frames
-use Rattle.wf_spelling.specs.Canon.{canon}
+use Rattle.wf_canon.specs.Canon.{canon}
 use Rattle.wf_model.specs.Message.{Message}
 use Rattle.wf_def.specs.Definition.{Definition}
 use Rattle.wf_codec.specs.declared.encoder.End.{End}

@@ -5,7 +5,7 @@ use Rattle.wf_frame.specs.Layout.{Layout, fits}
 use Rattle.wf_frame.specs.Layout as layouts
 use Rattle.wf_frame.specs.Row.{layout_of}
 use Rattle.wf_def.specs.Definition.{Definition}
-use Rattle.wf_spelling.specs.Canon.{canon}
+use Rattle.wf_canon.specs.Canon.{canon}
 use Rattle.wf_codec.specs.declared.fault.DecodeFault.{DecodeFault}
 use Rattle.wf_codec.specs.declared.fault.DecodeFault.TheVariants.{Short, BadVersion, BadKind, BadField, NotCanonical, TooLong, Memory}
 use Rattle.wf_codec.specs.KindTable.{kinds, most_body_bytes}

@@ -4,7 +4,7 @@ use Rattle.wf_frame.specs.Field.{NodeField, SlotField, BallotField}
 use Rattle.wf_frame.specs.BodyEnd.{Nothing, Text, Votes}
 use Rattle.wf_frame.specs.Layout.{Layout}
 use Rattle.wf_frame.specs.Report.{most_report}
-use Rattle.wf_spelling.specs.Canon.{most_canon_bytes}
+use Rattle.wf_canon.specs.Canon.{most_canon_bytes}
 
 -- from the request to promise to the request for what is chosen, in the order in which wf_model
 -- lists messages

@@ -7,7 +7,7 @@ use Rattle.wf_model.specs.Message.{Vote}
 use Rattle.wf_model.specs.Message as model
 use Rattle.wf_def.specs.Definition.{Definition}
 use Rattle.wf_def.specs.Limits.{IsWithinLimits}
-use Rattle.wf_spelling.specs.Canon.{canon, most_canon_bytes}
+use Rattle.wf_canon.specs.Canon.{canon, most_canon_bytes}
 use Rattle.wf_codec.specs.declared.message.Message.{Message}
 use Rattle.wf_codec.specs.declared.message.Message.TheVariants as code
 

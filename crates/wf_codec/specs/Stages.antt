@@ -7,7 +7,7 @@ use Rattle.wf_frame.specs.declared.fault.FrameFault.TheVariants as frames
 use Rattle.wf_frame.specs.Row.{Row, end_definitions}
 use Rattle.wf_model.specs.Message.{Message, Vote}
 use Rattle.wf_def.specs.Definition.{Definition}
-use Rattle.wf_spelling.specs.Canon.{canon}
+use Rattle.wf_canon.specs.Canon.{canon}
 use Rattle.wf_codec.specs.declared.fault.DecodeFault.{DecodeFault}
 use Rattle.wf_codec.specs.declared.fault.DecodeFault.TheVariants.{Short, BadVersion, BadKind, BadField, NotCanonical, TooLong, Memory}
 use Rattle.wf_frame.specs.Report.{AreVotesOf, IsVoteOf, vote_with, votes_with, votes_in_report, vote_definitions, votes_definitions}

@@ -2,7 +2,7 @@ ghost use Rattle.std.specs.Prelude.{◌≡◌, ◌+◌, ◌≤◌, ◌++◌, ◌
 ghost use Rattle.wf_codec.specs.Message.{view};
 ghost use Rattle.wf_codec.specs.Fault.{first_fault, HasFault, CarriesText};
 ghost use Rattle.arrayvec.specs.ArrayVec.{array_vec_len};
-ghost use Rattle.wf_spelling.specs.Canon.{most_canon_bytes};
+ghost use Rattle.wf_canon.specs.Canon.{most_canon_bytes};
 ghost use Rattle.wf_frame.specs.Report.{front_text, front_vote, votes_of, votes_in_report};
 ghost use Rattle.wf_frame.specs.Frame.{frame_front};
 ghost use Rattle.wf_codec.specs.Encoding.{Spells, format};

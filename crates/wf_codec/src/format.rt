@@ -1,5 +1,5 @@
 ghost use Rattle.std.specs.Prelude.{◌≡◌, ◌+◌, ◌≤◌};
-ghost use Rattle.wf_spelling.specs.Canon.{most_canon_bytes};
+ghost use Rattle.wf_canon.specs.Canon.{most_canon_bytes};
 
 use wf_canon::MOST_CANON_BYTES;
 use wf_frame::{FrameFormat, Lengths};

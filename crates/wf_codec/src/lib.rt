@@ -36,3 +36,4 @@ pub use report::{MOST_VOTES, Report, Votes};
 pub use theorem::{
     longest_body, no_spelling_is_empty, none_begins_another, numbers_of_messages, one_spelling,
 };
+pub use wf_canon::{Canon, CanonFault, one_text_one_map};

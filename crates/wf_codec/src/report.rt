@@ -2,7 +2,7 @@ ghost use Rattle.std.specs.Prelude.{◌≡◌, ◌+◌, ◌*◌, ◌≤◌, ◌+
 ghost use Rattle.arrayvec.specs.ArrayVec.{array_vec_len};
 ghost use Rattle.wf_ballot.specs.Sequence.{IsSlot};
 ghost use Rattle.wf_frame.specs.Report.{votes_in_report, votes_definitions, IsVoteOf, AreVotesOf};
-ghost use Rattle.wf_spelling.specs.Canon.{canon, most_canon_bytes};
+ghost use Rattle.wf_canon.specs.Canon.{canon, most_canon_bytes};
 ghost use Rattle.wf_codec.specs.Message.{view_vote, view_votes, HasOne, HasText};
 ghost use Rattle.wf_codec.specs.Encoding.{written_vote, written_votes};
 

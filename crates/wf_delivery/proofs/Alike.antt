@@ -1,7 +1,7 @@
 -- Nodes that published one history have one answer to a query.
 use Rattle.std.proofs.Common.{◌≡◌, ◌∙◌, ℕ, zero, suc, List, Some, sym, ap}
 use Rattle.wf_delivery.proofs.Common.{same_Some, Definition, definition_at, Node, HaveOneAnswer, HaveOneHistory, HaveOneMapAnswer}
-use Rattle.wf_learner.specs.History.{map_at}
+use Rattle.wf_wms.specs.History.{map_at}
 use Rattle.wf_wms.proofs.ServiceTheorem.{answered_alike}
 use Rattle.wf_wms.specs.Answer.{AnswerValue, EachQueryHasOneAnswer, IsAnswerOf, subject}
 

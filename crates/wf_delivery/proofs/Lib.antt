@@ -8,3 +8,10 @@ pub mod OneRun
 pub mod Outcomes
 mod Reopened
 pub mod Alike
+mod NewCommon
+pub mod Rounds
+pub mod UpTo
+pub mod ThreeNodes
+pub mod Exactly
+pub mod Published
+mod NewNodes

@@ -1,7 +1,7 @@
 -- What a tape stands for, and a node in memory that is closed, and opened again.
 use Rattle.std.proofs.Common.{◌≡◌, ℕ, Bool, true, false, List, [], take, drop, Option, Some, refl, sym, ap, subst, ◌∙◌}
 use Rattle.wf_delivery.proofs.Common.{append-nil, take-append-drop, same_Some, Definition, DurableState, fold, fold_from, nothing_stored, VolatileState, at_start, AllStandFor, StandsFor, Node, stored_of, volatile_of, IsFoldOf, Follows, ReadsSame, IsImageNow, AreReadOneWay, IsFresh, HasStoredAgain, IsReopened}
-use Rattle.wf_canon.proofs.MeaningTheorem.{one_definition}
+use Rattle.wf_codec.proofs.MeaningTheorem.{one_definition}
 use Rattle.wf_journal.proofs.Lists.{one_reading, reads_only}
 use Rattle.wf_model.specs.World as world
 use Rattle.wf_tape.specs.MemoryTape as tape

@@ -9,3 +9,5 @@ pub mod DeliveryTheorems
 pub mod Reachability
 pub mod ReopenedNodes
 pub mod Outcome
+pub mod Rounds
+pub mod Publication

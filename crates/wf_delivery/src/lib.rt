@@ -28,14 +28,21 @@
 //! - Reached nodes agree, and answer alike: [`reachable_nodes_agree`],
 //!   [`reachable_nodes_answer_alike`].
 //! - The four theorems of `wf_safety` hold for the program's definitions ([`agreement`]).
+//! - Deliveries of which none is lost are those of whole rounds, of one message after the other to
+//!   every node, from whatever world the nodes were ([`deliveries_are_rounds`], `specs/Rounds.antt`);
+//!   a farm's pump makes such rounds too. What one of three new nodes proposes is published on all
+//!   three, by 27 deliveries ([`new_nodes_publish`], `specs/Publication.antt`). New nodes of which
+//!   one catches up are new still ([`new_nodes_stay_new`]).
 //!
-//! **Doesn't.** There is no time, and no promise that a message is delivered where allocations
-//! fail, or that anything is ever published.
+//! **Doesn't.** There is no time, no promise that a message is delivered where allocations fail, and
+//! none that anything is ever published where messages or deliveries are lost, or by other numbers
+//! of nodes than three.
 #![tactic(auto)]
 
 mod delivery;
 mod node_start;
 mod progress;
+mod publication;
 mod reachability;
 mod recipient;
 mod theorem;
@@ -45,6 +52,7 @@ pub use delivery::{
 };
 pub use node_start::{open_fresh, reopen};
 pub use progress::{MOST_DELIVERIES, PumpProgress};
+pub use publication::{deliveries_are_rounds, new_nodes_publish, new_nodes_stay_new};
 pub use reachability::{
     a_step_is_reachable, deliveries_are_reachable, fresh_nodes_are_reachable, reachability_goes_on,
     reachable_nodes_agree, reachable_nodes_answer_alike, reachable_stays,

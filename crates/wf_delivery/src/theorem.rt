@@ -7,7 +7,7 @@ ghost use Rattle.wf_model.specs.Table.{most_reports};
 ghost use Rattle.wf_delivery.specs.Outcome.{StepIsAnswered};
 
 use crate::delivery::MOST_OUTPUTS;
-use wf_canon::Canon;
+use wf_codec::Canon;
 use wf_tape::Tape;
 
 /// A node that is asked for a step, whatever the input, halts, rejects it, makes its transition,

@@ -14,7 +14,7 @@ use Rattle.wf_model.specs.DurableState.{definition_at}
 use Rattle.wf_canon.specs.TextMeaning.{OneTextOneMap}
 use Rattle.wf_def.specs.Definition.{Definition, empty_map}
 use Rattle.wf_def.specs.Limits.{IsWithinLimits}
-use Rattle.wf_spelling.specs.Canon.{canon}
+use Rattle.wf_canon.specs.Canon.{canon}
 use Rattle.wf_digest.specs.Digest.{IsCollision, digest_after, digest_at, digests_after, first_digest, next_digest}
 
 abbrev Collides : Type 0

@@ -4,7 +4,7 @@ use Rattle.sha2.specs.Sha256.{sha256}
 use Rattle.std.specs.List.{All}
 use Rattle.wf_def.specs.Definition.{Definition}
 use Rattle.wf_def.specs.Limits.{IsWithinLimits}
-use Rattle.wf_spelling.specs.Canon.{canon}
+use Rattle.wf_canon.specs.Canon.{canon}
 
 -- the digest at sequence 0
 abbrev pub first_digest : List ℕ

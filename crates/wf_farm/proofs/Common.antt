@@ -58,9 +58,9 @@ unfoldable pub use Rattle.wf_farm.specs.NodeHost.{KeepsMember, Restarts, HostSta
 pub use Rattle.wf_delivery.specs.IndexTheorems.{get_set_other, get_set_same, set_same, set_there, set_twice}
 pub use Rattle.wf_delivery.specs.Progress.{begun, most_deliveries, next}
 pub use Rattle.wf_farm.specs.PumpProgress.{IsProgressEnd, IsForMemory, IsMade, MayEnd, outcome}
-pub use Rattle.wf_publication.specs.Rounds.{AreTargets}
+pub use Rattle.wf_delivery.specs.Rounds.{AreTargets}
 pub use Rattle.wf_farm.specs.Pump.{IsPumped, IsPumpedPart, Pumps, count}
-unfoldable pub use Rattle.wf_publication.specs.Rounds.{deliveries, rounds}
+unfoldable pub use Rattle.wf_delivery.specs.Rounds.{deliveries, rounds}
 unfoldable pub use Rattle.wf_farm.specs.Pump.{NextMayAllocate}
 pub use Rattle.wf_farm.specs.Start.{IsFreshAt}
 pub use Rattle.wf_farm.specs.FallibleStep.{Fares, Goes, GoesThere, IsCutTape, IsTornTo, acted, received_as, kept_beyond, stored_by}

@@ -8,7 +8,7 @@ use Rattle.wf_farm.specs.declared.progress.PumpEnd.TheVariants as end_case
 use Rattle.wf_farm.proofs.Allocation.{next_may}
 use Rattle.wf_farm.proofs.Carried.{stays_moves}
 use Rattle.wf_delivery.proofs.DeliveryCount.{begun_most}
-use Rattle.wf_publication.proofs.Rounds.{no_deliveries, one_more, whole_round}
+use Rattle.wf_delivery.proofs.Rounds.{no_deliveries, one_more, whole_round}
 use Rattle.wf_farm.proofs.Runs.{last_more, stays_run, take_more}
 use Rattle.wf_farm.proofs.TriedEvents.{absent_armed, moves_then}
 use Rattle.wf_farm.proofs.Worlds.{sturdy_on}

@@ -15,7 +15,7 @@ use Rattle.wf_farm.specs.Farm.{MemoryFarm, Runs}
 use Rattle.wf_farm.specs.NodeHost.{MemoryHost, tape_in}
 use Rattle.wf_farm.specs.PumpProgress.{IsMade}
 use Rattle.wf_delivery.specs.Progress.{begun, most_deliveries}
-use Rattle.wf_publication.specs.Rounds.{deliveries}
+use Rattle.wf_delivery.specs.Rounds.{deliveries}
 
 -- ---- the events of such a run
 

@@ -9,7 +9,7 @@ use Rattle.wf_farm.specs.Cluster.{Refines}
 use Rattle.wf_farm.specs.Farm.{MemoryFarm, Runs, size}
 use Rattle.wf_farm.specs.NodeHost.{MemoryHost}
 use Rattle.wf_delivery.specs.Progress.{begun, most_deliveries}
-use Rattle.wf_publication.specs.Rounds.{AreTargets, deliveries}
+use Rattle.wf_delivery.specs.Rounds.{AreTargets, deliveries}
 
 -- After these deliveries the next one may allocate: its node takes the step.
 unfoldable pub NextMayAllocate : (targets : List ℕ) (first whole some : ℕ) → List MemoryHost → List Message → Type 0

@@ -1,4 +1,4 @@
-use wf_canon::Canon;
+use wf_codec::Canon;
 use wf_model::{Action, Kept};
 
 /// An event of a farm; the first number is the node's. It has no effect if the node doesn't exist,

@@ -22,7 +22,7 @@ use crate::fault::rejection_in;
 use crate::rejection::Rejection;
 use std::alloc::Global;
 use wf_ballot::NodeId;
-use wf_canon::Canon;
+use wf_codec::Canon;
 use wf_delivery::{MOST_OUTPUTS, send};
 use wf_model::{Action, Kept};
 use wf_node::{Input, Node, NodeFault};

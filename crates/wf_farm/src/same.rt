@@ -4,8 +4,7 @@ ghost use Rattle.std.specs.Prelude.{◌≡◌, ◌↔◌, IsTrue};
 ghost use Rattle.wf_codec.specs.declared.message.Message.TheVariants.{Accept, Accepted, Ask, Chosen, Nack, Prepare, Promise};
 
 use wf_ballot::{Ballot, NodeId, Slot};
-use wf_canon::Canon;
-use wf_codec::{Message, Report};
+use wf_codec::{Canon, Message, Report};
 
 /// Whether the two messages are equal.
 pub(crate) fn is_same_message(a: &Message, b: &Message) -> bool

@@ -1,7 +1,7 @@
 //! The targets of a pump.
 
 ghost use Rattle.std.specs.Prelude.{◌≡◌, ◌<◌, [], length, IfOk};
-ghost use Rattle.wf_publication.specs.Rounds.{AreTargets};
+ghost use Rattle.wf_delivery.specs.Rounds.{AreTargets};
 
 use std::alloc::{AllocError, Global};
 
@@ -21,7 +21,7 @@ pub(crate) fn targets_of(alloc: Global, names: &[usize], n: usize) -> Result<Vec
 }
 
 /// Every node of n, ascending.
-#[tactic(auto, using(wf_publication::proofs::UpTo::none_up_to, wf_publication::proofs::UpTo::one_up_to))]
+#[tactic(auto, using(wf_delivery::proofs::UpTo::none_up_to, wf_delivery::proofs::UpTo::one_up_to))]
 fn every_node(alloc: Global, n: usize) -> Result<Vec<usize>, AllocError>
     ensures targets { IfOk result (λ targets. AreTargets n [] targets.items) }
     ensures size { IfOk result (λ targets. length targets.items ≡ n) }

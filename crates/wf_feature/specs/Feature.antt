@@ -6,7 +6,7 @@ use Rattle.wf_def.specs.Layer as def
 use Rattle.wf_def.specs.declared.point.Point.{Point}
 use Rattle.wf_feature.specs.declared.slots.FeatureOnce.{FeatureOnce}
 use Rattle.wf_feature.specs.declared.slots.FeatureSlots.{FeatureSlots}
-use Rattle.wf_token.specs.Token.{Token}
+use Rattle.wf_block.specs.Token.{Token}
 use Rattle.wf_block.specs.Grammar.{◌>>=◌, text, number, end}
 use Rattle.wf_block.specs.Steps.{once, any_times, again, step_by, step_or, put_into, block}
 

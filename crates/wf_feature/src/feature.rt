@@ -6,9 +6,8 @@ ghost use Rattle.wf_block.specs.ReadContract.{Gives};
 
 use crate::slots::{FeatureOnce, FeatureSlots};
 use std::alloc::Global;
-use wf_block::{Block, MapFault, Parser, Slots, fill_block, is_name, once, text_or_empty};
+use wf_block::{Block, MapFault, Parser, Slots, Token, fill_block, is_name, once, text_or_empty};
 use wf_def::{Feature, Part, Point, ShapeParts};
-use wf_token::Token;
 
 /// FEATURE while it is read.
 #[derive(Drop)]

@@ -2,7 +2,7 @@
 use Rattle.std.proofs.Common.{◌≡◌, ℕ, ◌≤◌, true, List, [], ◌∷◌, length, Some, refl, ap, subst, ◌∙◌, arith}
 use Rattle.std.specs.Prelude.{IfSome, IsSomeAnd, is_some, option_and_then}
 use Rattle.wf_def.specs.Definition.{Definition}
-use Rattle.wf_spelling.specs.Canon.{canon, line, most_canon_bytes}
+use Rattle.wf_canon.specs.Canon.{canon, line, most_canon_bytes}
 use Rattle.wf_canon.specs.TextMeaning.{OneTextOneMap}
 use Rattle.wf_frame.specs.Field.{FieldValue}
 use Rattle.wf_frame.specs.Report.{IsBoundedText}

@@ -6,7 +6,7 @@ use Rattle.wf_frame.specs.Frame.{Format}
 use Rattle.wf_frame.specs.Frame as frames
 use Rattle.wf_model.specs.DurableState.{Record}
 use Rattle.wf_def.specs.Definition.{Definition}
-use Rattle.wf_spelling.specs.Canon.{canon}
+use Rattle.wf_canon.specs.Canon.{canon}
 use Rattle.wf_journal.specs.declared.version.Version.{Version}
 use Rattle.wf_journal.specs.Version.{version_byte, version_of_byte, version_written, most_text}
 use Rattle.wf_journal.specs.KindTable.{kinds, most_body_bytes}

@@ -7,7 +7,7 @@ use Rattle.wf_frame.specs.Field.{FieldValue}
 use Rattle.wf_frame.specs.Row.{Row, RowEnd, NoEnd, TextEnd, VotesEnd, AreInRange, row_bytes}
 use Rattle.wf_model.specs.DurableState.{Record}
 use Rattle.wf_def.specs.Definition.{Definition}
-use Rattle.wf_spelling.specs.Canon.{canon, most_canon_bytes}
+use Rattle.wf_canon.specs.Canon.{canon, most_canon_bytes}
 use Rattle.wf_journal.specs.declared.version.Version.{Version}
 use Rattle.wf_journal.specs.Version.{version_written}
 use Rattle.wf_journal.specs.Record.{row, texts, end_definition, HasText, IsRecord}

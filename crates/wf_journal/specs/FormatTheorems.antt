@@ -3,7 +3,7 @@ use Rattle.std.proofs.Common.{◌≡◌, ℕ, ◌≤◌, true, false, eqb, Bool,
 use Rattle.std.specs.Prelude.{find}
 use Rattle.std.proofs.lemmas.Bool.{eqb-true}
 use Rattle.std.proofs.lemmas.Option.{option_and_then_some}
-use Rattle.wf_spelling.specs.Canon.{most_canon_bytes}
+use Rattle.wf_canon.specs.Canon.{most_canon_bytes}
 use Rattle.wf_frame.specs.Row.{layout_of}
 use Rattle.wf_frame.specs.RowTheorems.{AreWithin, kinds_within}
 use Rattle.wf_frame.specs.Frame.{IsFormat}

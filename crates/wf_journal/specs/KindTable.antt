@@ -1,6 +1,6 @@
 -- The four kinds of record: the byte of each, and the layout of its body.
 use Rattle.std.specs.Prelude.{ℕ, ◌+◌, List, [], ◌∷◌}
-use Rattle.wf_spelling.specs.Canon.{most_canon_bytes}
+use Rattle.wf_canon.specs.Canon.{most_canon_bytes}
 use Rattle.wf_frame.specs.Field.{SlotField, RoundField, BallotField}
 use Rattle.wf_frame.specs.BodyEnd.{Nothing, Text}
 use Rattle.wf_frame.specs.Layout.{Layout}

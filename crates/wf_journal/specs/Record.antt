@@ -5,7 +5,7 @@ use Rattle.wf_frame.specs.Row.{Row, RowEnd, NoEnd, TextEnd, row_with, IsRowOf}
 use Rattle.wf_model.specs.DurableState as model
 use Rattle.wf_def.specs.Definition.{Definition}
 use Rattle.wf_def.specs.Limits.{IsWithinLimits}
-use Rattle.wf_spelling.specs.Canon.{canon, most_canon_bytes}
+use Rattle.wf_canon.specs.Canon.{canon, most_canon_bytes}
 use Rattle.wf_journal.specs.declared.record.Record.{Record}
 use Rattle.wf_journal.specs.declared.record.Record.TheVariants as code
 

@@ -6,7 +6,7 @@ use Rattle.wf_frame.specs.Row.{Row, read_row}
 use Rattle.wf_frame.specs.Frame.{Found}
 use Rattle.wf_model.specs.DurableState.{Record}
 use Rattle.wf_def.specs.Definition.{Definition}
-use Rattle.wf_spelling.specs.Canon.{canon}
+use Rattle.wf_canon.specs.Canon.{canon}
 use Rattle.wf_journal.specs.declared.fault.RecordFault.{RecordFault}
 use Rattle.wf_journal.specs.declared.fault.RecordFault.TheVariants.{Torn, Bad, NotCanonical, Memory}
 use Rattle.wf_journal.specs.KindTable.{kinds}

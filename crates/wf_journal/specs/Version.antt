@@ -1,6 +1,6 @@
 -- The versions of records. All are read; records are written in the last one.
 use Rattle.std.specs.Prelude.{ℕ, ◌==◌, List, [], ◌∷◌, Option, find}
-use Rattle.wf_spelling.specs.Canon.{most_canon_bytes}
+use Rattle.wf_canon.specs.Canon.{most_canon_bytes}
 use Rattle.wf_journal.specs.declared.version.Version.{Version}
 use Rattle.wf_journal.specs.declared.version.Version.TheVariants.{One, Two}
 

@@ -1,5 +1,5 @@
 ghost use Rattle.std.specs.Prelude.{◌≡◌, ◌≤◌, option_map};
-ghost use Rattle.wf_spelling.specs.Canon.{most_canon_bytes};
+ghost use Rattle.wf_canon.specs.Canon.{most_canon_bytes};
 ghost use Rattle.wf_frame.specs.Layout.{lengths_of};
 ghost use Rattle.wf_frame.specs.Row.{layout_of};
 ghost use Rattle.wf_journal.specs.KindTable.{kinds};

@@ -1,6 +1,6 @@
 ghost use Rattle.std.specs.Prelude.{◌≡◌, ◌+◌, ◌≤◌, ◌++◌, [], length, IfOk, OnErr};
 ghost use Rattle.arrayvec.specs.ArrayVec.{array_vec_len};
-ghost use Rattle.wf_spelling.specs.Canon.{canon};
+ghost use Rattle.wf_canon.specs.Canon.{canon};
 ghost use Rattle.wf_journal.specs.Record.{HasText};
 
 use crate::decoder::{HEADER_BYTES, canon_of};

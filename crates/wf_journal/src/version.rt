@@ -12,7 +12,7 @@ pub enum Version {
 
 impl Version {
     ghost use Rattle.std.specs.Prelude.{◌≡◌, ◌≤◌};
-    ghost use Rattle.wf_spelling.specs.Canon.{most_canon_bytes};
+    ghost use Rattle.wf_canon.specs.Canon.{most_canon_bytes};
     ghost use Rattle.wf_journal.specs.Version.{version_byte, version_of_byte, version_written, most_text};
 
     /// The version in which records are written.

@@ -3,8 +3,7 @@
 use std::alloc::{AllocError, Global};
 use std::marker::Model;
 use wf_ballot::{Seq, Slot};
-use wf_canon::Canon;
-use wf_codec::Message;
+use wf_codec::{Canon, Message};
 use wf_def::MapDef;
 
 /// The result of learning a chosen definition.

@@ -1,0 +1,1 @@
+pub use Rattle.wf_voter.proofs.Earlier

@@ -32,4 +32,4 @@ mod turn;
 pub use hub::Hub;
 pub use wf_mesh::{Joiner, LoopFault, NodeEvent, NodePlan};
 pub use wf_visitors::Log;
-pub use wf_voter::Process;
+pub use wf_voter::{NodeFolder, Process};

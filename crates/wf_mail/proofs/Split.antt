@@ -3,7 +3,7 @@ use Rattle.std.proofs.Common.{◌≡◌, ℕ, List, [], ◌∷◌, ◌++◌, ref
 use Rattle.std.proofs.lemmas.List.{append-nil}
 use Rattle.wf_def.specs.Definition.{Definition}
 use Rattle.wf_model.specs.Message.{Message}
-use Rattle.wf_canon.proofs.MeaningTheorem.{one_definition}
+use Rattle.wf_codec.proofs.MeaningTheorem.{one_definition}
 use Rattle.wf_codec.proofs.Validated.{none_begins_another}
 use Rattle.wf_codec.specs.Theorem.{BeginsWithNone}
 use Rattle.wf_codec.specs.declared.fault.DecodeFault.{DecodeFault}

@@ -1,6 +1,6 @@
 -- What comes of a connection.
 use Rattle.std.proofs.Common.{◌≡◌, ℕ, List, [], ◌∷◌, ◌++◌, length, refl, sym, ap, subst, ◌∙◌, append_assoc, append-nil, length-append, arith}
-use Rattle.wf_canon.proofs.MeaningTheorem.{one_definition}
+use Rattle.wf_codec.proofs.MeaningTheorem.{one_definition}
 use Rattle.wf_codec.proofs.Validated.{none_begins_another, none_is_empty}
 use Rattle.wf_codec.specs.Encoding.{spelling}
 use Rattle.wf_def.specs.Definition.{Definition}

@@ -8,7 +8,7 @@ use Rattle.std.specs.Str.{str_to_ascii_lowercase}
 use Rattle.std.proofs.lemmas.Slice.Eq.{bytes_eq-Decides}
 use Rattle.std.proofs.lemmas.Bool.Decides.{same_from_decides, Decides-like}
 use Rattle.wf_mapfile.specs.declared.slots.Metadata.{Metadata}
-use Rattle.wf_token.specs.Token.{Token}
+use Rattle.wf_block.specs.Token.{Token}
 use Rattle.wf_block.specs.Grammar.{◌>>=◌, text, end}
 use Rattle.wf_mapfile.specs.Metadata.{pairs, all_differ, value_at, kept, metadata}
 use Rattle.wf_mapfile.specs.Pairs.{keep, new_pair, collect}

@@ -12,7 +12,7 @@ use Rattle.wf_def.specs.Definition.{Definition}
 use Rattle.wf_mapfile.specs.Map.{map}
 use Rattle.wf_mapfile.specs.Meaning.{MeansNothing, file, longest_mapfile}
 use Rattle.wf_mapfile.specs.Rejection.{HasError, IsErrorOf, begins_map}
-use Rattle.wf_token.specs.Token.{Token, Word, Quoted, Braced, tokens as lexed}
+use Rattle.wf_block.specs.Token.{Token, Word, Quoted, Braced, tokens as lexed}
 
 -- ---- its meaning
 

@@ -13,7 +13,7 @@ use Rattle.std.proofs.lemmas.Str.{IsUtf8-from_is_utf8, is_utf8-from_IsUtf8, IsUt
 use Rattle.wf_def.specs.Text.{is_text, is_text_character, has_both_quotes}
 use Rattle.wf_def.specs.Limit.{most_text_bytes}
 use Rattle.wf_block.specs.declared.fault.MapFault.{MapFault}
-use Rattle.wf_token.specs.Token.{Token}
+use Rattle.wf_block.specs.Token.{Token}
 use Rattle.wf_block.specs.Grammar.{text}
 use Rattle.wf_mapfile.specs.Layer.{processing}
 use Rattle.wf_block.specs.ReadContract.{Gives}

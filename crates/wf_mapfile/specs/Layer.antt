@@ -10,7 +10,7 @@ use Rattle.wf_def.specs.Limit.{most_classes}
 use Rattle.wf_mapfile.specs.declared.slots.LayerDropped.{LayerDropped}
 use Rattle.wf_mapfile.specs.declared.slots.LayerOnce.{LayerOnce}
 use Rattle.wf_mapfile.specs.declared.slots.LayerSlots.{LayerSlots}
-use Rattle.wf_token.specs.Token.{Token}
+use Rattle.wf_block.specs.Token.{Token}
 use Rattle.wf_block.specs.Grammar.{◌>>=◌, text, one_of}
 use Rattle.wf_block.specs.Steps.{once, again, step_by, step_or, put_into, block}
 use Rattle.wf_mapfile.specs.Metadata.{metadata}

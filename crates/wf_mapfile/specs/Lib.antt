@@ -1,5 +1,9 @@
-pub use Rattle.wf_token.specs.Lexeme
-pub use Rattle.wf_token.specs.Token
+pub use Rattle.wf_feature.specs.declared.slots.FeatureSlots
+pub use Rattle.wf_class.specs.declared.slots.ClassSlots
+pub use Rattle.wf_class.specs.declared.slots.LabelSlots
+pub use Rattle.wf_class.specs.declared.slots.StyleSlots
+pub use Rattle.wf_block.specs.Lexeme
+pub use Rattle.wf_block.specs.Token
 pub use Rattle.wf_block.specs.Grammar
 pub use Rattle.wf_block.specs.Steps
 pub use Rattle.wf_block.specs.ReadContract

@@ -8,7 +8,7 @@ use Rattle.wf_def.specs.declared.choice.Projection.TheVariants.{Epsg4326, Epsg38
 use Rattle.wf_mapfile.specs.declared.slots.MapDropped.{MapDropped}
 use Rattle.wf_mapfile.specs.declared.slots.MapOnce.{MapOnce}
 use Rattle.wf_mapfile.specs.declared.slots.MapSlots.{MapSlots}
-use Rattle.wf_token.specs.Token.{Token}
+use Rattle.wf_block.specs.Token.{Token}
 use Rattle.wf_block.specs.Grammar.{◌>>=◌, choice, text, number, end}
 use Rattle.wf_block.specs.Steps.{once, again, step_by, step_or, put_into, block}
 use Rattle.wf_class.specs.Color.{color}

@@ -2,7 +2,7 @@
 use Rattle.std.specs.Prelude.{◌≡◌, ℕ, ◌&&◌, ◌==◌, nat_le, if◌then◌else◌, List, length, codes, Option, Some, None}
 use Rattle.std.specs.Str.{is_utf8, str_eq_ignore_ascii_case}
 use Rattle.wf_def.specs.Definition.{Definition}
-use Rattle.wf_token.specs.Token.{Token, tokens}
+use Rattle.wf_block.specs.Token.{Token, tokens}
 use Rattle.wf_block.specs.Grammar.{◌>>=◌, word}
 use Rattle.wf_mapfile.specs.Map.{map}
 

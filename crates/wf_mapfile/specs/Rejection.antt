@@ -9,7 +9,7 @@ use Rattle.wf_block.specs.declared.fault.MapFault.TheVariants as faults
 use Rattle.wf_def.specs.Definition.{Definition}
 use Rattle.wf_mapfile.specs.Map.{map}
 use Rattle.wf_mapfile.specs.Meaning.{MeansNothing, longest_mapfile}
-use Rattle.wf_token.specs.Token.{Token, Word, Quoted, Braced, tokens}
+use Rattle.wf_block.specs.Token.{Token, Word, Quoted, Braced, tokens}
 
 -- the token is the word MAP
 unfoldable pub begins_map : Token → Bool

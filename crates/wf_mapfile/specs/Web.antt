@@ -2,7 +2,7 @@
 use Rattle.std.specs.Prelude.{ℕ, List, [], ◌∷◌, codes, Option, Some, None, unwrap_or}
 use Rattle.wf_mapfile.specs.declared.slots.Metadata as kept
 use Rattle.wf_mapfile.specs.declared.slots.WebSlots.{WebSlots}
-use Rattle.wf_token.specs.Token.{Token}
+use Rattle.wf_block.specs.Token.{Token}
 use Rattle.wf_block.specs.Grammar.{◌>>=◌, text}
 use Rattle.wf_block.specs.Steps.{once, step_by, block}
 use Rattle.wf_mapfile.specs.Metadata.{metadata}

@@ -13,12 +13,11 @@ ghost use Rattle.wf_def.specs.Limit.{most_classes};
 use crate::metadata::read_metadata;
 use crate::slots::{LayerDropped, LayerOnce, LayerSlots, Metadata};
 use std::alloc::{AllocError, Global};
-use wf_block::{Block, MapFault, Parser, Slots, fill_block, is_name, once, text_or_empty};
+use wf_block::{Block, MapFault, Parser, Slots, Token, fill_block, is_name, once, text_or_empty};
 use wf_class::read_class;
 use wf_def::{Classes, Features, Layer, LayerKind};
 use wf_feature::{LayerName, LayerRead, Layers, read_feature};
 use wf_text::Text;
-use wf_token::Token;
 
 /// LAYER while it is read.
 #[derive(Drop)]

@@ -10,13 +10,13 @@ use crate::slots::{MapDropped, MapOnce, MapSlots, Metadata};
 use crate::web::read_web;
 use std::alloc::{AllocError, Global};
 use wf_block::{
-    Block, MapFault, Parser, Slots, choose, fill_block, is_name, once, text_or, text_or_empty,
+    Block, MapFault, Parser, Slots, Token, choose, fill_block, is_name, once, text_or,
+    text_or_empty,
 };
 use wf_class::read_color;
 use wf_def::{Extent, MapDef, Projection};
 use wf_feature::Layers;
 use wf_text::Text;
-use wf_token::Token;
 
 /// The name of a map without NAME.
 const DEFAULT_NAME: &str = "map";

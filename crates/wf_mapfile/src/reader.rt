@@ -5,13 +5,12 @@ ghost use Rattle.std.specs.Str.Lossy.{utf8_valid_len};
 ghost use Rattle.wf_mapfile.specs.Meaning.{Means, MeansNothing, file, meaning, longest_mapfile};
 ghost use Rattle.wf_block.specs.ReadContract.{Gives, IsNotUtf8, is_memory};
 ghost use Rattle.wf_mapfile.specs.Rejection.{HasError, IsErrorOf, begins_map};
-ghost use Rattle.wf_token.specs.Token.{Token as TokenValue, token_value, tokens};
+ghost use Rattle.wf_block.specs.Token.{Token as TokenValue, token_value, tokens};
 
 use crate::map::read_map;
 use std::alloc::Global;
-use wf_block::{MapFault, Parser, Place, is_name};
+use wf_block::{LexFault, MapFault, Parser, Place, Token, TokenKind, is_name, tokenize};
 use wf_def::MapDef;
-use wf_token::{LexFault, Token, TokenKind, tokenize};
 
 /// The longest mapfile, in bytes.
 pub const MOST_MAPFILE_BYTES: usize = 131_072;

@@ -5,8 +5,7 @@ ghost use Rattle.wf_mapfile.specs.Web.{no_metadata, web};
 
 use crate::metadata::read_metadata;
 use crate::slots::{Metadata, WebSlots};
-use wf_block::{Block, MapFault, Parser, Slots, fill_block, is_name, once};
-use wf_token::Token;
+use wf_block::{Block, MapFault, Parser, Slots, Token, fill_block, is_name, once};
 
 impl Slots for WebSlots {
     ghost use Rattle.wf_mapfile.specs.declared.slots.WebSlots.{WebSlots as Value};

@@ -6,8 +6,7 @@ use std::alloc::{AllocError, Global};
 use std::time::Clock;
 use wf_learner::History;
 use wf_operator::StartTime;
-use wf_reader::Answerer;
-use wf_readers_port::{PortView, ReadersPort};
+use wf_readers_port::{Answerer, PortView, ReadersPort};
 use wf_sockets::Network;
 use wf_visitors::{Context, Server, Visitors};
 

@@ -16,7 +16,7 @@ use std::time::Clock;
 use wf_membership::Membership;
 use wf_operator::StartTime;
 use wf_peer::PeerProgress;
-use wf_reader::Answerer;
+use wf_readers_port::Answerer;
 use wf_sockets::Network;
 use wf_visitors::Visitors;
 

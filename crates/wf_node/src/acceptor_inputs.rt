@@ -17,8 +17,7 @@ use crate::tape_writes::{keep_unwritten, store};
 use std::alloc::Global;
 use wf_acceptor::AcceptorAnswer;
 use wf_ballot::{Ballot, Slot};
-use wf_canon::Canon;
-use wf_codec::Message;
+use wf_codec::{Canon, Message};
 use wf_tape::Tape;
 
 impl<T: Tape> Machine<T> {

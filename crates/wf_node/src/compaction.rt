@@ -13,7 +13,7 @@ use crate::node::Node;
 use crate::stored_part::DurablePart;
 use std::alloc::{AllocError, Global};
 use wf_ballot::{Ballot, Round, SEQUENCES, Slot};
-use wf_canon::Canon;
+use wf_codec::Canon;
 use wf_journal::{AddFault, Journal, Record};
 use wf_model::{folds_are_open, votes_are_promised};
 use wf_tape::Tape;

@@ -7,7 +7,7 @@ ghost use Rattle.wf_node.specs.DurablePart.{definitions_after};
 
 use crate::compaction::slot_of;
 use wf_ballot::Slot;
-use wf_canon::Canon;
+use wf_codec::Canon;
 use wf_journal::Record;
 use wf_learner::History;
 

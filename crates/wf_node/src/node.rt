@@ -2,7 +2,7 @@ use crate::fault::NodeFault;
 use crate::machine::Machine;
 use std::marker::Model;
 use wf_ballot::{Ballot, NodeId, Seq, Slot};
-use wf_canon::Canon;
+use wf_codec::Canon;
 use wf_def::MapDef;
 use wf_learner::History;
 use wf_proposer::ProposalState;

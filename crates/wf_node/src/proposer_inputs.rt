@@ -16,8 +16,7 @@ use crate::machine::Machine;
 use crate::tape_writes::{keep_unwritten, store};
 use std::alloc::Global;
 use wf_ballot::{Ballot, NodeId, SEQUENCES, Slot};
-use wf_canon::Canon;
-use wf_codec::{Message, Report};
+use wf_codec::{Canon, Message, Report};
 use wf_proposer::{Next, ProposalState};
 use wf_tape::Tape;
 

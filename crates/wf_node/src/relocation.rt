@@ -12,7 +12,7 @@ use crate::machine::Machine;
 use crate::node::Node;
 use crate::stored_part::DurablePart;
 use std::alloc::Global;
-use wf_canon::Canon;
+use wf_codec::Canon;
 use wf_journal::{AddFault, Journal, Record};
 use wf_model::{folds_are_open, votes_are_promised};
 use wf_proposer::Proposer;

@@ -3,8 +3,7 @@
 use crate::fault::NodeFault;
 use crate::node::Node;
 use std::alloc::Global;
-use wf_canon::Canon;
-use wf_codec::Message;
+use wf_codec::{Canon, Message};
 use wf_model::{Action, records_fit};
 use wf_tape::Tape;
 

@@ -10,7 +10,7 @@ use std::alloc::{AllocError, Global};
 use std::marker::Model;
 use wf_acceptor::{Acceptor, AcceptorAnswer};
 use wf_ballot::{Ballot, NodeId, Slot};
-use wf_canon::Canon;
+use wf_codec::Canon;
 use wf_journal::Record;
 use wf_learner::History;
 

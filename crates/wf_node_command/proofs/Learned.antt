@@ -1,11 +1,11 @@
 -- A process whose folder joins goes on learning.
 use Rattle.std.proofs.Common.{◌≡◌, ◌∙◌, ℕ, List, [], ◌∷◌, ◌++◌, ap, refl, subst, sym}
 use Rattle.std.specs.Prelude.{Result, Ok, Err, OnErr, OnOk}
-use Rattle.wf_voter.specs.Process.{IsJustOpened, Actor, Process}
-use Rattle.wf_voter.specs.Continuation.{StaysInRun, besides_chosen, besides_questions}
+use Rattle.wf_loop.specs.Process.{IsJustOpened, Actor, Process}
+use Rattle.wf_loop.specs.Continuation.{StaysInRun, besides_chosen, besides_questions}
 use Rattle.wf_loop.specs.Hub.{IsJoiner, OnlyLearns, process_of}
 use Rattle.wf_loop.specs.declared.hub.Hub.{Hub}
-use Rattle.wf_voter.specs.declared.reopening.NotReopened.{NotReopened}
+use Rattle.wf_loop.specs.NotReopened.{NotReopened}
 use Rattle.wf_node_command.specs.Learned.{HasOnlyLearned, HaveOnlyLearned, IsLearner, IsLearning}
 use Rattle.wf_sockets.specs.declared.connection.Connection.{Ghosts as Connection}
 use Rattle.wf_tape.specs.declared.tape.Tape.{Ghosts as Tape}

@@ -2,19 +2,19 @@
 use Rattle.std.proofs.Common.{◌≡◌, ◌∙◌, ℕ, Bool, false, true, List, [], ◌∷◌, ap, inl, inr, refl, sym, subst}
 use Rattle.std.proofs.lemmas.Bool.{false≢true}
 use Rattle.std.specs.Prelude.{◌↔◌, IsSome, IsTrue, Option, Some, None, Result, Ok, Err}
-use Rattle.wf_voter.specs.Process.{Actor, Origin, Process}
+use Rattle.wf_loop.specs.Process.{Actor, Origin, Process}
 use Rattle.wf_codec.specs.Message.{view}
 use Rattle.wf_codec.specs.declared.message.Message.{Message}
 use Rattle.wf_line.specs.declared.node_line.NodeLine.{NodeLine}
-use Rattle.wf_voter.proofs.Earlier.{its_own}
-use Rattle.wf_voter.specs.Continuation.{AreHeardFrom, AreRunsHeardFrom, IsEarlier, KeepsEarlier}
+use Rattle.wf_loop.proofs.Earlier.{its_own}
+use Rattle.wf_loop.specs.Continuation.{AreHeardFrom, AreRunsHeardFrom, IsEarlier, KeepsEarlier}
 use Rattle.wf_loop.specs.Hub.{HasAnswered, IsHeardFirst, IsJoiner, IsOver, IsReopeningDue, kept_of, membership_of, process_of}
-use Rattle.wf_voter.specs.Lived.{HasLived}
+use Rattle.wf_loop.specs.Lived.{HasLived}
 use Rattle.wf_loop.specs.declared.hub.Hub.{Hub}
-use Rattle.wf_mesh.specs.Membership.{membership_by}
+use Rattle.wf_loop.specs.Membership.{membership_by}
 use Rattle.wf_membership.specs.declared.membership.Membership.{Membership}
-use Rattle.wf_mesh.specs.declared.plan.LoopFault.{LoopFault}
-use Rattle.wf_mesh.specs.declared.plan.NodePlan.{NodePlan}
+use Rattle.wf_loop.specs.LoopFault.{LoopFault}
+use Rattle.wf_loop.specs.NodePlan.{NodePlan}
 use Rattle.wf_node_command.proofs.Learned.{learner_at_first}
 use Rattle.wf_node_command.specs.Done.{HasLivedOn, IsNodeDone, IsNodeServed}
 use Rattle.wf_node_folder.specs.Fault.{IsFromSystem}

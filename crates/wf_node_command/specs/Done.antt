@@ -1,17 +1,17 @@
 -- What a command did.
 use Rattle.std.specs.Prelude.{◌≡◌, ◌∷◌, ℕ, List, Option, Result, Ok, Err, IsSome}
-use Rattle.wf_voter.specs.Process.{Process}
+use Rattle.wf_loop.specs.Process.{Process}
 use Rattle.wf_client.specs.Client.{Client}
 use Rattle.wf_folder.specs.declared.node_file.NodeFile.{NodeFile}
 use Rattle.wf_line.specs.declared.node_line.NodeCommand.{NodeCommand}
 use Rattle.wf_line.specs.declared.node_line.NodeCommand.TheVariants as commands
 use Rattle.wf_line.specs.declared.node_line.NodeLine.{NodeLine}
-use Rattle.wf_voter.specs.Answer.{AreAnswered, AreEarlier}
-use Rattle.wf_voter.specs.Continuation.{IsEarlier, IsHeardKept}
-use Rattle.wf_voter.specs.Lived.{HasLived}
-use Rattle.wf_voter.specs.declared.voter.Voter.{Voter}
-use Rattle.wf_mesh.specs.Membership.{membership_by}
-use Rattle.wf_mesh.specs.declared.plan.NodePlan.{NodePlan}
+use Rattle.wf_loop.specs.Answer.{AreAnswered, AreEarlier}
+use Rattle.wf_loop.specs.Continuation.{IsEarlier, IsHeardKept}
+use Rattle.wf_loop.specs.Lived.{HasLived}
+use Rattle.wf_loop.specs.Voter.{Voter}
+use Rattle.wf_loop.specs.Membership.{membership_by}
+use Rattle.wf_loop.specs.NodePlan.{NodePlan}
 use Rattle.wf_node.specs.Node.{stored_of}
 use Rattle.wf_node_folder.specs.Cleared.{IsClearDone}
 use Rattle.wf_node_folder.specs.Fault.{IsFromSystem, fault_status}

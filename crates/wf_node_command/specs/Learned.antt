@@ -1,7 +1,7 @@
 -- A process whose folder joins in the place of a lost one.
 use Rattle.std.specs.Prelude.{◌≡◌, ℕ, List, [], ◌∷◌}
-use Rattle.wf_voter.specs.Process.{Actor, Process}
-use Rattle.wf_voter.specs.Continuation.{besides_chosen, besides_questions}
+use Rattle.wf_loop.specs.Process.{Actor, Process}
+use Rattle.wf_loop.specs.Continuation.{besides_chosen, besides_questions}
 use Rattle.wf_loop.specs.Hub.{IsJoiner, process_of}
 use Rattle.wf_loop.specs.declared.hub.Hub.{Hub}
 use Rattle.wf_sockets.specs.declared.connection.Connection.{Ghosts as Connection}

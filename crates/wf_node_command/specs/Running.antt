@@ -1,8 +1,8 @@
 -- A node that runs.
 use Rattle.std.specs.Prelude.{◌≡◌, ◌∷◌, List, Option}
-use Rattle.wf_voter.specs.Process.{Process}
+use Rattle.wf_loop.specs.Process.{Process}
 use Rattle.wf_line.specs.declared.node_line.NodeLine.{NodeLine}
-use Rattle.wf_mesh.specs.Membership.{membership_by}
+use Rattle.wf_loop.specs.Membership.{membership_by}
 use Rattle.wf_membership.specs.declared.membership.Membership.{Membership}
 use Rattle.wf_node_folder.specs.Ready.{IsNodeReady}
 use Rattle.wf_node_folder.specs.declared.ready.ReadyNode.{ReadyNode}

@@ -2,10 +2,10 @@
 ghost use Rattle.std.specs.Prelude.{◌≡◌, ◌≤◌, ◌↔◌, IfErr, IfOk, IsTrue};
 ghost use Rattle.wf_folder.specs.NodeFile.{IsNodeFile};
 ghost use Rattle.wf_line.specs.NodeLine.{IsNodeInRange};
-ghost use Rattle.wf_voter.specs.Continuation.{KeepsEarlier};
+ghost use Rattle.wf_loop.specs.Continuation.{KeepsEarlier};
 ghost use Rattle.wf_loop.specs.Hub.{HasAnswered, IsHeardFirst, IsOver, kept_of, membership_of, process_of, taken_in_by};
-ghost use Rattle.wf_voter.specs.Lived.{HasLived};
-ghost use Rattle.wf_mesh.specs.Membership.{membership_by};
+ghost use Rattle.wf_loop.specs.Lived.{HasLived};
+ghost use Rattle.wf_loop.specs.Membership.{membership_by};
 ghost use Rattle.wf_node_folder.specs.Fault.{IsFromSystem};
 ghost use Rattle.wf_node_folder.specs.Folder.{StaysFrom, calls_in, heard_in};
 ghost use Rattle.wf_node_command.specs.Learned.{IsLearner};
@@ -20,12 +20,11 @@ use std::rt::Files;
 use std::time::Clock;
 use wf_folder::NodeFile;
 use wf_line::NodeLine;
-use wf_loop::{Hub, Log, NodeEvent, Process};
+use wf_loop::{Hub, Log, NodeEvent, NodeFolder, Process};
 use wf_node_folder::{CommandFault, HeldFolder, ReadyNode, start_node};
 use wf_sockets::{Network, SystemNetwork};
 use wf_store::Store;
 use wf_tape::Tape;
-use wf_voter::NodeFolder;
 
 /// A node that runs on its folder, which it has locked, over a network: its caller waits for
 /// sockets and steps it. A clause sees its hub and its folder.

@@ -1,11 +1,11 @@
 //! A node is served.
 ghost use Rattle.std.specs.Prelude.{◌≡◌, IsSome};
 ghost use Rattle.wf_folder.specs.NodeFile.{IsNodeFile};
-ghost use Rattle.wf_voter.specs.Continuation.{KeepsEarlier};
+ghost use Rattle.wf_loop.specs.Continuation.{KeepsEarlier};
 ghost use Rattle.wf_loop.specs.Hub.{HasAnswered, IsHeardFirst, IsOver, membership_of, process_of};
-ghost use Rattle.wf_voter.specs.Lived.{HasLived};
-ghost use Rattle.wf_mesh.specs.Membership.{membership_by};
-ghost use Rattle.wf_mesh.specs.declared.plan.NodePlan.{NodePlan as NodePlanValue};
+ghost use Rattle.wf_loop.specs.Lived.{HasLived};
+ghost use Rattle.wf_loop.specs.Membership.{membership_by};
+ghost use Rattle.wf_loop.specs.NodePlan.{NodePlan as NodePlanValue};
 ghost use Rattle.wf_node_command.specs.Done.{HasLivedOn, IsNodeServed};
 ghost use Rattle.wf_node_folder.specs.Folder.{StaysFrom, calls_in, heard_in};
 ghost use Rattle.wf_node_command.specs.Learned.{IsLearner};

@@ -7,8 +7,7 @@ use crate::step_rejection::StepRejection;
 use crate::volatile::{Leadership, Phase, Proposing, VolatileState};
 use std::alloc::{AllocError, Global};
 use wf_ballot::{Ballot, NodeId, Round, Slot};
-use wf_canon::Canon;
-use wf_codec::{BestVotes, Message, Report};
+use wf_codec::{BestVotes, Canon, Message, Report};
 use wf_journal::Record;
 
 /// A running proposal.

@@ -12,8 +12,7 @@ use crate::volatile::{Leadership, Phase, Proposing, VolatileState};
 use std::alloc::Global;
 use std::marker::Model;
 use wf_ballot::{Ballot, NodeId, ROUNDS, Seq, Slot};
-use wf_canon::Canon;
-use wf_codec::{Message, Report};
+use wf_codec::{Canon, Message, Report};
 use wf_journal::Record;
 
 /// The proposer of one node: at most one proposal, or how the last one ended.

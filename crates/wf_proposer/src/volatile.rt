@@ -6,8 +6,7 @@ use crate::step_rejection::StepRejection;
 use std::alloc::{AllocError, Global};
 use std::mem::replace;
 use wf_ballot::{Ballot, Slot};
-use wf_canon::Canon;
-use wf_codec::{BestVotes, Message, Report};
+use wf_codec::{BestVotes, Canon, Message, Report};
 
 /// The number of slots at which a leadership asks for votes without asking for promises: its base
 /// and the three after it. A promise reports votes at as many.

@@ -31,3 +31,4 @@ mod slots;
 mod turn;
 
 pub use port::{PortView, ReadersPort};
+pub use wf_reader::Answerer;

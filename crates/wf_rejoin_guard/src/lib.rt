@@ -38,7 +38,7 @@
 ghost use Rattle.wf_rejoin_guard.specs.Joined.{GreetingsAnswer, JoinedListsGrow, JoinedMayRejoin, JoinedOneHistory};
 ghost use Rattle.wf_rejoin_guard.specs.Learned.{ChosenArePublished, LearnedAreCopies, LearnedListsGrow, LearnedOneHistory, LearnersMayRejoin};
 
-use wf_canon::Canon;
+use wf_codec::Canon;
 use wf_journal::records_are_read_one_way;
 use wf_model::records_fit;
 use wf_rejoin::{answers_are_bounds, voters_are_guarded};

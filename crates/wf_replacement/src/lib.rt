@@ -43,7 +43,7 @@ ghost use Rattle.wf_replacement.specs.Examples.{LostIsReplaced};
 ghost use Rattle.wf_replacement.specs.Rejoining.{CopiesAreHeld};
 ghost use Rattle.wf_replacement.specs.Theorems.{AskedAreOthers, FarmIsTimeline, ListsGrow, OneAnswer, OneDefinition, OneHistory, OneMapAnswer, TimelineGoesOn, TimelineIsCourse};
 
-use wf_canon::Canon;
+use wf_codec::Canon;
 use wf_journal::records_are_read_one_way;
 use wf_safety::copied_tapes;
 use wf_tape::Tape;

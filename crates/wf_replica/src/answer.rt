@@ -16,7 +16,7 @@ use crate::misfit::{AnswerFault, Misfit};
 use sha2::{Digest, Sha256};
 use std::alloc::{AllocError, Global};
 use wf_ballot::Seq;
-use wf_canon::Canon;
+use wf_codec::Canon;
 use wf_learner::MOST_REPORTS;
 use wf_reader::{Question, ReaderAnswer};
 use wf_tape::Tape;

@@ -6,7 +6,7 @@ ghost use Rattle.wf_model.specs.DurableState.{Published};
 
 use std::alloc::{AllocError, Global};
 use wf_ballot::Slot;
-use wf_canon::Canon;
+use wf_codec::Canon;
 
 /// The version of records as they are written, and the kind of a published definition.
 const HEADER: &[u8] = &[2, 4];

@@ -8,7 +8,7 @@ use Rattle.wf_catch_up.specs.CatchUp.{CatchUpIsReachable, LevelRests}
 use Rattle.wf_delivery.specs.Delivery.{EachGrows, KeepTurn, StandInTurn}
 use Rattle.wf_delivery.specs.DeliveryTheorems.{keeps_turn_itself, keeps_turn_twice}
 use Rattle.wf_delivery.specs.Reachability.{AreFresh}
-use Rattle.wf_publication.specs.Publication.{AllPublish, PublishedOnAll}
+use Rattle.wf_delivery.specs.Publication.{AllPublish, PublishedOnAll}
 use Rattle.wf_node.specs.Growth.{IsGrown}
 use Rattle.wf_node.specs.Node.{Node}
 use Rattle.wf_serve.specs.Connections.{HaveCome, IsConnectionAnswered, MayBeAnswered}

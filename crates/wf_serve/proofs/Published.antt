@@ -17,7 +17,7 @@ use Rattle.wf_edge.specs.declared.publish_fault.PublishFault.TheVariants as publ
 use Rattle.wf_catch_up.specs.CatchUp.{LevelRests, StandLevel}
 use Rattle.wf_delivery.specs.Delivery.{AreHandedOut, StandInTurn}
 use Rattle.wf_delivery.specs.Reachability.{AreFresh}
-use Rattle.wf_publication.specs.Publication.{AllPublish, PublishedOnAll, Rests}
+use Rattle.wf_delivery.specs.Publication.{AllPublish, PublishedOnAll, Rests}
 use Rattle.wf_delivery.specs.Delivery.{NoneHalted}
 use Rattle.wf_edge.specs.Request.{Request, BeginsWith}
 use Rattle.wf_http.specs.Response.{Response}

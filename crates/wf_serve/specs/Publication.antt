@@ -7,7 +7,7 @@ use Rattle.wf_edge.specs.declared.outcome.Outcome.{Outcome}
 use Rattle.wf_edge.specs.declared.outcome.Outcome.TheVariants as outcome
 use Rattle.wf_delivery.specs.Delivery.{StandInTurn}
 use Rattle.wf_delivery.specs.Reachability.{AreFresh}
-use Rattle.wf_publication.specs.Publication.{AllPublish}
+use Rattle.wf_delivery.specs.Publication.{AllPublish}
 use Rattle.wf_delivery.specs.Delivery.{NoneHalted}
 use Rattle.wf_edge.specs.Request.{Request, BeginsWith}
 use Rattle.wf_node.specs.Node.{Node}

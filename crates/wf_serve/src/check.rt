@@ -15,7 +15,7 @@ use crate::event::Cause;
 use crate::survey::Survey;
 use std::alloc::Global;
 use wf_ballot::{NODES, NodeId, Slot};
-use wf_canon::Canon;
+use wf_codec::Canon;
 use wf_folder::{FoundFile, Presence, Start, StartRejection, admit};
 use wf_journal::OpenFault;
 use wf_learner::History;

@@ -3,7 +3,7 @@ ghost use Rattle.wf_serve.specs.First.{FirstIsPublished};
 ghost use Rattle.wf_serve.specs.Publication.{AcceptedIsPublished, CaughtUpAreNew};
 
 use wf_catch_up::a_catch_up_is_reachable;
-use wf_publication::new_nodes_publish;
+use wf_delivery::new_nodes_publish;
 use wf_tape::Tape;
 
 /// If a connection to one of three new nodes, served by

@@ -4,8 +4,8 @@ use Rattle.std.specs.Prelude.{map, IfSome}
 use Rattle.std.specs.List.{flat_map}
 use Rattle.std.proofs.lemmas.List.{append-nil, map-append}
 use Rattle.std.proofs.lemmas.List.Concat.{flat_map-append}
-use Rattle.wf_token.specs.Token.{Token}
-use Rattle.wf_token.specs.Spelling.{line, text_of}
+use Rattle.wf_block.specs.Token.{Token}
+use Rattle.wf_block.specs.Spelling.{line, text_of}
 use Rattle.wf_spelling.specs.declared.scan.cursor.Cursor.{Cursor}
 use Rattle.wf_spelling.specs.Scan.{IsAt, Scans}
 use Rattle.wf_spelling.proofs.WriteSequences.{text_of-append}

@@ -9,7 +9,7 @@ use Rattle.wf_def.specs.Layer.{feature_of, layer_of, has_enough_points}
 use Rattle.wf_def.specs.Limit.{most_items_bytes}
 use Rattle.wf_feature.specs.Layers.{is_layer_name}
 use Rattle.std.specs.Prelude.{codes}
-use Rattle.wf_token.specs.Spelling.{line, text_of}
+use Rattle.wf_block.specs.Spelling.{line, text_of}
 use Rattle.wf_spelling.specs.Canon.{alone, end_line, feature_lines}
 use Rattle.wf_spelling.specs.declared.scan.cursor.Cursor.{Cursor}
 use Rattle.wf_spelling.specs.Scan.{Scans}

@@ -7,9 +7,9 @@ use Rattle.std.proofs.lemmas.List.{append-nil, take_more}
 use Rattle.std.proofs.lemmas.Option.{slice_get_within, get_or_from_slice_get}
 use Rattle.std.proofs.lemmas.List.Concat.{flat_map-append}
 use Rattle.std.specs.List.{flat_map}
-use Rattle.wf_token.specs.Token.{Token}
+use Rattle.wf_block.specs.Token.{Token}
 use Rattle.wf_spelling.specs.declared.draft.Draft.{Draft}
-use Rattle.wf_token.specs.Spelling.{line, text_of}
+use Rattle.wf_block.specs.Spelling.{line, text_of}
 use Rattle.wf_spelling.specs.Canon.{most_canon_bytes}
 use Rattle.wf_spelling.specs.Draft.{IsDraftOf, Writes}
 

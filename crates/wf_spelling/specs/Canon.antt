@@ -18,10 +18,10 @@ use Rattle.wf_def.specs.declared.choice.LabelSize.{LabelSize}
 use Rattle.wf_def.specs.declared.choice.LabelSize.TheVariants.{Tiny, Small, Medium, Large, Giant}
 use Rattle.wf_def.specs.declared.choice.LabelPosition.{LabelPosition}
 use Rattle.wf_def.specs.declared.choice.LabelPosition.TheVariants.{UpperLeft, UpperCenter, UpperRight, CenterLeft, CenterCenter, CenterRight, LowerLeft, LowerCenter, LowerRight}
-use Rattle.wf_token.specs.Token.{Token, Word, Quoted, Braced}
+use Rattle.wf_block.specs.Token.{Token, Word, Quoted, Braced}
 use Rattle.wf_text.specs.NumberText.{number_text}
-unfoldable pub use Rattle.wf_token.specs.Spelling.{line}
-pub use Rattle.wf_token.specs.Spelling.{quote_for, quoted, braced, spelled, text_of}
+unfoldable pub use Rattle.wf_block.specs.Spelling.{line}
+pub use Rattle.wf_block.specs.Spelling.{quote_for, quoted, braced, spelled, text_of}
 use Rattle.wf_spelling.specs.declared.fault.CanonFault.{CanonFault}
 use Rattle.wf_spelling.specs.declared.fault.CanonFault.TheVariants.{TooBig, NotCanonical, Memory}
 

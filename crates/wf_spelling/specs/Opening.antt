@@ -2,7 +2,7 @@
 use Rattle.std.specs.Prelude.{ℕ, List, ◌∷◌, ◌++◌, codes}
 use Rattle.std.specs.List.{flat_map}
 use Rattle.wf_def.specs.Definition.{Definition, LayerDefinition}
-use Rattle.wf_token.specs.Token.{Token}
+use Rattle.wf_block.specs.Token.{Token}
 use Rattle.wf_spelling.specs.Canon.{alone, class_lines, heading_lines, kind_word, metadata_lines, projection_lines, web_lines, with_text, with_word}
 
 -- the lines of a map before its layers

@@ -3,7 +3,7 @@ use Rattle.std.specs.Prelude.{◌≡◌, ℕ, true, List, ◌++◌, ◌∷◌, c
 use Rattle.wf_spelling.specs.declared.scan.cursor.Cursor.{Cursor}
 use Rattle.wf_def.specs.Definition.{LayerDefinition, ClassDefinition, FeatureDefinition}
 use Rattle.wf_def.specs.declared.choice.LayerKind.{LayerKind}
-use Rattle.wf_token.specs.Token.{Token}
+use Rattle.wf_block.specs.Token.{Token}
 use Rattle.wf_spelling.specs.Canon.{with_text, with_word, kind_word, metadata_lines, alone, with_key, end_line}
 use Rattle.wf_spelling.specs.declared.scan.layer.Heading.{Heading}
 

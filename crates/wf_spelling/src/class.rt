@@ -3,7 +3,7 @@
 ghost use Rattle.std.specs.Prelude.{◌≡◌};
 ghost use Rattle.std.specs.List.{flat_map};
 ghost use Rattle.wf_spelling.specs.Canon.{size_word, position_word, force_word, style_lines, label_lines, optional_label_lines, class_lines};
-ghost use Rattle.wf_token.specs.Spelling.{text_of};
+ghost use Rattle.wf_block.specs.Spelling.{text_of};
 ghost use Rattle.wf_spelling.specs.Draft.{Writes};
 
 use crate::draft::Draft;

@@ -3,7 +3,7 @@
 ghost use Rattle.std.specs.Prelude.{map};
 ghost use Rattle.std.specs.List.{flat_map};
 ghost use Rattle.wf_spelling.specs.Canon.{point_line, part_lines, feature_lines};
-ghost use Rattle.wf_token.specs.Spelling.{text_of};
+ghost use Rattle.wf_block.specs.Spelling.{text_of};
 ghost use Rattle.wf_spelling.specs.Draft.{Writes};
 
 use crate::draft::Draft;

@@ -3,7 +3,7 @@
 ghost use Rattle.std.specs.Prelude.{◌≡◌, ◌++◌, codes};
 ghost use Rattle.std.specs.List.{flat_map};
 ghost use Rattle.wf_spelling.specs.Canon.{kind_word, with_text, metadata_lines, feature_lines, class_lines, layer_lines};
-ghost use Rattle.wf_token.specs.Spelling.{line, text_of};
+ghost use Rattle.wf_block.specs.Spelling.{line, text_of};
 ghost use Rattle.wf_spelling.specs.Draft.{Writes};
 ghost use Rattle.wf_spelling.specs.Opening.{layer_opening_lines};
 
@@ -25,7 +25,7 @@ pub fn kind_word(kind: LayerKind) -> &'static str
 }
 
 /// Writes the line of the names of a layer's attributes.
-#[tactic(auto, unfolding(wf_token::specs::Spelling::line))]
+#[tactic(auto, unfolding(wf_block::specs::Spelling::line))]
 fn push_attribute_names(out: &mut Draft, names: &[u8])
     ensures { Writes out.old (line (with_text (codes "PROCESSING") (codes "ITEMS=" ++ names.now)))
         out.new }

@@ -3,7 +3,7 @@
 ghost use Rattle.std.specs.Prelude.{◌≡◌, length};
 ghost use Rattle.std.specs.List.{flat_map};
 ghost use Rattle.wf_spelling.specs.Canon.{canon, counted, feature_lines, layer_lines};
-ghost use Rattle.wf_token.specs.Spelling.{text_of};
+ghost use Rattle.wf_block.specs.Spelling.{text_of};
 
 use crate::draft::Draft;
 use crate::layer::{push_features, push_layer};

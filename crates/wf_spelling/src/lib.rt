@@ -2,7 +2,7 @@
 //!
 //! A canonical text is a mapfile with one item a line, single spaces, keywords in capitals and
 //! every default filled in (MapServer mapfile reference). `specs/Canon.antt` defines it as the
-//! lines of a definition, one after the other. wf_token defines how tokens are written on a line,
+//! lines of a definition, one after the other. wf_block defines how tokens are written on a line,
 //! wf_text how a number is written.
 //!
 //! Promises: [`text_of`] returns exactly the text of its definition. [`text_length`],

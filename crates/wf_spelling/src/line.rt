@@ -3,7 +3,7 @@
 ghost use Rattle.std.specs.Prelude.{◌≡◌, ◌∷◌};
 ghost use Rattle.std.specs.Fmt.{decimal};
 ghost use Rattle.wf_text.specs.NumberText.{number_text};
-ghost use Rattle.wf_token.specs.Spelling.{quote_for, quoted, braced, spelled, line, text_of};
+ghost use Rattle.wf_block.specs.Spelling.{quote_for, quoted, braced, spelled, line, text_of};
 ghost use Rattle.wf_spelling.specs.Canon.{alone, with_text, expression_token, with_expression, with_word, with_key, with_extent, with_color, when_there, point_line};
 ghost use Rattle.wf_spelling.specs.Draft.{Writes};
 
@@ -48,7 +48,7 @@ fn push_expression(out: &mut Draft, expression: &Expression)
 }
 
 /// Writes a line of one keyword.
-#[tactic(auto, unfolding(wf_token::specs::Spelling::line))]
+#[tactic(auto, unfolding(wf_block::specs::Spelling::line))]
 pub fn push_alone(out: &mut Draft, keyword: &str)
     ensures { Writes out.old (line (alone keyword.now)) out.new }
 {
@@ -57,7 +57,7 @@ pub fn push_alone(out: &mut Draft, keyword: &str)
 }
 
 /// Writes a line of a keyword and a text.
-#[tactic(auto, unfolding(wf_token::specs::Spelling::line))]
+#[tactic(auto, unfolding(wf_block::specs::Spelling::line))]
 pub fn push_with_text(out: &mut Draft, keyword: &str, text: &[u8])
     ensures { Writes out.old (line (with_text keyword.now text.now)) out.new }
 {
@@ -68,7 +68,7 @@ pub fn push_with_text(out: &mut Draft, keyword: &str, text: &[u8])
 }
 
 /// Writes a line of a keyword and an expression.
-#[tactic(auto, unfolding(wf_token::specs::Spelling::line))]
+#[tactic(auto, unfolding(wf_block::specs::Spelling::line))]
 fn push_with_expression(out: &mut Draft, keyword: &str, expression: &Expression)
     ensures { Writes out.old (line (with_expression keyword.now expression.now)) out.new }
 {
@@ -89,7 +89,7 @@ pub fn push_optional_expression(out: &mut Draft, keyword: &str, expression: &Opt
 }
 
 /// Writes a line of a keyword and a word.
-#[tactic(auto, unfolding(wf_token::specs::Spelling::line))]
+#[tactic(auto, unfolding(wf_block::specs::Spelling::line))]
 pub fn push_with_word(out: &mut Draft, keyword: &str, word: &str)
     ensures { Writes out.old (line (with_word keyword.now word.now)) out.new }
 {
@@ -100,7 +100,7 @@ pub fn push_with_word(out: &mut Draft, keyword: &str, word: &str)
 }
 
 /// Writes a line of a keyword and an integer.
-#[tactic(auto, unfolding(wf_token::specs::Spelling::line))]
+#[tactic(auto, unfolding(wf_block::specs::Spelling::line))]
 pub fn push_with_whole(out: &mut Draft, keyword: &str, whole: u8)
     ensures { Writes out.old (line (with_word keyword.now (decimal whole))) out.new }
 {
@@ -110,7 +110,7 @@ pub fn push_with_whole(out: &mut Draft, keyword: &str, whole: u8)
 }
 
 /// Writes a line of a metadata key and its text.
-#[tactic(auto, unfolding(wf_token::specs::Spelling::line))]
+#[tactic(auto, unfolding(wf_block::specs::Spelling::line))]
 pub fn push_with_key(out: &mut Draft, key: &str, text: &[u8])
     ensures { Writes out.old (line (with_key key.now text.now)) out.new }
 {
@@ -137,7 +137,7 @@ fn push_next_whole(out: &mut Draft, whole: u8)
 }
 
 /// Writes a line of a keyword and a box.
-#[tactic(auto, unfolding(wf_token::specs::Spelling::line))]
+#[tactic(auto, unfolding(wf_block::specs::Spelling::line))]
 pub fn push_with_extent(out: &mut Draft, keyword: &str, extent: Extent)
     ensures { Writes out.old (line (with_extent keyword.now extent)) out.new }
 {
@@ -150,7 +150,7 @@ pub fn push_with_extent(out: &mut Draft, keyword: &str, extent: Extent)
 }
 
 /// Writes a line of a keyword and a colour.
-#[tactic(auto, unfolding(wf_token::specs::Spelling::line))]
+#[tactic(auto, unfolding(wf_block::specs::Spelling::line))]
 pub fn push_with_color(out: &mut Draft, keyword: &str, color: Color)
     ensures { Writes out.old (line (with_color keyword.now color)) out.new }
 {
@@ -171,7 +171,7 @@ pub fn push_optional_color(out: &mut Draft, keyword: &str, color: Option<Color>)
 }
 
 /// Writes a line of a point.
-#[tactic(auto, unfolding(wf_token::specs::Spelling::line))]
+#[tactic(auto, unfolding(wf_block::specs::Spelling::line))]
 pub fn push_point(out: &mut Draft, point: Point)
     ensures { Writes out.old (line (point_line point)) out.new }
 {

@@ -4,7 +4,7 @@ ghost use Rattle.std.specs.Prelude.{◌≡◌};
 ghost use Rattle.std.specs.List.{flat_map};
 ghost use Rattle.wf_def.specs.Limits.{IsWithinLimits};
 ghost use Rattle.wf_spelling.specs.Canon.{projection_text, heading_lines, projection_lines, web_lines, layer_lines, canon};
-ghost use Rattle.wf_token.specs.Spelling.{text_of};
+ghost use Rattle.wf_block.specs.Spelling.{text_of};
 ghost use Rattle.wf_spelling.specs.Draft.{Writes};
 ghost use Rattle.wf_spelling.specs.Opening.{opening_lines};
 
@@ -24,7 +24,7 @@ pub fn projection_text(projection: Projection) -> &'static str
 }
 
 /// Writes the block of the coordinate system.
-#[tactic(auto, unfolding(wf_token::specs::Spelling::line))]
+#[tactic(auto, unfolding(wf_block::specs::Spelling::line))]
 fn push_projection(out: &mut Draft, projection: Projection)
     ensures { Writes out.old (text_of (projection_lines projection)) out.new }
 {

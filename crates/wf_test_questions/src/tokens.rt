@@ -1,6 +1,6 @@
 //! Tokens.
+use wf_block::{LexFault, LexFaultKind, Token, TokenKind, Tokens, tokenize};
 use wf_test_table::{Answered, CaseInput, Runs, Transcript, Unanswered, unescape};
-use wf_token::{LexFault, LexFaultKind, Token, TokenKind, Tokens, tokenize};
 
 // Appends a word as `offset:word`, a string as `offset"string"`, a list as `offset{list}`; without
 // its text as `offset:`, `offset"` or `offset{`.

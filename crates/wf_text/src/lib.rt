@@ -10,7 +10,7 @@
 //! `specs/Number.antt` defines and written exactly as `specs/NumberText.antt` defines, both without
 //! floating point and without allocating; reading what was written returns the same number. A
 //! rejected text returns its first error. Not here: what a map contains (wf_def) and tokens
-//! (wf_token).
+//! (wf_block).
 #![tactic(auto)]
 
 mod digits;

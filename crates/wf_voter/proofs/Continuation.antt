@@ -17,7 +17,7 @@ use Rattle.wf_model.specs.declared.action.Action.{Action}
 use Rattle.wf_model.specs.declared.action.Action.TheVariants as actions
 use Rattle.wf_codec.specs.declared.message.Message.{Message}
 use Rattle.wf_edge.specs.declared.outcome.Outcome.{Outcome}
-use Rattle.wf_delivery.specs.Reachability.{outputs_by}
+use Rattle.wf_actor.specs.Reachability.{outputs_by}
 use Rattle.wf_voter.proofs.Learnt.{asking_asks, questions_more, told_asks}
 use Rattle.wf_mail.specs.Mail.{IsFirstPart}
 use Rattle.wf_node.specs.Reopening.{HasStoredAs}

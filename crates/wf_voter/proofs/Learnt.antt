@@ -10,7 +10,7 @@ use Rattle.wf_codec.specs.declared.message.Message.{Message}
 use Rattle.wf_codec.specs.declared.message.Message.TheVariants as code
 use Rattle.wf_def.specs.Definition.{Definition}
 use Rattle.wf_def.specs.Equality.{definition_eq}
-use Rattle.wf_delivery.specs.Reachability.{outputs_by}
+use Rattle.wf_actor.specs.Reachability.{outputs_by}
 use Rattle.wf_edge.specs.StepResult.{IsStepResult}
 use Rattle.wf_voter.specs.Continuation.{besides_questions, is_ask, is_chosen}
 use Rattle.wf_model.specs.DurableState.{DurableState, Published, published, next_sequence}

@@ -1,3 +1,4 @@
+pub use Rattle.wf_learner.specs.History
 pub mod Answer
 pub mod Background
 pub mod Capabilities

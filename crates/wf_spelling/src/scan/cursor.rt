@@ -1,7 +1,7 @@
 //! What is ahead in bytes that are compared with a canonical text.
 
 ghost use Rattle.std.specs.Prelude.{◌≡◌, ◌+◌, ◌<◌, ◌∷◌, [], true, false, IfNone, IfSome};
-ghost use Rattle.wf_token.specs.Spelling.{quoted, braced};
+ghost use Rattle.wf_block.specs.Spelling.{quoted, braced};
 ghost use Rattle.wf_spelling.specs.Scan.{IsAt, Scans};
 
 use crate::line::quote_for;

@@ -4,7 +4,7 @@ ghost use Rattle.std.specs.Prelude.{◌≡◌, ◌+◌, ◌≤◌, ◌++◌, cod
 ghost use Rattle.std.specs.List.{flat_map};
 ghost use Rattle.wf_def.specs.Limits.{points_of_feature};
 ghost use Rattle.wf_def.specs.Limit.{most_points};
-ghost use Rattle.wf_token.specs.Spelling.{line, text_of};
+ghost use Rattle.wf_block.specs.Spelling.{line, text_of};
 ghost use Rattle.wf_spelling.specs.Canon.{kind_word, with_text, metadata_lines, feature_lines, class_lines, layer_lines};
 ghost use Rattle.wf_spelling.specs.Scan.{Scans, IsWhole, layer_heading_lines};
 
@@ -28,7 +28,7 @@ fn kind_ahead(cursor: &Cursor<'_>) -> LayerKind {
 }
 
 /// Scans the line of the names of a layer's attributes.
-#[tactic(auto, unfolding(wf_token::specs::Spelling::line))]
+#[tactic(auto, unfolding(wf_block::specs::Spelling::line))]
 fn scan_attribute_names(cursor: &mut Cursor<'_>) -> Option<Text>
     ensures { IfSome result (λ names. Scans cursor.old
         (line (with_text (codes "PROCESSING") (codes "ITEMS=" ++ names))) cursor.new) }

@@ -3,7 +3,7 @@
 ghost use Rattle.std.specs.Prelude.{◌≡◌, ◌<◌, [], ◌∷◌, ◌++◌, IfSome};
 ghost use Rattle.std.specs.Fmt.{decimal};
 ghost use Rattle.wf_text.specs.NumberText.{number_text};
-ghost use Rattle.wf_token.specs.Spelling.{quote_for, quoted, braced, spelled, line, text_of};
+ghost use Rattle.wf_block.specs.Spelling.{quote_for, quoted, braced, spelled, line, text_of};
 ghost use Rattle.wf_spelling.specs.Canon.{alone, with_text, expression_token, with_expression, with_word, with_key, with_extent, with_color, when_there, point_line};
 ghost use Rattle.wf_spelling.specs.Scan.{Scans};
 
@@ -15,7 +15,7 @@ use wf_def::{Color, Expression, Extent, Micro, Point, Text, ValueList, check_lis
 
 /// Scans a line of one keyword.
 #[inline(always)]
-#[tactic(auto, unfolding(wf_token::specs::Spelling::line))]
+#[tactic(auto, unfolding(wf_block::specs::Spelling::line))]
 pub fn scan_alone(cursor: &mut Cursor<'_>, keyword: &str)
     ensures { Scans cursor.old (line (alone keyword.now)) cursor.new }
 {
@@ -85,7 +85,7 @@ pub fn scan_quoted(cursor: &mut Cursor<'_>, text: &[u8])
 }
 
 /// Scans a line of a keyword and a text.
-#[tactic(auto, unfolding(wf_token::specs::Spelling::line))]
+#[tactic(auto, unfolding(wf_block::specs::Spelling::line))]
 pub fn scan_with_text(cursor: &mut Cursor<'_>, keyword: &str) -> Option<Text>
     ensures { IfSome result (λ text. Scans cursor.old (line (with_text keyword.now text))
         cursor.new) }
@@ -98,7 +98,7 @@ pub fn scan_with_text(cursor: &mut Cursor<'_>, keyword: &str) -> Option<Text>
 }
 
 /// Scans a line of a keyword and an expression.
-#[tactic(auto, unfolding(wf_token::specs::Spelling::line))]
+#[tactic(auto, unfolding(wf_block::specs::Spelling::line))]
 fn scan_with_expression(cursor: &mut Cursor<'_>, keyword: &str) -> Option<Expression>
     ensures { IfSome result (λ e. Scans cursor.old (line (with_expression keyword.now e))
         cursor.new) }
@@ -143,7 +143,7 @@ pub fn scan_with_rare_text(cursor: &mut Cursor<'_>, keyword: &str, empty: &[u8])
 }
 
 /// Scans a line of a keyword and this word.
-#[tactic(auto, unfolding(wf_token::specs::Spelling::line))]
+#[tactic(auto, unfolding(wf_block::specs::Spelling::line))]
 pub fn scan_with_word(cursor: &mut Cursor<'_>, keyword: &str, word: &str)
     ensures { Scans cursor.old (line (with_word keyword.now word.now)) cursor.new }
 {
@@ -154,7 +154,7 @@ pub fn scan_with_word(cursor: &mut Cursor<'_>, keyword: &str, word: &str)
 }
 
 /// Scans a line of a keyword and an integer from 0 to 255.
-#[tactic(auto, unfolding(wf_token::specs::Spelling::line))]
+#[tactic(auto, unfolding(wf_block::specs::Spelling::line))]
 pub fn scan_with_whole(cursor: &mut Cursor<'_>, keyword: &str) -> Option<u8>
     ensures { IfSome result (λ whole. Scans cursor.old
         (line (with_word keyword.now (decimal whole))) cursor.new) }
@@ -166,7 +166,7 @@ pub fn scan_with_whole(cursor: &mut Cursor<'_>, keyword: &str) -> Option<u8>
 }
 
 /// Scans a line of a metadata key, which has no double quote, and its text.
-#[tactic(auto, unfolding(wf_token::specs::Spelling::line))]
+#[tactic(auto, unfolding(wf_block::specs::Spelling::line))]
 pub fn scan_with_key(cursor: &mut Cursor<'_>, key: &str) -> Option<Text>
     requires { quote_for key.now ≡ 34 }
     ensures { IfSome result (λ text. Scans cursor.old (line (with_key key.now text)) cursor.new) }
@@ -201,7 +201,7 @@ fn scan_next_whole(cursor: &mut Cursor<'_>) -> Option<u8>
 }
 
 /// Scans a line of a keyword and a box.
-#[tactic(auto, unfolding(wf_token::specs::Spelling::line))]
+#[tactic(auto, unfolding(wf_block::specs::Spelling::line))]
 pub fn scan_with_extent(cursor: &mut Cursor<'_>, keyword: &str) -> Option<Extent>
     ensures { IfSome result (λ extent. Scans cursor.old (line (with_extent keyword.now extent))
         cursor.new) }
@@ -216,7 +216,7 @@ pub fn scan_with_extent(cursor: &mut Cursor<'_>, keyword: &str) -> Option<Extent
 }
 
 /// Scans a line of a keyword and a colour.
-#[tactic(auto, unfolding(wf_token::specs::Spelling::line))]
+#[tactic(auto, unfolding(wf_block::specs::Spelling::line))]
 pub fn scan_with_color(cursor: &mut Cursor<'_>, keyword: &str) -> Option<Color>
     ensures { IfSome result (λ color. Scans cursor.old (line (with_color keyword.now color))
         cursor.new) }
@@ -242,7 +242,7 @@ pub fn scan_optional_color(cursor: &mut Cursor<'_>, keyword: &str) -> Option<Opt
 }
 
 /// Scans a line of a point.
-#[tactic(auto, unfolding(wf_token::specs::Spelling::line))]
+#[tactic(auto, unfolding(wf_block::specs::Spelling::line))]
 pub fn scan_point(cursor: &mut Cursor<'_>) -> Option<Point>
     ensures { IfSome result (λ point. Scans cursor.old (line (point_line point)) cursor.new) }
 {

@@ -4,7 +4,7 @@ ghost use Rattle.std.specs.Prelude.{◌≡◌, ◌<◌, ◌∷◌, ◌++◌, [],
 ghost use Rattle.std.specs.List.{flat_map};
 ghost use Rattle.wf_def.specs.Limits.{IsWithinLimits, points_of_feature};
 ghost use Rattle.wf_def.specs.Limit.{most_layers};
-ghost use Rattle.wf_token.specs.Spelling.{text_of};
+ghost use Rattle.wf_block.specs.Spelling.{text_of};
 ghost use Rattle.wf_spelling.specs.Canon.{heading_lines, projection_lines, web_lines, layer_lines, canon};
 ghost use Rattle.wf_spelling.specs.Scan.{Scans, web_lines_of};
 
@@ -26,7 +26,7 @@ fn projection_ahead(cursor: &Cursor<'_>) -> Projection {
 }
 
 /// Scans the block of the coordinate system.
-#[tactic(auto, unfolding(wf_token::specs::Spelling::line))]
+#[tactic(auto, unfolding(wf_block::specs::Spelling::line))]
 fn scan_projection(cursor: &mut Cursor<'_>) -> Projection
     ensures { Scans cursor.old (text_of (projection_lines result)) cursor.new }
 {

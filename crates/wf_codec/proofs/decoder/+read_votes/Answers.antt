@@ -1,5 +1,5 @@
 use Rattle.std.proofs.Common.{◌≡◌, ℕ, ◌-◌, ◌≤◌, List, Some, Err, sym, subst, ◌∙◌, arith}
-use Rattle.wf_spelling.specs.Canon.{most_canon_bytes}
+use Rattle.wf_canon.specs.Canon.{most_canon_bytes}
 use Rattle.wf_frame.specs.Report.{votes_of}
 use Rattle.wf_codec.specs.Stages.{ReadsVotes}
 use Rattle.wf_codec.proofs.Reports.{vote_then, IsNext, next, skipped, some_vote, nothing_read, first_failed, first_then}

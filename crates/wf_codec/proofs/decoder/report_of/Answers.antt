@@ -1,5 +1,5 @@
 use Rattle.std.proofs.Common.{sym, ◌∙◌}
-use Rattle.wf_spelling.specs.Canon.{most_canon_bytes}
+use Rattle.wf_canon.specs.Canon.{most_canon_bytes}
 use Rattle.wf_codec.proofs.Reports.{read_count, report_failed, report_read}
 use Rattle.wf_codec.proofs.decoder.report_of.Goals as goal
 

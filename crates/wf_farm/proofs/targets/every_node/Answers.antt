@@ -1,6 +1,6 @@
 -- Every node's number is at its own index.
 use Rattle.std.proofs.Common.{subst, arith}
-use Rattle.wf_publication.proofs.UpTo.{IsUpTo, up_to_targets}
+use Rattle.wf_delivery.proofs.UpTo.{IsUpTo, up_to_targets}
 use Rattle.wf_farm.proofs.targets.every_node.Goals as goal
 
 pub returns-clause-targets : goal.returns-clause-targets

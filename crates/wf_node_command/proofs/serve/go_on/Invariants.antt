@@ -1,5 +1,5 @@
 use Rattle.std.specs.Prelude.{◌≡◌}
-use Rattle.wf_voter.specs.Continuation.{KeepsEarlier}
+use Rattle.wf_loop.specs.Continuation.{KeepsEarlier}
 use Rattle.wf_loop.specs.Hub.{IsHeardFirst, IsOver, membership_of, process_of}
 use Rattle.wf_node_command.proofs.serve.go_on.Given as goal
 use Rattle.wf_node_folder.specs.Folder.{calls_in, heard_in}

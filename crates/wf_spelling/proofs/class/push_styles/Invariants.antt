@@ -1,7 +1,7 @@
 use Rattle.std.proofs.Common.{take}
 use Rattle.std.specs.List.{flat_map}
 use Rattle.wf_spelling.specs.Canon.{style_lines}
-use Rattle.wf_token.specs.Spelling.{text_of}
+use Rattle.wf_block.specs.Spelling.{text_of}
 use Rattle.wf_spelling.specs.Draft.{Writes}
 use Rattle.wf_spelling.proofs.class.push_styles.Given as goal
 

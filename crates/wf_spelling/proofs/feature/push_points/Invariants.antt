@@ -1,6 +1,6 @@
 use Rattle.std.proofs.Common.{take, map}
 use Rattle.wf_spelling.specs.Canon.{point_line}
-use Rattle.wf_token.specs.Spelling.{text_of}
+use Rattle.wf_block.specs.Spelling.{text_of}
 use Rattle.wf_spelling.specs.Draft.{Writes}
 use Rattle.wf_spelling.proofs.feature.push_points.Given as goal
 

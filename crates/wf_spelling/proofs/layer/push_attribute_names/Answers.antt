@@ -1,5 +1,5 @@
 use Rattle.wf_spelling.proofs.WriteSequences.{both}
-use Rattle.wf_token.specs.Spelling.{line}
+use Rattle.wf_block.specs.Spelling.{line}
 use Rattle.wf_spelling.proofs.layer.push_attribute_names.Goals as goal
 
 pub returns : goal.returns

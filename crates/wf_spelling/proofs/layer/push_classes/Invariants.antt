@@ -1,7 +1,7 @@
 use Rattle.std.proofs.Common.{take}
 use Rattle.std.specs.List.{flat_map}
 use Rattle.wf_spelling.specs.Canon.{class_lines}
-use Rattle.wf_token.specs.Spelling.{text_of}
+use Rattle.wf_block.specs.Spelling.{text_of}
 use Rattle.wf_spelling.specs.Draft.{Writes}
 use Rattle.wf_spelling.proofs.layer.push_classes.Given as goal
 

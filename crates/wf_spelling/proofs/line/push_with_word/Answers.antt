@@ -1,5 +1,5 @@
 use Rattle.wf_spelling.proofs.WriteSequences.{both}
-use Rattle.wf_token.specs.Spelling.{line}
+use Rattle.wf_block.specs.Spelling.{line}
 use Rattle.wf_spelling.proofs.line.push_with_word.Goals as goal
 
 pub returns : goal.returns

@@ -1,5 +1,5 @@
 use Rattle.wf_spelling.proofs.WriteSequences.{both, last_line}
-use Rattle.wf_token.specs.Spelling.{line}
+use Rattle.wf_block.specs.Spelling.{line}
 use Rattle.wf_spelling.specs.Canon.{end_line}
 use Rattle.wf_spelling.proofs.writer.push_projection.Goals as goal
 

@@ -3,7 +3,7 @@ use Rattle.std.specs.List.{flat_map}
 use Rattle.wf_spelling.specs.Canon.{part_lines, end_line}
 use Rattle.wf_spelling.proofs.ScanSequences.{both, lines, last_line}
 use Rattle.wf_spelling.proofs.ScannedBlock.{feature_is, feature_line, end_line_scanned}
-use Rattle.wf_token.specs.Spelling.{line}
+use Rattle.wf_block.specs.Spelling.{line}
 use Rattle.wf_spelling.proofs.scan.feature.scan_feature.Goals as goal
 
 pub scan_with_rare_text-requires : goal.scan_with_rare_text-requires

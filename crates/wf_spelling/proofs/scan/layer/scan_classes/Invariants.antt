@@ -1,5 +1,5 @@
 use Rattle.std.specs.List.{flat_map}
-use Rattle.wf_token.specs.Spelling.{text_of}
+use Rattle.wf_block.specs.Spelling.{text_of}
 use Rattle.wf_spelling.specs.Canon.{class_lines}
 use Rattle.wf_spelling.specs.Scan.{Scans}
 use Rattle.wf_spelling.proofs.scan.layer.scan_classes.Given as goal

@@ -1,5 +1,5 @@
 use Rattle.wf_spelling.proofs.ScanSequences.{both}
-use Rattle.wf_token.specs.Spelling.{line}
+use Rattle.wf_block.specs.Spelling.{line}
 use Rattle.wf_spelling.proofs.scan.line.scan_point.Goals as goal
 
 pub returns : goal.returns

@@ -1,5 +1,5 @@
 use Rattle.wf_spelling.proofs.ScanSequences.{both, if_some}
-use Rattle.wf_token.specs.Spelling.{line}
+use Rattle.wf_block.specs.Spelling.{line}
 use Rattle.wf_spelling.proofs.scan.line.scan_with_text.Goals as goal
 
 pub returns : goal.returns

@@ -1,5 +1,5 @@
 use Rattle.wf_spelling.specs.Canon.{end_line}
-use Rattle.wf_token.specs.Spelling.{line}
+use Rattle.wf_block.specs.Spelling.{line}
 use Rattle.wf_spelling.proofs.ScanSequences.{both, last_line}
 use Rattle.wf_spelling.proofs.scan.map.scan_projection.Goals as goal
 

@@ -1,5 +1,0 @@
-use Rattle.wf_publication.proofs.Exactly.{delivered_exactly}
-use Rattle.wf_publication.proofs.publication.deliveries_are_rounds.Goals as goal
-
-pub returns : goal.returns
-returns g c = delivered_exactly g.T.Tape

@@ -1,2 +1,0 @@
-pub mod TokenLemmas
-mod Prefix
