@@ -4,12 +4,11 @@
 //! Standard input is a table of cases (`wf_test_table` defines its format). A case is a play, or
 //! many whose counts are added up: nodes as `wfarm node` starts and steps them
 //! ([`wf_node_command::RunningNode`], [`member`]) and replicas as `wfarm replica` does
-//! ([`wf_replica_command::RunningReplica`], [`replica`]), each on a folder in memory and a
-//! simulated network, with a clock of its own ([`host`]). All the while clients publish at each
-//! node, ask for capabilities and pictures, look at the operator's port, and read the history
-//! ([`client`]), and faults happen that are drawn from the seed ([`schedule`]); a client may stop
-//! within its request, or take no byte of the response, and a sync may take time ([`slow_store`]).
-//! After each step is checked what a farm promises ([`ledger`]):
+//! ([`wf_replica_command::RunningReplica`], [`replica`]), each on a host of its own, with clients
+//! and faults around them (`wf_test_scene`). All the while clients publish at each node, ask for
+//! capabilities and pictures, look at the operator's port, and read the history, and faults happen
+//! that are drawn from the seed; a client may stop within its request, or take no byte of the
+//! response, and a sync may take time. After each step is checked what a farm promises:
 //!
 //! - Two answers to one request about a sequence are equal, and so are two maps.
 //! - No list of maps goes back, and each published map is one that a client sent. A replica has
@@ -31,25 +30,10 @@
 //! table.
 #![tactic(auto)]
 
-mod client;
-mod dice;
-mod exchange;
-mod host;
-mod lag;
-mod ledger;
-mod machine;
 mod member;
-mod names;
-mod plan;
 mod play;
-mod process;
 mod questions;
 mod replica;
-mod requests;
-mod scene;
-mod schedule;
-mod slow_store;
-mod tally;
 
 use questions::Plays;
 use std::process::ExitCode;

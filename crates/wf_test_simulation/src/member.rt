@@ -1,19 +1,14 @@
 //! A node of a simulated farm: its host, and its process while it runs.
 
-use crate::dice::Dice;
-use crate::host::{Host, MOST_READY};
-use crate::ledger::{Ledger, Violation};
-use crate::machine::Machine;
-use crate::names::{Names, init_line};
-use crate::plan::Relapse;
-use crate::process::Process;
-use crate::schedule::Stroke;
-use crate::slow_store::SlowStore;
 use std::cell::RefCell;
 use wf_loop::Log;
 use wf_node_command::{RunningNode, run};
 use wf_simulation::{SimulatedNetwork, World};
 use wf_store::{FileName, MemoryFolder, MemoryStore, Store};
+use wf_test_scene::{
+    Dice, Host, Ledger, MOST_READY, Machine, Names, Process, Relapse, SlowStore, Stroke, Violation,
+    init_line,
+};
 
 /// A node: its host, which outlives its process.
 #[derive(Drop)]

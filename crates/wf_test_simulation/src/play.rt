@@ -1,23 +1,15 @@
 //! A play: a farm, its clients, and what goes wrong, from one moment to the next.
 
-use crate::client::{Client, REPLICA_ROLES, ROLES};
-use crate::dice::Dice;
-use crate::lag::Lag;
-use crate::ledger::{Ledger, Violation};
-use crate::machine::Machine;
 use crate::member::{Member, make_folder};
-use crate::names::Names;
-use crate::plan::{Fault, Plan, Relapse};
-use crate::process::Process;
 use crate::replica::Replica;
-use crate::requests::JOINER_BITS;
-use crate::scene::Scene;
-use crate::schedule::{Schedule, Stroke};
-use crate::tally::Tally;
 use std::alloc::{AllocError, Global};
 use std::cell::RefCell;
 use wf_simulation::{Counts, Faults, World};
 use wf_store::MemoryFolder;
+use wf_test_scene::{
+    Client, Dice, Fault, JOINER_BITS, Lag, Ledger, Machine, Names, Plan, Process, REPLICA_ROLES,
+    ROLES, Relapse, Scene, Schedule, Stroke, Tally, Violation,
+};
 use wf_test_table::Transcript;
 
 /// The most moments of a play.

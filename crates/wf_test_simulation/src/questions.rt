@@ -1,10 +1,8 @@
 //! The questions of the table.
 
-use crate::ledger::{NO_BYTES, digest_of};
-use crate::plan::Plan;
 use crate::play::run_play;
-use crate::tally::Tally;
 use std::alloc::{AllocError, Global};
+use wf_test_scene::{NO_BYTES, Plan, Tally, digest_of};
 use wf_test_table::{Answered, CaseInput, CaseWords, Questions, Transcript, Unanswered};
 
 /// The questions: a play of a seed, or plays of many, whose logs are printed on the standard error

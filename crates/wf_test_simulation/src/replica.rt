@@ -1,19 +1,14 @@
 //! A replica of a simulated farm: its host, and its process while it runs.
 
-use crate::dice::Dice;
-use crate::host::{Host, MOST_READY};
-use crate::lag::Lag;
-use crate::ledger::{Ledger, Violation};
-use crate::machine::Machine;
-use crate::names::Names;
-use crate::process::Process;
-use crate::schedule::Stroke;
-use crate::slow_store::{SlowStore, SlowTape};
 use std::cell::RefCell;
 use wf_loop::Log;
 use wf_replica_command::{RunningReplica, Turn, start_replica};
 use wf_simulation::{SimulatedNetwork, World};
 use wf_store::MemoryFolder;
+use wf_test_scene::{
+    Dice, Host, Lag, Ledger, MOST_READY, Machine, Names, Process, SlowStore, SlowTape, Stroke,
+    Violation,
+};
 
 /// A replica: its host, which outlives its process, and the folder as its process has locked it.
 #[derive(Drop)]

@@ -7,37 +7,37 @@ use wf_folder::FarmName;
 use wf_reader::{Question, encode_question};
 
 /// A request for what has become of a proposal.
-pub(crate) const STATUS: &str = "GET /status HTTP/1.1\r\nHost: farm\r\n\r\n";
+pub const STATUS: &str = "GET /status HTTP/1.1\r\nHost: farm\r\n\r\n";
 
 /// A request for the capabilities.
-pub(crate) const CAPABILITIES: &str =
+pub const CAPABILITIES: &str =
     "GET /wms?SERVICE=WMS&REQUEST=GetCapabilities HTTP/1.1\r\nHost: farm\r\n\r\n";
 
 /// An operator's question whether the node is ready.
-pub(crate) const READINESS: &str = "GET /readyz HTTP/1.1\r\nHost: farm\r\n\r\n";
+pub const READINESS: &str = "GET /readyz HTTP/1.1\r\nHost: farm\r\n\r\n";
 
 /// The random bits of the folder that joins, which are its mark.
-pub(crate) const JOINER_BITS: [u8; 16] = [0x55; 16];
+pub const JOINER_BITS: [u8; 16] = [0x55; 16];
 
 /// An operator's word to the folder that joins: its replacement of the node begins.
-pub(crate) const BEGIN: &str =
+pub const BEGIN: &str =
     "POST /replace/begin?count=1 HTTP/1.1\r\nHost: farm\r\nContent-Length: 0\r\n\r\n";
 
 /// An operator's word to another node: to agree to that replacement of node 0.
-pub(crate) const AGREE: &str =
+pub const AGREE: &str =
     "POST /replace/agree?node=0&count=1&mark=55555555555555555555555555555555&force HTTP/1.1\r\nHost: farm\r\nContent-Length: 0\r\n\r\n";
 
 /// An operator's request for the metrics.
-pub(crate) const METRICS: &str = "GET /metrics HTTP/1.1\r\nHost: farm\r\n\r\n";
+pub const METRICS: &str = "GET /metrics HTTP/1.1\r\nHost: farm\r\n\r\n";
 
 /// The bytes of a text.
-pub(crate) fn bytes_of(alloc: Global, text: &str) -> Result<Vec<u8>, AllocError> {
+pub fn bytes_of(alloc: Global, text: &str) -> Result<Vec<u8>, AllocError> {
     text.as_bytes().to_vec(alloc)
 }
 
 /// A request to publish the map of this number: its name and the colour of its picture are of that
 /// number.
-pub(crate) fn publish_request(alloc: Global, map: u32) -> Result<Vec<u8>, AllocError> {
+pub fn publish_request(alloc: Global, map: u32) -> Result<Vec<u8>, AllocError> {
     let [_, red, green, blue] = map.to_be_bytes();
     let body = format!(in alloc;
         "MAP NAME \"m{map}\" EXTENT 0 0 4 4 PROJECTION \"init=epsg:3857\" END\nWEB METADATA \"wms_title\" \"m{map}\" \"wms_onlineresource\" \"http://localhost/wms?\" END END\nLAYER NAME it TYPE POLYGON CLASS STYLE COLOR {red} {green} {blue} END END\nFEATURE POINTS -9 -9 9 -9 9 9 -9 9 END END END END\n"
@@ -59,11 +59,7 @@ fn with_body(alloc: Global, body: &str) -> Result<Vec<u8>, AllocError> {
 }
 
 /// A request for the picture of the map at a sequence, of so many pixels each way.
-pub(crate) fn picture_request(
-    alloc: Global,
-    sequence: u16,
-    side: u32,
-) -> Result<Vec<u8>, AllocError> {
+pub fn picture_request(alloc: Global, sequence: u16, side: u32) -> Result<Vec<u8>, AllocError> {
     let request = format!(in alloc;
         "GET /wms?VERSION=1.3.0&REQUEST=GetMap&LAYERS=it&STYLES=&CRS=EPSG:3857&BBOX=0,0,4,4&WIDTH={side}&HEIGHT={side}&FORMAT=image/x-portable-pixmap&MAPSEQ={sequence} HTTP/1.1\r\nHost: farm\r\n\r\n"
     )?;
@@ -73,11 +69,7 @@ pub(crate) fn picture_request(
 }
 
 /// A reader's question, which has published so far, with this digest of it.
-pub(crate) fn question(
-    alloc: Global,
-    published: u16,
-    digest: [u8; 32],
-) -> Result<Vec<u8>, AllocError> {
+pub fn question(alloc: Global, published: u16, digest: [u8; 32]) -> Result<Vec<u8>, AllocError> {
     let mut bytes = Vec::new(alloc);
     if let (Some(farm), Some(published)) = (FarmName::new(FARM.as_bytes()), Seq::new(published)) {
         let question = Question {

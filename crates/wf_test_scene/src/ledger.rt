@@ -13,7 +13,7 @@ const MOST_TOLD: usize = 8;
 
 /// What a farm has to keep, and didn't.
 #[derive(Clone, Copy, Debug, Error)]
-pub(crate) enum Violation {
+pub enum Violation {
     /// Two processes, or one at two times, have different maps at a sequence.
     #[error("{0} has another map at {1}")]
     TwoMaps(Process, u16),
@@ -63,7 +63,7 @@ pub(crate) enum Violation {
 
 /// A request about a sequence, whose answer is one at all nodes.
 #[derive(Clone, Copy, PartialEq)]
-pub(crate) enum Seen {
+pub enum Seen {
     /// The capabilities.
     Capabilities,
     /// The picture.
@@ -71,7 +71,7 @@ pub(crate) enum Seen {
 }
 
 /// A digest of bytes, to which more are added (FNV-1a, 64 bits).
-pub(crate) fn digest_of(digest: u64, bytes: &[u8]) -> u64 {
+pub fn digest_of(digest: u64, bytes: &[u8]) -> u64 {
     let mut digest = digest;
     for byte in bytes {
         digest = (digest ^ u64::from(*byte)).wrapping_mul(0x0000_0100_0000_01b3);
@@ -80,35 +80,35 @@ pub(crate) fn digest_of(digest: u64, bytes: &[u8]) -> u64 {
 }
 
 /// The digest of no bytes.
-pub(crate) const NO_BYTES: u64 = 0xcbf2_9ce4_8422_2325;
+pub const NO_BYTES: u64 = 0xcbf2_9ce4_8422_2325;
 
 /// How often clients had which answers.
 #[derive(Clone, Copy, Default)]
-pub(crate) struct Answers {
+pub struct Answers {
     /// Maps that were accepted.
-    pub(crate) accepted: u64,
+    pub accepted: u64,
     /// Requests that were answered by an error.
-    pub(crate) rejected: u64,
+    pub rejected: u64,
     /// Documents of capabilities.
-    pub(crate) documents: u64,
+    pub documents: u64,
     /// Pictures.
-    pub(crate) pictures: u64,
+    pub pictures: u64,
     /// Pages of operators.
-    pub(crate) pages: u64,
+    pub pages: u64,
     /// Replies to readers.
-    pub(crate) replies: u64,
+    pub replies: u64,
     /// Requests that nothing answered.
-    pub(crate) failed: u64,
+    pub failed: u64,
     /// Connections on which a client stopped.
-    pub(crate) stopped: u64,
+    pub stopped: u64,
 }
 
 /// What was seen of a farm: its maps and answers by sequence, and which maps were reported as
 /// published. It remembers whether an allocation failed.
 #[derive(Drop)]
-pub(crate) struct Ledger {
+pub struct Ledger {
     alloc: Global,
-    pub(crate) answers: Answers,
+    pub answers: Answers,
     // how many maps clients have sent
     maps: u32,
     texts: Vec<Vec<u8>>,
@@ -122,7 +122,7 @@ pub(crate) struct Ledger {
 
 impl Ledger {
     /// Nothing was seen.
-    pub(crate) fn new(alloc: Global) -> Self {
+    pub fn new(alloc: Global) -> Self {
         Ledger {
             alloc,
             answers: Answers::default(),
@@ -137,47 +137,47 @@ impl Ledger {
     }
 
     /// An allocation has failed.
-    pub(crate) fn cut(&mut self) {
+    pub fn cut(&mut self) {
         self.is_cut = true;
     }
 
     /// Whether an allocation has failed.
-    pub(crate) fn is_cut(&self) -> bool {
+    pub fn is_cut(&self) -> bool {
         self.is_cut
     }
 
     /// The number of the next map.
-    pub(crate) fn take_map(&mut self) -> u32 {
+    pub fn take_map(&mut self) -> u32 {
         let map = self.maps;
         self.maps = map.saturating_add(1);
         map
     }
 
     /// Notes a violation.
-    pub(crate) fn violate(&mut self, violation: Violation) {
+    pub fn violate(&mut self, violation: Violation) {
         if self.violations.push(violation).is_err() {
             self.cut();
         }
     }
 
     /// How many violations there are.
-    pub(crate) fn violated(&self) -> usize {
+    pub fn violated(&self) -> usize {
         self.violations.len()
     }
 
     /// How many maps were published.
-    pub(crate) fn published(&self) -> usize {
+    pub fn published(&self) -> usize {
         self.texts.len()
     }
 
     /// How many maps were reported as published.
-    pub(crate) fn reported(&self) -> usize {
+    pub fn reported(&self) -> usize {
         self.reports.len()
     }
 
     /// Notes what a process has published, of which so many sequences were noted. Returns how many
     /// it has.
-    pub(crate) fn note_list(&mut self, process: Process, history: &History, noted: u16) -> u16 {
+    pub fn note_list(&mut self, process: Process, history: &History, noted: u16) -> u16 {
         let published = history.published().number();
         if published < noted {
             self.violate(Violation::WentBack(process, noted, published));
@@ -194,7 +194,7 @@ impl Ledger {
     }
 
     /// Notes a map that a process has published.
-    pub(crate) fn note_text(&mut self, process: Process, sequence: u16, text: &[u8]) {
+    pub fn note_text(&mut self, process: Process, sequence: u16, text: &[u8]) {
         match self.texts.get((sequence as usize).saturating_sub(1)) {
             Some(known) => if known.as_slice() != text {
                 self.violate(Violation::TwoMaps(process, sequence));
@@ -225,7 +225,7 @@ impl Ledger {
     }
 
     /// Notes that a map was reported as published.
-    pub(crate) fn note_report(&mut self, sequence: u16, map: u32) {
+    pub fn note_report(&mut self, sequence: u16, map: u32) {
         if self.reports.push((sequence, map)).is_err() {
             self.cut();
         }
@@ -244,7 +244,7 @@ impl Ledger {
     }
 
     /// Compares all reports with what is published at the end.
-    pub(crate) fn compare_reports(&mut self) {
+    pub fn compare_reports(&mut self) {
         for index in 0..self.reports.len() {
             if let Some((sequence, map)) = self.reports.get(index).copied() {
                 self.compare_report(sequence, map);
@@ -253,13 +253,7 @@ impl Ledger {
     }
 
     /// Notes what a process answered to a request about a sequence.
-    pub(crate) fn note_answer(
-        &mut self,
-        process: Process,
-        sequence: u16,
-        request: Seen,
-        answer: &[u8],
-    ) {
+    pub fn note_answer(&mut self, process: Process, sequence: u16, request: Seen, answer: &[u8]) {
         let digest = digest_of(NO_BYTES, answer);
         match known_in(self.seen.as_slice(), sequence, request) {
             Some(known) => if known != digest {
@@ -272,19 +266,19 @@ impl Ledger {
     }
 
     /// Notes that a node says that a peer refuses it.
-    pub(crate) fn note_suspended(&mut self, node: u8) {
+    pub fn note_suspended(&mut self, node: u8) {
         if !self.is_suspended(node) && self.suspended.push(node).is_err() {
             self.cut();
         }
     }
 
     /// Whether a node has said that a peer refuses it.
-    pub(crate) fn is_suspended(&self, node: u8) -> bool {
+    pub fn is_suspended(&self, node: u8) -> bool {
         self.suspended.contains(&node)
     }
 
     /// Writes what was violated, a line each behind these words.
-    pub(crate) fn write(&self, before: &str, answer: &mut Transcript) {
+    pub fn write(&self, before: &str, answer: &mut Transcript) {
         for violation in self.violations.iter().take(MOST_TOLD) {
             answer.text(before);
             answer.value(*violation);
@@ -293,7 +287,7 @@ impl Ledger {
     }
 
     /// The digest of all that was published, reported and answered.
-    pub(crate) fn digest(&self) -> u64 {
+    pub fn digest(&self) -> u64 {
         let mut digest = NO_BYTES;
         for text in &self.texts {
             digest = digest_of(digest, text.as_slice());

@@ -18,7 +18,7 @@ const EPOCH_SECONDS: u64 = 1_800_000_000;
 /// has no files and no sockets of the system. Lines of errors are counted, and printed where that
 /// was asked.
 #[derive(Drop)]
-pub(crate) struct Machine<'a, R> {
+pub struct Machine<'a, R> {
     rt: &'a R,
     alloc: Global,
     lag: &'a Lag,
@@ -29,7 +29,7 @@ pub(crate) struct Machine<'a, R> {
 
 impl<'a, R> Machine<'a, R> {
     /// A runtime whose time is 0.
-    pub(crate) fn new(rt: &'a R, alloc: Global, lag: &'a Lag, is_printed: bool) -> Self {
+    pub fn new(rt: &'a R, alloc: Global, lag: &'a Lag, is_printed: bool) -> Self {
         Machine {
             rt,
             alloc,
@@ -41,22 +41,22 @@ impl<'a, R> Machine<'a, R> {
     }
 
     /// The time that syncs take.
-    pub(crate) fn lag(&self) -> &'a Lag {
+    pub fn lag(&self) -> &'a Lag {
         self.lag
     }
 
     /// The time, in milliseconds.
-    pub(crate) fn millis(&self) -> u64 {
+    pub fn millis(&self) -> u64 {
         self.millis.get()
     }
 
     /// Sets the time.
-    pub(crate) fn set_millis(&self, millis: u64) {
+    pub fn set_millis(&self, millis: u64) {
         self.millis.set(millis);
     }
 
     /// How many lines were written.
-    pub(crate) fn lines(&self) -> u64 {
+    pub fn lines(&self) -> u64 {
         self.lines.get()
     }
 

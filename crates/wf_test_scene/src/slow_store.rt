@@ -10,7 +10,7 @@ use wf_tape::{DiskTape, Tape, TapeFault};
 /// A tape of a folder in memory whose syncs take time. No clause says what it holds, so it isn't
 /// durable.
 #[derive(Drop)]
-pub(crate) struct SlowTape<'a> {
+pub struct SlowTape<'a> {
     tape: DiskTape<SharedDisk<'a>>,
     lag: &'a Lag,
 }
@@ -67,14 +67,14 @@ impl<'a> Tape for SlowTape<'a> {
 
 /// A folder in memory, as the process sees it that has it, whose syncs take time.
 #[derive(Drop)]
-pub(crate) struct SlowStore<'a> {
+pub struct SlowStore<'a> {
     store: MemoryStore<'a>,
     lag: &'a Lag,
 }
 
 impl<'a> SlowStore<'a> {
     /// A folder whose syncs take the time of this lag.
-    pub(crate) fn new(folder: &'a MemoryFolder, lag: &'a Lag) -> Self {
+    pub fn new(folder: &'a MemoryFolder, lag: &'a Lag) -> Self {
         SlowStore {
             store: MemoryStore::new(folder),
             lag,

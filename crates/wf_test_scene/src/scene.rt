@@ -6,9 +6,9 @@ use wf_simulation::World;
 
 /// The network, the host of the clients, and the time in milliseconds.
 #[derive(Clone, Copy)]
-pub(crate) struct Scene<'a> {
-    pub(crate) alloc: Global,
-    pub(crate) world: &'a RefCell<World>,
-    pub(crate) host: usize,
-    pub(crate) time: u64,
+pub struct Scene<'a> {
+    pub alloc: Global,
+    pub world: &'a RefCell<World>,
+    pub host: usize,
+    pub time: u64,
 }

@@ -4,7 +4,7 @@ use std::fmt;
 
 /// A process of a farm, by its host.
 #[derive(Clone, Copy, Debug)]
-pub(crate) enum Process {
+pub enum Process {
     /// A node, whose host has its number.
     Node(u8),
     /// A replica.
@@ -13,14 +13,14 @@ pub(crate) enum Process {
 
 impl Process {
     /// Its host.
-    pub(crate) fn host(self) -> u8 {
+    pub fn host(self) -> u8 {
         match self {
             Process::Node(host) | Process::Replica(host) => host,
         }
     }
 
     /// Whether it is a replica.
-    pub(crate) fn is_replica(self) -> bool {
+    pub fn is_replica(self) -> bool {
         matches!(self, Process::Replica(_))
     }
 }

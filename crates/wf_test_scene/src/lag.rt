@@ -7,7 +7,7 @@ const MOST_MILLIS: u64 = 1_000;
 
 /// How long a sync takes of the process whose turn it is, and the time that its syncs took.
 #[derive(Drop)]
-pub(crate) struct Lag {
+pub struct Lag {
     each: Cell<u64>,
     passed: Cell<u64>,
     // how many took any time
@@ -16,7 +16,7 @@ pub(crate) struct Lag {
 
 impl Lag {
     /// Syncs take no time.
-    pub(crate) fn new() -> Self {
+    pub fn new() -> Self {
         Lag {
             each: Cell::new(0),
             passed: Cell::new(0),
@@ -25,20 +25,20 @@ impl Lag {
     }
 
     /// A turn begins in which each sync takes so many milliseconds.
-    pub(crate) fn begin(&self, each: u64) {
+    pub fn begin(&self, each: u64) {
         self.each.set(each);
         self.passed.set(0);
     }
 
     /// The turn is over. Returns how many milliseconds its syncs took.
-    pub(crate) fn end(&self) -> u64 {
+    pub fn end(&self) -> u64 {
         let passed = self.passed.get();
         self.begin(0);
         passed
     }
 
     /// A file is synced.
-    pub(crate) fn sync(&self) {
+    pub fn sync(&self) {
         let each = self.each.get();
         if each != 0 {
             let passed = self.passed.get().saturating_add(each);
@@ -48,12 +48,12 @@ impl Lag {
     }
 
     /// How many milliseconds the syncs of the turn have taken.
-    pub(crate) fn passed(&self) -> u64 {
+    pub fn passed(&self) -> u64 {
         self.passed.get()
     }
 
     /// How many syncs have taken any time.
-    pub(crate) fn count(&self) -> u64 {
+    pub fn count(&self) -> u64 {
         self.count.get()
     }
 }

@@ -9,17 +9,17 @@ use wf_simulation::World;
 use wf_store::MemoryFolder;
 
 /// The most sockets of a turn.
-pub(crate) const MOST_READY: usize = 64;
+pub const MOST_READY: usize = 64;
 
 /// A host: its folder, which outlives its process, its clock, and when its process does something.
 #[derive(Drop)]
-pub(crate) struct Host<'a> {
-    pub(crate) number: u8,
-    pub(crate) folder: &'a MemoryFolder,
+pub struct Host<'a> {
+    pub number: u8,
+    pub folder: &'a MemoryFolder,
     /// When the next turn is due, or the next start.
-    pub(crate) due: u64,
+    pub due: u64,
     /// How many sequences its process had published when that was noted last.
-    pub(crate) published: u16,
+    pub published: u16,
     lag: &'a Lag,
     // how many milliseconds a sync takes, until when that is so, and until when its process waits
     // for one
@@ -36,7 +36,7 @@ pub(crate) struct Host<'a> {
 impl<'a> Host<'a> {
     /// A host whose process is to be started at this time. Its clock is ahead by as many minutes as
     /// its number says.
-    pub(crate) fn new(number: u8, folder: &'a MemoryFolder, lag: &'a Lag, due: u64) -> Self {
+    pub fn new(number: u8, folder: &'a MemoryFolder, lag: &'a Lag, due: u64) -> Self {
         Host {
             number,
             folder,
@@ -53,17 +53,17 @@ impl<'a> Host<'a> {
     }
 
     /// The time of its clock.
-    pub(crate) fn clock(&self, time: u64) -> u64 {
+    pub fn clock(&self, time: u64) -> u64 {
         time.saturating_add(self.ahead)
     }
 
     /// How many calls of its disks have failed.
-    pub(crate) fn failed(&self) -> u64 {
+    pub fn failed(&self) -> u64 {
         self.failed
     }
 
     /// It is turned on, unless it is, and no call of its disks fails. Random bits are these.
-    pub(crate) fn turn_on(&mut self, world: &RefCell<World>, bits: [u8; 16]) {
+    pub fn turn_on(&mut self, world: &RefCell<World>, bits: [u8; 16]) {
         if let Ok(mut world) = world.try_borrow_mut() {
             world.turn_on(self.number as usize);
         }
@@ -73,17 +73,17 @@ impl<'a> Host<'a> {
     }
 
     /// The folder, as its process sees it: its syncs take time.
-    pub(crate) fn store(&self) -> SlowStore<'a> {
+    pub fn store(&self) -> SlowStore<'a> {
         SlowStore::new(self.folder, self.lag)
     }
 
     /// Whether its process waits for a sync.
-    pub(crate) fn is_busy(&self, time: u64) -> bool {
+    pub fn is_busy(&self, time: u64) -> bool {
         time < self.busy_until
     }
 
     /// A turn of its process begins.
-    pub(crate) fn begin(&self, time: u64) {
+    pub fn begin(&self, time: u64) {
         self.lag.begin(if time < self.slow_until {
             self.sync_millis
         } else {
@@ -92,13 +92,13 @@ impl<'a> Host<'a> {
     }
 
     /// The turn is over. Returns when its process has waited for all syncs of it.
-    pub(crate) fn end(&mut self, time: u64) -> u64 {
+    pub fn end(&mut self, time: u64) -> u64 {
         self.busy_until = time.saturating_add(self.lag.end());
         self.busy_until
     }
 
     /// A fault happens. Returns whether the process ends by it.
-    pub(crate) fn fail(&mut self, world: &RefCell<World>, time: u64, stroke: &Stroke) -> bool {
+    pub fn fail(&mut self, world: &RefCell<World>, time: u64, stroke: &Stroke) -> bool {
         match stroke.fault {
             Fault::Kill => self.due = stroke.back,
             Fault::Cut => {
@@ -140,14 +140,14 @@ impl<'a> Host<'a> {
 
     /// All faults are over: no call of its disks fails or takes time any more, and its process is
     /// started by this time at the latest.
-    pub(crate) fn heal(&mut self, time: u64) {
+    pub fn heal(&mut self, time: u64) {
         self.slow_until = 0;
         self.due = self.due.min(time);
         self.mend_disk();
     }
 
     /// Counts the call of its disks that has failed, if one has.
-    pub(crate) fn count_failure(&mut self) {
+    pub fn count_failure(&mut self) {
         if self.will_fail && !self.folder.will_fail() {
             self.will_fail = false;
             self.failed = self.failed.saturating_add(1);
@@ -156,7 +156,7 @@ impl<'a> Host<'a> {
 
     /// Puts the tokens of its sockets that may be ready to the front of a buffer, and returns how
     /// many they are.
-    pub(crate) fn take_ready(&self, world: &RefCell<World>, tokens: &mut [usize]) -> usize {
+    pub fn take_ready(&self, world: &RefCell<World>, tokens: &mut [usize]) -> usize {
         let Ok(mut world) = world.try_borrow_mut() else {
             return 0;
         };

@@ -8,7 +8,7 @@ use wf_line::{InitLine, NodeCommand, NodeLine, ReplicaLine};
 use wf_simulation::address_of;
 
 /// The name of the farm.
-pub(crate) const FARM: &str = "simulated";
+pub const FARM: &str = "simulated";
 
 /// The port of a node for its peers.
 const PEER_PORT: u16 = 7_000;
@@ -18,7 +18,7 @@ const READERS_PORT: u16 = 9_100;
 
 /// A port of a process to which others come.
 #[derive(Clone, Copy)]
-pub(crate) enum Port {
+pub enum Port {
     /// Clients come there.
     Http,
     /// Its operator does.
@@ -30,7 +30,7 @@ pub(crate) enum Port {
 /// The addresses of the processes of a farm, as its command lines have them: those of a host at its
 /// index, and of all nodes where peers come, and readers.
 #[derive(Drop)]
-pub(crate) struct Names {
+pub struct Names {
     peers: String,
     sources: String,
     http: Vec<String>,
@@ -63,7 +63,7 @@ fn list_of(alloc: Global, nodes: u8, port: u16) -> Result<String, AllocError> {
 
 impl Names {
     /// Those of a farm of so many nodes, on so many hosts.
-    pub(crate) fn new(alloc: Global, nodes: u8, hosts: u8) -> Result<Names, AllocError> {
+    pub fn new(alloc: Global, nodes: u8, hosts: u8) -> Result<Names, AllocError> {
         Ok(Names {
             peers: list_of(alloc, nodes, PEER_PORT)?,
             sources: list_of(alloc, nodes, READERS_PORT)?,
@@ -74,7 +74,7 @@ impl Names {
     }
 
     /// The command line that serves a node.
-    pub(crate) fn node_line(&self, node: usize) -> NodeLine<'_>
+    pub fn node_line(&self, node: usize) -> NodeLine<'_>
         ensures { IsNodeInRange result }
     {
         NodeLine {
@@ -92,7 +92,7 @@ impl Names {
     }
 
     /// The command line that serves the replica of a host.
-    pub(crate) fn replica_line(&self, host: usize) -> ReplicaLine<'_>
+    pub fn replica_line(&self, host: usize) -> ReplicaLine<'_>
         ensures { IsReplicaInRange result }
     {
         ReplicaLine {
@@ -117,7 +117,7 @@ fn text_at(texts: &[String], index: usize) -> &str {
 }
 
 /// The address of a host at a port.
-pub(crate) fn address_at(host: u8, port: Port) -> SocketAddr {
+pub fn address_at(host: u8, port: Port) -> SocketAddr {
     let port = match port {
         Port::Http => 8_000,
         Port::Admin => 9_000,
@@ -128,7 +128,7 @@ pub(crate) fn address_at(host: u8, port: Port) -> SocketAddr {
 
 /// The command line that makes the folder of a node of so many, which joins in the place of a lost
 /// one if it replaces that.
-pub(crate) fn init_line(node: u8, nodes: u8, replaces: bool) -> NodeCommand<'static>
+pub fn init_line(node: u8, nodes: u8, replaces: bool) -> NodeCommand<'static>
     ensures { IsNodeCommandInRange result }
 {
     NodeCommand::Init(InitLine {

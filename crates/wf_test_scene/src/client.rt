@@ -34,7 +34,7 @@ const LARGE_SIDE: u32 = 160;
 
 /// What a client does.
 #[derive(Clone, Copy, PartialEq)]
-pub(crate) enum Role {
+pub enum Role {
     /// It publishes.
     Publisher,
     /// It asks for capabilities and pictures.
@@ -46,10 +46,10 @@ pub(crate) enum Role {
 }
 
 /// Each of them.
-pub(crate) const ROLES: [Role; 4] = [Role::Publisher, Role::Viewer, Role::Operator, Role::Reader];
+pub const ROLES: [Role; 4] = [Role::Publisher, Role::Viewer, Role::Operator, Role::Reader];
 
 /// Those of the clients of a replica.
-pub(crate) const REPLICA_ROLES: [Role; 3] = [Role::Viewer, Role::Operator, Role::Reader];
+pub const REPLICA_ROLES: [Role; 3] = [Role::Viewer, Role::Operator, Role::Reader];
 
 /// How a client stops: it sends half of a request, or a whole one and takes no byte of the
 /// response.
@@ -97,7 +97,7 @@ enum Goal {
 
 /// A client of a process.
 #[derive(Drop)]
-pub(crate) struct Client<'a> {
+pub struct Client<'a> {
     process: Process,
     role: Role,
     goal: Goal,
@@ -120,7 +120,7 @@ pub(crate) struct Client<'a> {
 
 impl<'a> Client<'a> {
     /// A client that begins at this time.
-    pub(crate) fn new(process: Process, role: Role, next: u64) -> Self {
+    pub fn new(process: Process, role: Role, next: u64) -> Self {
         Client {
             process,
             role,
@@ -139,17 +139,17 @@ impl<'a> Client<'a> {
     }
 
     /// The process of which it is.
-    pub(crate) fn process(&self) -> Process {
+    pub fn process(&self) -> Process {
         self.process
     }
 
     /// Whether it has had the answer that it wants since all faults are over.
-    pub(crate) fn is_served(&self) -> bool {
+    pub fn is_served(&self) -> bool {
         self.is_served
     }
 
     /// When it does something next where no bytes come.
-    pub(crate) fn due(&self) -> u64 {
+    pub fn due(&self) -> u64 {
         match &self.exchange {
             Some(exchange) => exchange.deadline(),
             None => if self.is_at_rest() {
@@ -161,13 +161,13 @@ impl<'a> Client<'a> {
     }
 
     /// Whether it is an operator.
-    pub(crate) fn is_operator(&self) -> bool {
+    pub fn is_operator(&self) -> bool {
         self.role == Role::Operator
     }
 
     /// How many connections of clients and of readers its process had, as it was told since all is
     /// healed. None: it wasn't.
-    pub(crate) fn open(&self) -> Option<(u32, u32)> {
+    pub fn open(&self) -> Option<(u32, u32)> {
         self.open
     }
 
@@ -192,7 +192,7 @@ impl<'a> Client<'a> {
     }
 
     /// A fault happens: if it is the client that is meant, its next request stops.
-    pub(crate) fn stop(&mut self, stroke: &Stroke) {
+    pub fn stop(&mut self, stroke: &Stroke) {
         if self.process.host() as usize == stroke.host && is_role_at(self.role, stroke.kept) {
             self.stop = Some(if stroke.older == 0 {
                 Stop::Within
@@ -203,7 +203,7 @@ impl<'a> Client<'a> {
     }
 
     /// All faults are over: it begins anew, at once. A folder joins then, or doesn't.
-    pub(crate) fn heal(&mut self, time: u64, has_joiner: bool) {
+    pub fn heal(&mut self, time: u64, has_joiner: bool) {
         self.end();
         self.goal = Goal::Nothing;
         self.next = time;
@@ -215,7 +215,7 @@ impl<'a> Client<'a> {
 
     /// All is healed: it goes, but for the connection on which it has stopped. An operator counts
     /// connections.
-    pub(crate) fn leave(&mut self, time: u64) {
+    pub fn leave(&mut self, time: u64) {
         self.end();
         self.goal = Goal::Nothing;
         self.next = time;
@@ -223,19 +223,19 @@ impl<'a> Client<'a> {
     }
 
     /// It goes, and closes the connection on which it has stopped.
-    pub(crate) fn go(&mut self) {
+    pub fn go(&mut self) {
         self.end();
         drop(self.stopped.take());
         self.period = Period::Gone;
     }
 
     /// Closes its connection, if it has one.
-    pub(crate) fn end(&mut self) {
+    pub fn end(&mut self) {
         drop(self.exchange.take());
     }
 
     /// Begins a request if it is time to, and goes on with one that has begun.
-    pub(crate) fn turn(&mut self, scene: &Scene<'a>, dice: &mut Dice, ledger: &mut Ledger) {
+    pub fn turn(&mut self, scene: &Scene<'a>, dice: &mut Dice, ledger: &mut Ledger) {
         self.send_stopped();
         match self.exchange.take() {
             Some(exchange) => self.go_on(exchange, scene, dice, ledger),

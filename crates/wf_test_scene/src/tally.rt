@@ -39,30 +39,30 @@ const WORDS: [&str; 31] = [
 
 /// How often what happened, in a play or in several.
 #[derive(Clone, Copy)]
-pub(crate) struct Tally {
+pub struct Tally {
     counts: [u64; 31],
 }
 
 impl Tally {
     /// Nothing happened.
-    pub(crate) fn new() -> Self {
+    pub fn new() -> Self {
         Tally { counts: [0; 31] }
     }
 
     /// So much happened, in the order of the words.
-    pub(crate) fn of(counts: [u64; 31]) -> Self {
+    pub fn of(counts: [u64; 31]) -> Self {
         Tally { counts }
     }
 
     /// That happened too.
-    pub(crate) fn add(&mut self, other: &Tally) {
+    pub fn add(&mut self, other: &Tally) {
         for (count, more) in self.counts.iter_mut().zip(other.counts) {
             *count = count.saturating_add(more);
         }
     }
 
     /// Writes each count behind its word, and then a digest.
-    pub(crate) fn write(&self, digest: u64, answer: &mut Transcript) {
+    pub fn write(&self, digest: u64, answer: &mut Transcript) {
         for (word, count) in WORDS.iter().zip(self.counts) {
             answer.texts(&[*word, " "]);
             answer.value(count);

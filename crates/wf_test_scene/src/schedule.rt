@@ -9,27 +9,27 @@ const STREAM: u64 = 9;
 
 /// A fault, with all that is drawn for one.
 #[derive(Clone, Copy)]
-pub(crate) struct Stroke {
+pub struct Stroke {
     /// Which it is, and its index in `FAULTS`.
-    pub(crate) fault: Fault,
-    pub(crate) kind: usize,
+    pub fault: Fault,
+    pub kind: usize,
     /// The host at which it happens, and another one, or that of the clients.
-    pub(crate) host: usize,
-    pub(crate) other: usize,
+    pub host: usize,
+    pub other: usize,
     /// Until when others aren't reached, and when a process is started again.
-    pub(crate) until: u64,
-    pub(crate) back: u64,
+    pub until: u64,
+    pub back: u64,
     /// Which call of a disk fails; how much is kept of what isn't synced, or how long a sync takes,
     /// or which client stops; and whether the file from before is put back, or the client stops
     /// behind its request.
-    pub(crate) call: usize,
-    pub(crate) kept: usize,
-    pub(crate) older: usize,
+    pub call: usize,
+    pub kept: usize,
+    pub older: usize,
 }
 
 /// The faults of a play, one after another.
 #[derive(Drop)]
-pub(crate) struct Schedule {
+pub struct Schedule {
     plan: Plan,
     dice: Dice,
     due: u64,
@@ -39,7 +39,7 @@ pub(crate) struct Schedule {
 
 impl Schedule {
     /// The faults of a plan.
-    pub(crate) fn new(plan: Plan) -> Self {
+    pub fn new(plan: Plan) -> Self {
         let mut dice = Dice::new(plan.seed, STREAM);
         let due = dice.millis(1_000, 3_000);
         Schedule {
@@ -51,17 +51,17 @@ impl Schedule {
     }
 
     /// When the next one is due.
-    pub(crate) fn due(&self) -> u64 {
+    pub fn due(&self) -> u64 {
         self.due
     }
 
     /// No more come.
-    pub(crate) fn end(&mut self) {
+    pub fn end(&mut self) {
         self.due = u64::MAX;
     }
 
     /// Takes the next one, if it is due, and if the plan doesn't leave it out.
-    pub(crate) fn take(&mut self, time: u64) -> Option<Stroke> {
+    pub fn take(&mut self, time: u64) -> Option<Stroke> {
         if time < self.due {
             return None;
         }

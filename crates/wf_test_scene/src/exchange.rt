@@ -17,7 +17,7 @@ const MOST_CALLS: u32 = 64;
 
 /// How far an exchange is.
 #[derive(Clone, Copy, PartialEq)]
-pub(crate) enum Stage {
+pub enum Stage {
     /// The response isn't whole.
     Waiting,
     /// It is.
@@ -28,7 +28,7 @@ pub(crate) enum Stage {
 
 /// By what a response is known to be whole.
 #[derive(Clone, Copy)]
-pub(crate) enum Ending {
+pub enum Ending {
     /// The connection ends behind it, and its head says how long it is.
     Close,
     /// Its first four bytes say how long it is.
@@ -37,7 +37,7 @@ pub(crate) enum Ending {
 
 /// A connection on which a request is sent, and its response read.
 #[derive(Drop)]
-pub(crate) struct Exchange<'a> {
+pub struct Exchange<'a> {
     connection: SimulatedConnection<'a>,
     request: Vec<u8>,
     sent: usize,
@@ -48,7 +48,7 @@ pub(crate) struct Exchange<'a> {
 
 impl<'a> Exchange<'a> {
     /// Begins a request to an address. None: no connection is free.
-    pub(crate) fn begin(
+    pub fn begin(
         scene: &Scene<'a>,
         address: SocketAddr,
         ending: Ending,
@@ -71,27 +71,27 @@ impl<'a> Exchange<'a> {
     }
 
     /// What came of the response.
-    pub(crate) fn response(&self) -> &[u8] {
+    pub fn response(&self) -> &[u8] {
         self.response.as_slice()
     }
 
     /// When it fails if nothing comes.
-    pub(crate) fn deadline(&self) -> u64 {
+    pub fn deadline(&self) -> u64 {
         self.deadline
     }
 
     /// The second half of the request is never sent.
-    pub(crate) fn halve(&mut self) {
+    pub fn halve(&mut self) {
         self.request.truncate(self.request.len() / 2);
     }
 
     /// Writes as much as can be now, and reads nothing.
-    pub(crate) fn send(&mut self) {
+    pub fn send(&mut self) {
         let _ = self.write_all();
     }
 
     /// Writes and reads as much as can be now.
-    pub(crate) fn turn(&mut self, time: u64) -> Stage {
+    pub fn turn(&mut self, time: u64) -> Stage {
         let written = self.write_all();
         let stage = match written {
             Moved::Failed => Stage::Failed,
@@ -167,7 +167,7 @@ fn length_of(response: &[u8]) -> Option<usize> {
 }
 
 /// The head of a response, with the empty line behind it.
-pub(crate) fn head_of(response: &[u8]) -> Option<&str> {
+pub fn head_of(response: &[u8]) -> Option<&str> {
     for count in 0..response.len() {
         let (head, _) = response.split_at(count.saturating_add(1).min(response.len()));
         if head.ends_with(b"\r\n\r\n") {
@@ -178,12 +178,12 @@ pub(crate) fn head_of(response: &[u8]) -> Option<&str> {
 }
 
 /// The text of a response; an empty one if it is none.
-pub(crate) fn text_of(response: &[u8]) -> &str {
+pub fn text_of(response: &[u8]) -> &str {
     str::from_utf8(response).unwrap_or("")
 }
 
 /// The number that stands behind the first of these marks in a text.
-pub(crate) fn number_behind(text: &str, mark: &str) -> Option<u32> {
+pub fn number_behind(text: &str, mark: &str) -> Option<u32> {
     let (_, rest) = text.split_once(mark)?;
     let mut number = None;
     for byte in rest.as_bytes() {

@@ -5,7 +5,7 @@ use wf_test_table::{CaseWords, Unanswered};
 
 /// What goes wrong at a time, once.
 #[derive(Clone, Copy)]
-pub(crate) enum Fault {
+pub enum Fault {
     /// A process and all others don't reach each other, in silence, for a time.
     Alone,
     /// What a process sends to another, or to the clients, doesn't come for a time.
@@ -25,7 +25,7 @@ pub(crate) enum Fault {
 }
 
 /// Each of them, with its word, and the word that leaves it out.
-pub(crate) const FAULTS: [(&str, &str, Fault); 8] = [
+pub const FAULTS: [(&str, &str, Fault); 8] = [
     ("alone", "no-alone", Fault::Alone),
     ("one-way", "no-one-way", Fault::OneWay),
     ("kills", "no-kills", Fault::Kill),
@@ -39,7 +39,7 @@ pub(crate) const FAULTS: [(&str, &str, Fault); 8] = [
 /// What takes the place of the folder of node 0 once the faults are over. The node has to be
 /// refused then, unless its folder joins.
 #[derive(Clone, Copy, PartialEq)]
-pub(crate) enum Relapse {
+pub enum Relapse {
     /// Its folder stays.
     Nothing,
     /// An empty folder.
@@ -56,17 +56,17 @@ pub(crate) enum Relapse {
 
 impl Relapse {
     /// Whether files of the middle of the play are put back.
-    pub(crate) fn is_copied(self) -> bool {
+    pub fn is_copied(self) -> bool {
         matches!(self, Relapse::Older | Relapse::Tape)
     }
 
     /// Whether the node has to be refused: its peers have to suspend it, or it may not start.
-    pub(crate) fn is_refused(self) -> bool {
+    pub fn is_refused(self) -> bool {
         self == Relapse::Older || self.is_unstartable()
     }
 
     /// Whether the node may not start.
-    pub(crate) fn is_unstartable(self) -> bool {
+    pub fn is_unstartable(self) -> bool {
         matches!(self, Relapse::Lost | Relapse::Tape | Relapse::Gone)
     }
 }
@@ -82,34 +82,34 @@ const MOST_REPLICAS: u32 = 3;
 
 /// A play: its seed, how many nodes and replicas, for how long, and what goes wrong.
 #[derive(Clone, Copy)]
-pub(crate) struct Plan {
-    pub(crate) seed: u64,
-    pub(crate) nodes: u8,
-    pub(crate) replicas: u8,
+pub struct Plan {
+    pub seed: u64,
+    pub nodes: u8,
+    pub replicas: u8,
     /// Whether their number is the seed's.
-    pub(crate) has_any_replicas: bool,
-    pub(crate) seconds: u64,
-    pub(crate) network: Faults,
+    pub has_any_replicas: bool,
+    pub seconds: u64,
+    pub network: Faults,
     /// Between two faults there are so many milliseconds at most.
-    pub(crate) pause: u32,
+    pub pause: u32,
     /// How often each fault is drawn, in the order of `FAULTS`, and whether none of a kind happens.
-    pub(crate) weights: [u32; 8],
-    pub(crate) skips: [bool; 8],
+    pub weights: [u32; 8],
+    pub skips: [bool; 8],
     /// The first and the last of the drawn faults that happen, counted from 1.
-    pub(crate) first: u32,
-    pub(crate) last: u32,
+    pub first: u32,
+    pub last: u32,
     /// What becomes of the folder of node 0, and whether all nodes are killed then.
-    pub(crate) relapse: Relapse,
-    pub(crate) kills_all: bool,
+    pub relapse: Relapse,
+    pub kills_all: bool,
     /// Whether the first replica loses its folder in the middle.
-    pub(crate) loses_replica: bool,
+    pub loses_replica: bool,
     /// Whether the log is printed.
-    pub(crate) is_printed: bool,
+    pub is_printed: bool,
 }
 
 impl Plan {
     /// The plan of `NODES SECONDS [KIND NUMBER]..`, whose seed is 0.
-    pub(crate) fn parse(words: &mut CaseWords<'_>) -> Result<Plan, Unanswered> {
+    pub fn parse(words: &mut CaseWords<'_>) -> Result<Plan, Unanswered> {
         let mut plan = Plan {
             seed: 0,
             nodes: words.byte()?,
@@ -140,7 +140,7 @@ impl Plan {
 
     /// The play of a seed by this plan. A plan of 0 nodes leaves their number to the seed, and so
     /// does one of more than 3 replicas.
-    pub(crate) fn of_seed(&self, seed: u64) -> Plan {
+    pub fn of_seed(&self, seed: u64) -> Plan {
         let mut plan = *self;
         plan.seed = seed;
         if plan.nodes == 0 {
@@ -156,17 +156,17 @@ impl Plan {
 
     /// How many hosts there are: those of the nodes, that of the clients, and those of the
     /// replicas.
-    pub(crate) fn hosts(&self) -> u8 {
+    pub fn hosts(&self) -> u8 {
         self.nodes.saturating_add(1).saturating_add(self.replicas)
     }
 
     /// The host of the clients.
-    pub(crate) fn client_host(&self) -> u8 {
+    pub fn client_host(&self) -> u8 {
         self.nodes
     }
 
     /// The host of the process of this index, that of a node or of a replica.
-    pub(crate) fn host_at(&self, index: usize) -> usize {
+    pub fn host_at(&self, index: usize) -> usize {
         index.saturating_add((self.nodes as usize <= index) as usize)
     }
 
@@ -211,19 +211,19 @@ impl Plan {
     }
 
     /// Whether the fault of this number, counted from 1, and of this kind happens.
-    pub(crate) fn has(&self, number: u32, kind: usize) -> bool {
+    pub fn has(&self, number: u32, kind: usize) -> bool {
         let is_skipped = self.skips.get(kind).copied().unwrap_or(false);
         self.first <= number && number <= self.last && !is_skipped
     }
 
     /// Whether clients may stop.
-    pub(crate) fn has_stops(&self) -> bool {
+    pub fn has_stops(&self) -> bool {
         let [_, _, _, _, _, _, _, stops] = self.weights;
         stops != 0
     }
 
     /// The index of the fault for a number that is drawn below the sum of all weights.
-    pub(crate) fn fault_at(&self, drawn: u32) -> usize {
+    pub fn fault_at(&self, drawn: u32) -> usize {
         let mut rest = drawn;
         for (index, weight) in self.weights.iter().enumerate() {
             if rest < *weight {
@@ -235,7 +235,7 @@ impl Plan {
     }
 
     /// The sum of all weights.
-    pub(crate) fn total(&self) -> u32 {
+    pub fn total(&self) -> u32 {
         let mut total = 0u32;
         for weight in self.weights {
             total = total.saturating_add(weight);
