@@ -26,6 +26,8 @@ pub struct Host<'a> {
     sync_millis: u64,
     slow_until: u64,
     busy_until: u64,
+    // until when its disks are full
+    full_until: u64,
     // by how much its clock is ahead, in milliseconds
     ahead: u64,
     // whether a call of its disks is to fail, and how many have
@@ -46,6 +48,7 @@ impl<'a> Host<'a> {
             sync_millis: 0,
             slow_until: 0,
             busy_until: 0,
+            full_until: 0,
             ahead: u64::from(number).saturating_mul(60_000),
             will_fail: false,
             failed: 0,
@@ -62,13 +65,15 @@ impl<'a> Host<'a> {
         self.failed
     }
 
-    /// It is turned on, unless it is, and no call of its disks fails. Random bits are these.
+    /// It is turned on, unless it is, no call of its disks fails, and there is room on them. Random
+    /// bits are these.
     pub fn turn_on(&mut self, world: &RefCell<World>, bits: [u8; 16]) {
         if let Ok(mut world) = world.try_borrow_mut() {
             world.turn_on(self.number as usize);
         }
         self.mend_disk();
         self.busy_until = 0;
+        self.full_until = 0;
         self.folder.set_bits(bits);
     }
 
@@ -84,11 +89,12 @@ impl<'a> Host<'a> {
 
     /// A turn of its process begins.
     pub fn begin(&self, time: u64) {
-        self.lag.begin(if time < self.slow_until {
+        let each = if time < self.slow_until {
             self.sync_millis
         } else {
             0
-        });
+        };
+        self.lag.begin(each, time < self.full_until);
     }
 
     /// The turn is over. Returns when its process has waited for all syncs of it.
@@ -115,6 +121,10 @@ impl<'a> Host<'a> {
                 self.slow_until = stroke.until;
                 return false;
             }
+            Fault::FullDisk => {
+                self.full_until = stroke.until;
+                return false;
+            }
             _ => {
                 self.folder.set_failure(stroke.call, stroke.kept);
                 self.will_fail = true;
@@ -138,10 +148,11 @@ impl<'a> Host<'a> {
         self.will_fail = false;
     }
 
-    /// All faults are over: no call of its disks fails or takes time any more, and its process is
-    /// started by this time at the latest.
+    /// All faults are over: no call of its disks fails or takes time any more, there is room on
+    /// them, and its process is started by this time at the latest.
     pub fn heal(&mut self, time: u64) {
         self.slow_until = 0;
+        self.full_until = 0;
         self.due = self.due.min(time);
         self.mend_disk();
     }

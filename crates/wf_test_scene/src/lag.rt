@@ -1,39 +1,47 @@
-//! The time that syncs take.
+//! The time that syncs take, and whether there is room for what is written.
 
 use std::cell::Cell;
 
 /// The most milliseconds that the syncs of a turn take: all is to heal soon after the last fault.
 const MOST_MILLIS: u64 = 1_000;
 
-/// How long a sync takes of the process whose turn it is, and the time that its syncs took.
+/// How long a sync takes of the process whose turn it is, the time that its syncs took, and whether
+/// its disks are full.
 #[derive(Drop)]
 pub struct Lag {
     each: Cell<u64>,
     passed: Cell<u64>,
     // how many took any time
     count: Cell<u64>,
+    is_full: Cell<bool>,
+    // how many writes found no room
+    refused: Cell<u64>,
 }
 
 impl Lag {
-    /// Syncs take no time.
+    /// Syncs take no time, and there is room.
     pub fn new() -> Self {
         Lag {
             each: Cell::new(0),
             passed: Cell::new(0),
             count: Cell::new(0),
+            is_full: Cell::new(false),
+            refused: Cell::new(0),
         }
     }
 
-    /// A turn begins in which each sync takes so many milliseconds.
-    pub fn begin(&self, each: u64) {
+    /// A turn begins in which each sync takes so many milliseconds, and each write finds no room
+    /// if the disks are full.
+    pub fn begin(&self, each: u64, is_full: bool) {
         self.each.set(each);
         self.passed.set(0);
+        self.is_full.set(is_full);
     }
 
     /// The turn is over. Returns how many milliseconds its syncs took.
     pub fn end(&self) -> u64 {
         let passed = self.passed.get();
-        self.begin(0);
+        self.begin(0, false);
         passed
     }
 
@@ -45,6 +53,20 @@ impl Lag {
             self.passed.set(passed.min(MOST_MILLIS));
             self.count.set(self.count.get().saturating_add(1));
         }
+    }
+
+    /// Whether there is no room for what is written. Counts that.
+    pub fn refuses(&self) -> bool {
+        let is_full = self.is_full.get();
+        if is_full {
+            self.refused.set(self.refused.get().saturating_add(1));
+        }
+        is_full
+    }
+
+    /// How many writes found no room.
+    pub fn refused(&self) -> u64 {
+        self.refused.get()
     }
 
     /// How many milliseconds the syncs of the turn have taken.

@@ -56,6 +56,9 @@ pub enum Violation {
     /// Nodes have more connections of readers then than there are replicas.
     #[error("{0} readers are connected, of {1} that are there")]
     ReadersNotGivenBack(u32, u8),
+    /// The processes have written more lines of their logs than what happened gives reason for.
+    #[error("{0} lines were logged, of {1} at most")]
+    TooManyLines(u64, u64),
     /// More connections are there than those of nodes to each other, and of replicas.
     #[error("{0} connections are there, of {1} that anybody has")]
     ConnectionsLeft(usize, usize),

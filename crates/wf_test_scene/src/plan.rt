@@ -22,10 +22,12 @@ pub enum Fault {
     SlowSync,
     /// A client of it stops within its next request, or takes no byte of the response.
     Stop,
+    /// There is no room on its disks for a time: each write fails.
+    FullDisk,
 }
 
 /// Each of them, with its word, and the word that leaves it out.
-pub const FAULTS: [(&str, &str, Fault); 8] = [
+pub const FAULTS: [(&str, &str, Fault); 9] = [
     ("alone", "no-alone", Fault::Alone),
     ("one-way", "no-one-way", Fault::OneWay),
     ("kills", "no-kills", Fault::Kill),
@@ -34,6 +36,7 @@ pub const FAULTS: [(&str, &str, Fault); 8] = [
     ("jumps", "no-jumps", Fault::Jump),
     ("slow-syncs", "no-slow-syncs", Fault::SlowSync),
     ("stops", "no-stops", Fault::Stop),
+    ("full-disks", "no-full-disks", Fault::FullDisk),
 ];
 
 /// What takes the place of the folder of node 0 once the faults are over. The node has to be
@@ -93,8 +96,8 @@ pub struct Plan {
     /// Between two faults there are so many milliseconds at most.
     pub pause: u32,
     /// How often each fault is drawn, in the order of `FAULTS`, and whether none of a kind happens.
-    pub weights: [u32; 8],
-    pub skips: [bool; 8],
+    pub weights: [u32; 9],
+    pub skips: [bool; 9],
     /// The first and the last of the drawn faults that happen, counted from 1.
     pub first: u32,
     pub last: u32,
@@ -118,8 +121,8 @@ impl Plan {
             seconds: u64::from(words.number()?),
             network: Faults::NONE,
             pause: 1_500,
-            weights: [0; 8],
-            skips: [false; 8],
+            weights: [0; 9],
+            skips: [false; 9],
             first: 1,
             last: u32::MAX,
             relapse: Relapse::Nothing,
@@ -218,7 +221,7 @@ impl Plan {
 
     /// Whether clients may stop.
     pub fn has_stops(&self) -> bool {
-        let [_, _, _, _, _, _, _, stops] = self.weights;
+        let [_, _, _, _, _, _, _, stops, _] = self.weights;
         stops != 0
     }
 

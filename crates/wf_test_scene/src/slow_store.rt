@@ -1,4 +1,4 @@
-//! A folder whose syncs take time.
+//! A folder whose syncs take time, and on which there may be no room.
 
 use crate::lag::Lag;
 use std::alloc::Global;
@@ -7,11 +7,29 @@ use wf_folder::Presence;
 use wf_store::{FileName, FolderFault, MemoryFolder, MemoryStore, SharedDisk, Store};
 use wf_tape::{DiskTape, Tape, TapeFault};
 
-/// A tape of a folder in memory whose syncs take time. No clause says what it holds, so it isn't
-/// durable.
+/// The first call of the disks from now fails, and keeps nothing, if there is no room. Returns
+/// whether it does.
+fn begin_write(folder: &MemoryFolder, lag: &Lag) -> bool {
+    let is_full = lag.refuses();
+    if is_full {
+        folder.set_failure(1, 0);
+    }
+    is_full
+}
+
+/// The write is over: no later call fails for want of room.
+fn end_write(folder: &MemoryFolder, is_full: bool) {
+    if is_full {
+        folder.set_failure(0, 0);
+    }
+}
+
+/// A tape of a folder in memory whose syncs take time, and whose writes may find no room. No clause
+/// says what it holds, so it isn't durable.
 #[derive(Drop)]
 pub struct SlowTape<'a> {
     tape: DiskTape<SharedDisk<'a>>,
+    folder: &'a MemoryFolder,
     lag: &'a Lag,
 }
 
@@ -39,7 +57,10 @@ impl<'a> Tape for SlowTape<'a> {
     }
 
     fn append(&mut self, bytes: &[u8]) -> Result<(), TapeFault> {
-        self.tape.append(bytes)
+        let is_full = begin_write(self.folder, self.lag);
+        let appended = self.tape.append(bytes);
+        end_write(self.folder, is_full);
+        appended
     }
 
     fn sync(&mut self) -> Result<(), TapeFault> {
@@ -49,7 +70,10 @@ impl<'a> Tape for SlowTape<'a> {
 
     fn replace(&mut self, bytes: &[u8]) -> Result<(), TapeFault> {
         self.lag.sync();
-        self.tape.replace(bytes)
+        let is_full = begin_write(self.folder, self.lag);
+        let replaced = self.tape.replace(bytes);
+        end_write(self.folder, is_full);
+        replaced
     }
 
     fn failures(&self) -> u64 {
@@ -65,19 +89,31 @@ impl<'a> Tape for SlowTape<'a> {
     }
 }
 
-/// A folder in memory, as the process sees it that has it, whose syncs take time.
+/// A folder in memory, as the process sees it that has it, whose syncs take time, and on which
+/// there may be no room.
 #[derive(Drop)]
 pub struct SlowStore<'a> {
     store: MemoryStore<'a>,
+    folder: &'a MemoryFolder,
     lag: &'a Lag,
 }
 
 impl<'a> SlowStore<'a> {
-    /// A folder whose syncs take the time of this lag.
+    /// A folder whose syncs take the time of this lag, and which is full when that says so.
     pub fn new(folder: &'a MemoryFolder, lag: &'a Lag) -> Self {
         SlowStore {
             store: MemoryStore::new(folder),
+            folder,
             lag,
+        }
+    }
+
+    /// A tape of it.
+    fn slow(&self, tape: DiskTape<SharedDisk<'a>>) -> SlowTape<'a> {
+        SlowTape {
+            tape,
+            folder: self.folder,
+            lag: self.lag,
         }
     }
 }
@@ -121,26 +157,23 @@ impl<'a> Store for SlowStore<'a> {
 
     fn open(&mut self, file: FileName) -> Result<SlowTape<'a>, FolderFault> {
         match self.store.open(file) {
-            Ok(tape) => Ok(SlowTape {
-                tape,
-                lag: self.lag,
-            }),
+            Ok(tape) => Ok(self.slow(tape)),
             Err(fault) => Err(fault),
         }
     }
 
     fn open_existing(&mut self, file: FileName) -> Result<SlowTape<'a>, FolderFault> {
         match self.store.open_existing(file) {
-            Ok(tape) => Ok(SlowTape {
-                tape,
-                lag: self.lag,
-            }),
+            Ok(tape) => Ok(self.slow(tape)),
             Err(fault) => Err(fault),
         }
     }
 
     fn replace(&mut self, file: FileName, bytes: Vec<u8>) -> Result<(), FolderFault> {
         self.lag.sync();
-        self.store.replace(file, bytes)
+        let is_full = begin_write(self.folder, self.lag);
+        let replaced = self.store.replace(file, bytes);
+        end_write(self.folder, is_full);
+        replaced
     }
 }

@@ -3,7 +3,7 @@
 use wf_test_table::Transcript;
 
 /// What is counted, in this order.
-const WORDS: [&str; 31] = [
+const WORDS: [&str; 32] = [
     "published",
     "reported",
     "accepted",
@@ -23,6 +23,7 @@ const WORDS: [&str; 31] = [
     "kills",
     "cuts",
     "disks",
+    "full-disks",
     "jumps",
     "slow-syncs",
     "stops",
@@ -40,17 +41,17 @@ const WORDS: [&str; 31] = [
 /// How often what happened, in a play or in several.
 #[derive(Clone, Copy)]
 pub struct Tally {
-    counts: [u64; 31],
+    counts: [u64; 32],
 }
 
 impl Tally {
     /// Nothing happened.
     pub fn new() -> Self {
-        Tally { counts: [0; 31] }
+        Tally { counts: [0; 32] }
     }
 
     /// So much happened, in the order of the words.
-    pub fn of(counts: [u64; 31]) -> Self {
+    pub fn of(counts: [u64; 32]) -> Self {
         Tally { counts }
     }
 

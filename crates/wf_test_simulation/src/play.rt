@@ -29,6 +29,11 @@ const REPLICA_MILLIS: u64 = 5_000;
 /// request is waited for, for ten more an answer is to be taken, and one is for parting.
 const LEAVING_MILLIS: u64 = 25_000;
 
+/// The most lines of the log that a connection gives reason for, and a start or a fault.
+const LINES_OF_CONNECTION: u64 = 2;
+
+const LINES_OF_EVENT: u64 = 20;
+
 /// The stream of the generator: another one than that of the network.
 const STREAM: u64 = 7;
 
@@ -47,7 +52,7 @@ pub(crate) struct Play<'a, R> {
     clients: Vec<Client<'a>>,
     ledger: Ledger,
     // how often each fault happened
-    faults: [u64; 8],
+    faults: [u64; 9],
     turns: u64,
 }
 
@@ -131,7 +136,7 @@ impl<'a, R: Eprint> Play<'a, R> {
             replicas: Vec::new(alloc),
             clients: Vec::new(alloc),
             ledger: Ledger::new(alloc),
-            faults: [0; 8],
+            faults: [0; 9],
             turns: 0,
         }
     }
@@ -207,6 +212,7 @@ impl<'a, R: Eprint> Play<'a, R> {
         let time = self.machine.millis();
         self.run_leaving(time.saturating_add(LEAVING_MILLIS), true);
         self.judge_connections();
+        self.judge_lines();
     }
 
     /// Goes on until that moment, while faults happen.
@@ -596,6 +602,28 @@ impl<'a, R: Eprint> Play<'a, R> {
         }
     }
 
+    /// Notes whether more lines were logged than what happened gives reason for: so many for each
+    /// connection, start and fault, and for each second of each process.
+    fn judge_lines(&mut self) {
+        let network = self.network_counts();
+        let processes = self.members.len().saturating_add(self.replicas.len()) as u64;
+        let mut events = processes;
+        for count in self.faults {
+            events = events.saturating_add(count);
+        }
+        let seconds = self.machine.millis() / 1_000;
+        let most = network
+            .opened
+            .saturating_add(network.refused)
+            .saturating_mul(LINES_OF_CONNECTION)
+            .saturating_add(events.saturating_mul(LINES_OF_EVENT))
+            .saturating_add(seconds.saturating_mul(processes));
+        let lines = self.machine.lines();
+        if most < lines {
+            self.ledger.violate(Violation::TooManyLines(lines, most));
+        }
+    }
+
     /// Writes a line behind these words for each violation. Returns what happened.
     fn finish(&self, before: &str, answer: &mut Transcript) -> Result<Outcome, AllocError> {
         self.ledger.write(before, answer);
@@ -613,7 +641,7 @@ impl<'a, R: Eprint> Play<'a, R> {
     fn tally(&self) -> Tally {
         let answers = self.ledger.answers;
         let network = self.network_counts();
-        let [alone, one_way, kills, cuts, _, jumps, _, _] = self.faults;
+        let [alone, one_way, kills, cuts, _, jumps, _, _, _] = self.faults;
         let mut messages = 0u64;
         let mut disks = 0u64;
         let mut learned = 0u64;
@@ -645,6 +673,7 @@ impl<'a, R: Eprint> Play<'a, R> {
             kills,
             cuts,
             disks,
+            self.machine.lag().refused(),
             jumps,
             self.machine.lag().count(),
             answers.stopped,
