@@ -89,9 +89,9 @@ impl<T: Tape> Actor<T> {
         let read_from = Past::new().and(&tape, &0);
         match Node::open(alloc, tape, id, n) {
             Ok(node) => Ok(Actor::begin(node, read_from, cache)),
-            Err(step_rejection) => {
+            Err(unopened) => {
                 drop(cache);
-                Err(step_rejection)
+                Err(unopened)
             }
         }
     }

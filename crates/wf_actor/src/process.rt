@@ -87,9 +87,9 @@ impl<T: Tape> Process<T> {
         };
         match Actor::open(alloc, tape, id, n, cache) {
             Ok(actor) => Ok(Process::assemble(actor, n, pictures, parts)),
-            Err(step_rejection) => {
+            Err(unopened) => {
                 drop(parts);
-                Err(step_rejection)
+                Err(unopened)
             }
         }
     }

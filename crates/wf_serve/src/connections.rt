@@ -8,7 +8,7 @@ ghost use Rattle.wf_serve.specs.CacheSet.{AreCached, KeepRoom};
 ghost use Rattle.wf_serve.specs.Connections.{HaveCome, MayBeAnswered};
 
 use crate::connection_effect::{agree_still, serve_connection};
-use crate::linger_close::part;
+use crate::parting::part;
 use crate::timed_reader::TimedReader;
 use crate::timed_writer::TimedWriter;
 use crate::watch::Watch;

@@ -195,7 +195,7 @@ impl fmt::Display for StartFault<'_> {
     fn fmt<W: fmt::Write>(&self, f: &mut fmt::Formatter<W>) -> fmt::Result {
         write!(f, "cause=\"{}\"", self.cause)?;
         match self.folder {
-            Some(folder) => self.write_node_index(f, folder),
+            Some(folder) => self.write_place(f, folder),
             None => Ok(()),
         }
     }
@@ -203,11 +203,7 @@ impl fmt::Display for StartFault<'_> {
 
 impl StartFault<'_> {
     /// Writes the file that the fault is about, or the folder.
-    fn write_node_index<W: fmt::Write>(
-        &self,
-        f: &mut fmt::Formatter<W>,
-        folder: &str,
-    ) -> fmt::Result {
+    fn write_place<W: fmt::Write>(&self, f: &mut fmt::Formatter<W>, folder: &str) -> fmt::Result {
         match self.cause {
             Cause::TapeMissing(tape)
             | Cause::TapeSurplus(tape)

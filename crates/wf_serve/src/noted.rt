@@ -1,7 +1,7 @@
 //! The first bytes of a connection's request and response.
 
 /// The number of bytes that are kept.
-const CACHED_BYTES: usize = 256;
+const KEPT_BYTES: usize = 256;
 
 /// The first bytes of one direction of a connection, for the log.
 #[derive(Drop)]
@@ -14,7 +14,7 @@ impl Noted {
     /// None yet.
     pub(crate) fn new() -> Self {
         Noted {
-            first: [0; CACHED_BYTES],
+            first: [0; KEPT_BYTES],
             count: 0,
         }
     }
@@ -30,7 +30,7 @@ impl Noted {
     /// Keeps bytes as long as there is room.
     pub(crate) fn note(&mut self, bytes: &[u8]) {
         for byte in bytes {
-            if self.count >= CACHED_BYTES {
+            if self.count >= KEPT_BYTES {
                 return;
             }
             self.first[self.count] = *byte;
