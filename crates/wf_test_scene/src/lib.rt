@@ -6,7 +6,7 @@
 //!   a process on it is given.
 //! - [`Client`] publishes, asks for capabilities and pictures, looks at the operator's port, or
 //!   reads the history; [`Ledger`] keeps what was seen, and each [`Violation`] of what a farm
-//!   promises.
+//!   promises. [`Strangers`] connect to where only peers come.
 //! - [`Plan`] says how large a farm is and which faults may come, [`Schedule`] draws them from its
 //!   seed, and [`Tally`] counts what happened.
 //!
@@ -28,6 +28,7 @@ mod requests;
 mod scene;
 mod schedule;
 mod slow_store;
+mod stranger;
 mod tally;
 
 pub use client::{Client, REPLICA_ROLES, ROLES, Role};
@@ -43,4 +44,5 @@ pub use requests::JOINER_BITS;
 pub use scene::Scene;
 pub use schedule::{Schedule, Stroke};
 pub use slow_store::{SlowStore, SlowTape};
+pub use stranger::{MOST_STRANGERS, Strangers};
 pub use tally::Tally;

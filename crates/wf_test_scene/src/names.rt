@@ -126,6 +126,11 @@ pub fn address_at(host: u8, port: Port) -> SocketAddr {
     address_of(host as usize, port)
 }
 
+/// The address of a node for its peers.
+pub fn peer_address(node: u8) -> SocketAddr {
+    address_of(node as usize, PEER_PORT)
+}
+
 /// The command line that makes the folder of a node of so many, which joins in the place of a lost
 /// one if it replaces that.
 pub fn init_line(node: u8, nodes: u8, replaces: bool) -> NodeCommand<'static>

@@ -24,10 +24,13 @@ pub enum Fault {
     Stop,
     /// There is no room on its disks for a time: each write fails.
     FullDisk,
+    /// One stranger from an address that isn't listed, or more from the host of a peer than there
+    /// are slots for, connect to it as peers do, and stay for a time.
+    Strangers,
 }
 
 /// Each of them, with its word, and the word that leaves it out.
-pub const FAULTS: [(&str, &str, Fault); 9] = [
+pub const FAULTS: [(&str, &str, Fault); 10] = [
     ("alone", "no-alone", Fault::Alone),
     ("one-way", "no-one-way", Fault::OneWay),
     ("kills", "no-kills", Fault::Kill),
@@ -37,6 +40,7 @@ pub const FAULTS: [(&str, &str, Fault); 9] = [
     ("slow-syncs", "no-slow-syncs", Fault::SlowSync),
     ("stops", "no-stops", Fault::Stop),
     ("full-disks", "no-full-disks", Fault::FullDisk),
+    ("strangers", "no-strangers", Fault::Strangers),
 ];
 
 /// What takes the place of the folder of node 0 once the faults are over. The node has to be
@@ -96,8 +100,8 @@ pub struct Plan {
     /// Between two faults there are so many milliseconds at most.
     pub pause: u32,
     /// How often each fault is drawn, in the order of `FAULTS`, and whether none of a kind happens.
-    pub weights: [u32; 9],
-    pub skips: [bool; 9],
+    pub weights: [u32; 10],
+    pub skips: [bool; 10],
     /// The first and the last of the drawn faults that happen, counted from 1.
     pub first: u32,
     pub last: u32,
@@ -121,8 +125,8 @@ impl Plan {
             seconds: u64::from(words.number()?),
             network: Faults::NONE,
             pause: 1_500,
-            weights: [0; 9],
-            skips: [false; 9],
+            weights: [0; 10],
+            skips: [false; 10],
             first: 1,
             last: u32::MAX,
             relapse: Relapse::Nothing,
@@ -221,8 +225,14 @@ impl Plan {
 
     /// Whether clients may stop.
     pub fn has_stops(&self) -> bool {
-        let [_, _, _, _, _, _, _, stops, _] = self.weights;
+        let [_, _, _, _, _, _, _, stops, _, _] = self.weights;
         stops != 0
+    }
+
+    /// Whether strangers may come.
+    pub fn has_strangers(&self) -> bool {
+        let [_, _, _, _, _, _, _, _, _, strangers] = self.weights;
+        strangers != 0
     }
 
     /// The index of the fault for a number that is drawn below the sum of all weights.

@@ -3,7 +3,7 @@
 use wf_test_table::Transcript;
 
 /// What is counted, in this order.
-const WORDS: [&str; 32] = [
+const WORDS: [&str; 33] = [
     "published",
     "reported",
     "accepted",
@@ -27,6 +27,7 @@ const WORDS: [&str; 32] = [
     "jumps",
     "slow-syncs",
     "stops",
+    "strangers",
     "connections",
     "refused",
     "silent",
@@ -41,17 +42,17 @@ const WORDS: [&str; 32] = [
 /// How often what happened, in a play or in several.
 #[derive(Clone, Copy)]
 pub struct Tally {
-    counts: [u64; 32],
+    counts: [u64; 33],
 }
 
 impl Tally {
     /// Nothing happened.
     pub fn new() -> Self {
-        Tally { counts: [0; 32] }
+        Tally { counts: [0; 33] }
     }
 
     /// So much happened, in the order of the words.
-    pub fn of(counts: [u64; 32]) -> Self {
+    pub fn of(counts: [u64; 33]) -> Self {
         Tally { counts }
     }
 

@@ -7,8 +7,8 @@ use std::cell::RefCell;
 use wf_simulation::{Counts, Faults, World};
 use wf_store::MemoryFolder;
 use wf_test_scene::{
-    Client, Dice, Fault, JOINER_BITS, Lag, Ledger, Machine, Names, Plan, Process, REPLICA_ROLES,
-    ROLES, Relapse, Scene, Schedule, Stroke, Tally, Violation,
+    Client, Dice, Fault, JOINER_BITS, Lag, Ledger, MOST_STRANGERS, Machine, Names, Plan, Process,
+    REPLICA_ROLES, ROLES, Relapse, Scene, Schedule, Strangers, Stroke, Tally, Violation,
 };
 use wf_test_table::Transcript;
 
@@ -50,9 +50,10 @@ pub(crate) struct Play<'a, R> {
     members: Vec<Member<'a>>,
     replicas: Vec<Replica<'a>>,
     clients: Vec<Client<'a>>,
+    strangers: Strangers<'a>,
     ledger: Ledger,
     // how often each fault happened
-    faults: [u64; 9],
+    faults: [u64; 10],
     turns: u64,
 }
 
@@ -92,16 +93,22 @@ pub(crate) fn run_play<R: Eprint>(
 
 /// The most connections of the network: one from each node to each other, and eight for the clients
 /// of each, of which four are at most; and eight for each replica, of which three are its clients.
-/// Where clients stop, as many more of each may have.
+/// Where clients stop, as many more of each may have; and strangers have theirs.
 fn connections(plan: &Plan) -> usize {
     let nodes = plan.nodes as usize;
     let processes = nodes.saturating_add(plan.replicas as usize);
     let stopped = processes.saturating_mul(if plan.has_stops() { 4 } else { 0 });
+    let strangers = if plan.has_strangers() {
+        MOST_STRANGERS
+    } else {
+        0
+    };
     nodes
         .saturating_mul(nodes.saturating_add(7))
         .saturating_add(8)
         .saturating_add((plan.replicas as usize).saturating_mul(8))
         .saturating_add(stopped)
+        .saturating_add(strangers)
 }
 
 /// A folder for each host, that of the clients for another one of node 0, and one more for another
@@ -135,8 +142,9 @@ impl<'a, R: Eprint> Play<'a, R> {
             members: Vec::new(alloc),
             replicas: Vec::new(alloc),
             clients: Vec::new(alloc),
+            strangers: Strangers::new(alloc),
             ledger: Ledger::new(alloc),
-            faults: [0; 9],
+            faults: [0; 10],
             turns: 0,
         }
     }
@@ -394,16 +402,22 @@ impl<'a, R: Eprint> Play<'a, R> {
 
     /// Each client does what it has to do.
     fn turn_clients(&mut self, is_news: bool) {
-        let scene = Scene {
-            alloc: self.machine.alloc(),
-            world: self.world,
-            host: self.plan.client_host() as usize,
-            time: self.machine.millis(),
-        };
+        let scene = self.scene_at(self.plan.client_host() as usize);
+        self.strangers.turn(scene.time);
         for client in self.clients.iter_mut() {
             if is_news || client.due() <= scene.time {
                 client.turn(&scene, &mut self.dice, &mut self.ledger);
             }
+        }
+    }
+
+    /// Where and when something is done now, at this host.
+    fn scene_at(&self, host: usize) -> Scene<'a> {
+        Scene {
+            alloc: self.machine.alloc(),
+            world: self.world,
+            host,
+            time: self.machine.millis(),
         }
     }
 
@@ -424,6 +438,7 @@ impl<'a, R: Eprint> Play<'a, R> {
             Fault::Alone => self.cut_off(stroke.host, stroke.until),
             Fault::OneWay => self.block(stroke.host, stroke.other, stroke.until),
             Fault::Stop => self.stop(stroke),
+            Fault::Strangers => return self.let_come(stroke),
             _ => return self.fail_process(stroke),
         }
         true
@@ -434,6 +449,38 @@ impl<'a, R: Eprint> Play<'a, R> {
         for client in self.clients.iter_mut() {
             client.stop(stroke);
         }
+    }
+
+    /// Strangers come to a node: one from the clients' host, or many from that of another node.
+    /// Returns whether the host is a node's.
+    fn let_come(&mut self, stroke: &Stroke) -> bool {
+        let nodes = self.plan.nodes as usize;
+        if nodes <= stroke.host {
+            return false;
+        }
+        let is_one = stroke.older == 0 || nodes == 1;
+        let (host, count) = if is_one {
+            (self.plan.client_host() as usize, 1)
+        } else {
+            (
+                stroke
+                    .host
+                    .saturating_add(1)
+                    .checked_rem(nodes)
+                    .unwrap_or(0),
+                MOST_STRANGERS,
+            )
+        };
+        let scene = self.scene_at(host);
+        let node = stroke.host.min(63) as u8;
+        if self
+            .strangers
+            .come(&scene, node, count, stroke.until)
+            .is_err()
+        {
+            self.ledger.cut();
+        }
+        true
     }
 
     /// A process ends, or its disk fails or takes time, or its clock jumps. Returns whether it ran.
@@ -529,6 +576,7 @@ impl<'a, R: Eprint> Play<'a, R> {
         for replica in self.replicas.iter_mut() {
             replica.heal(time);
         }
+        self.strangers.go();
         for client in self.clients.iter_mut() {
             client.heal(time, self.plan.relapse == Relapse::Replaced);
         }
@@ -641,7 +689,7 @@ impl<'a, R: Eprint> Play<'a, R> {
     fn tally(&self) -> Tally {
         let answers = self.ledger.answers;
         let network = self.network_counts();
-        let [alone, one_way, kills, cuts, _, jumps, _, _, _] = self.faults;
+        let [alone, one_way, kills, cuts, _, jumps, _, _, _, strangers] = self.faults;
         let mut messages = 0u64;
         let mut disks = 0u64;
         let mut learned = 0u64;
@@ -677,6 +725,7 @@ impl<'a, R: Eprint> Play<'a, R> {
             jumps,
             self.machine.lag().count(),
             answers.stopped,
+            strangers,
             network.opened,
             network.refused,
             network.unanswered,
