@@ -59,13 +59,11 @@ impl<'a> Strangers<'a> {
     /// One more comes, unless no connection is free. Each second one says nothing.
     fn connect(&mut self, scene: &Scene<'a>, node: u8, index: usize) -> Result<(), AllocError> {
         let network = SimulatedNetwork::new(scene.world, scene.host);
-        match network.connect(&Offline, peer_address(node)) {
-            Some(connection) => self.all.push(Stranger {
-                connection,
-                sent: if index % 2 == 0 { 0 } else { NONSENSE.len() },
-            }),
-            None => Ok(()),
+        if let Some(connection) = network.connect(&Offline, peer_address(node)) {
+            let sent = if index % 2 == 0 { 0 } else { NONSENSE.len() };
+            self.all.push(Stranger { connection, sent })?;
         }
+        Ok(())
     }
 
     /// They say what they have to say, or go if it is time to.
