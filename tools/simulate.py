@@ -11,6 +11,7 @@ that, and puts what was counted there into it, unless a play violates.
 import pathlib
 import random
 import re
+import resource
 import subprocess
 import sys
 import time
@@ -126,6 +127,11 @@ def tell(counts: dict[str, int]) -> str:
     return ", ".join(f"{word} {count}" for word, count in counts.items())
 
 
+def most_memory() -> str:
+    """The most memory that a process of plays took, which grows with farms that don't give theirs back."""
+    return f"{resource.getrusage(resource.RUSAGE_CHILDREN).ru_maxrss // 1024} MiB at most"
+
+
 def search(program: str, first: int, minutes: float) -> int:
     """Plays seeds until the time is over or one violates."""
     ends, seed, sums = time.monotonic() + 60 * minutes, first, dict[str, int]()
@@ -141,7 +147,7 @@ def search(program: str, first: int, minutes: float) -> int:
             sums[word] = sums.get(word, 0) + count * (word != "digest")
         seed += 1
     sums.pop("digest", None)
-    print(f"{seed - first} plays, none violates: {tell(sums)}")
+    print(f"{seed - first} plays, none violates, {most_memory()}: {tell(sums)}")
     return 0
 
 
@@ -156,7 +162,7 @@ def renew(program: str) -> int:
             return 1
         lines[number - 1] = f"{said} => {answer}"
     TABLE.write_text("\n".join(lines) + "\n")
-    print(ran.stdout.splitlines()[-1] if ran.stdout else f"status {ran.returncode}")
+    print(f"{ran.stdout.splitlines()[-1]}, {most_memory()}" if ran.stdout else f"status {ran.returncode}")
     return 0
 
 

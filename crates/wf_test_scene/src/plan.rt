@@ -110,6 +110,8 @@ pub struct Plan {
     pub kills_all: bool,
     /// Whether the first replica loses its folder in the middle.
     pub loses_replica: bool,
+    /// Whether no client comes before the faults are over.
+    pub is_quiet: bool,
     /// Whether the log is printed.
     pub is_printed: bool,
 }
@@ -132,6 +134,7 @@ impl Plan {
             relapse: Relapse::Nothing,
             kills_all: false,
             loses_replica: false,
+            is_quiet: false,
             is_printed: false,
         };
         for _ in 0..u32::MAX {
@@ -165,6 +168,15 @@ impl Plan {
     /// replicas.
     pub fn hosts(&self) -> u8 {
         self.nodes.saturating_add(1).saturating_add(self.replicas)
+    }
+
+    /// When a client begins for which this time was drawn.
+    pub fn beginning(&self, drawn: u64) -> u64 {
+        if self.is_quiet {
+            self.seconds.saturating_mul(1_000)
+        } else {
+            drawn
+        }
     }
 
     /// The host of the clients.
@@ -205,6 +217,7 @@ impl Plan {
             "all" => self.kills_all = number != 0,
             "replicas" => self.set_replicas(number),
             "emptied" => self.loses_replica = number != 0,
+            "quiet" => self.is_quiet = number != 0,
             "log" => self.is_printed = number != 0,
             _ => return set_network(&mut self.network, kind, number),
         }

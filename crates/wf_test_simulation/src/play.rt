@@ -159,7 +159,7 @@ impl<'a, R: Eprint> Play<'a, R> {
             self.members
                 .push(Member::new(self.machine, folder, number, nodes, start))?;
             for role in ROLES {
-                let start = self.dice.millis(500, 2_000);
+                let start = self.plan.beginning(self.dice.millis(500, 2_000));
                 self.clients
                     .push(Client::new(Process::Node(number), role, start))?;
             }
@@ -178,7 +178,7 @@ impl<'a, R: Eprint> Play<'a, R> {
         self.replicas
             .push(Replica::new(host, folder, self.machine.lag(), start))?;
         for role in REPLICA_ROLES {
-            let start = self.dice.millis(500, 2_000);
+            let start = self.plan.beginning(self.dice.millis(500, 2_000));
             self.clients
                 .push(Client::new(Process::Replica(host), role, start))?;
         }
