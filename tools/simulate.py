@@ -23,7 +23,7 @@ from farmkit.repository import TOP, built
 
 TABLE = TOP / "crates" / "wf_test_simulation" / "stdin"
 WEIGHTS = ("alone", "one-way", "kills", "cuts", "disks", "jumps", "slow-syncs", "stops", "full-disks",
-           "strangers")
+           "strangers", "cut-calls")
 # (no older tape: after faults it may be what the node has stored, and then nothing is wrong)
 RELAPSES = ("lost", "gone", "replaced")
 PER_MILLION = {"resets": 3_000, "losses": 1_000, "refusals": 100_000, "silences": 100_000,

@@ -3,7 +3,7 @@
 use crate::lag::Lag;
 use crate::plan::Fault;
 use crate::schedule::Stroke;
-use crate::slow_store::SlowStore;
+use crate::slow_store::{Ground, SlowStore};
 use std::cell::RefCell;
 use wf_simulation::World;
 use wf_store::MemoryFolder;
@@ -33,6 +33,10 @@ pub struct Host<'a> {
     // whether a call of its disks is to fail, and how many have
     will_fail: bool,
     failed: u64,
+    // the fault by which its power is cut at a call, whether it was in the last turn, and how often
+    armed: Option<Stroke>,
+    is_cut: bool,
+    cuts: u64,
 }
 
 impl<'a> Host<'a> {
@@ -52,6 +56,9 @@ impl<'a> Host<'a> {
             ahead: u64::from(number).saturating_mul(60_000),
             will_fail: false,
             failed: 0,
+            armed: None,
+            is_cut: false,
+            cuts: 0,
         }
     }
 
@@ -74,12 +81,18 @@ impl<'a> Host<'a> {
         self.mend_disk();
         self.busy_until = 0;
         self.full_until = 0;
+        self.armed = None;
         self.folder.set_bits(bits);
     }
 
     /// The folder, as its process sees it: its syncs take time.
-    pub fn store(&self) -> SlowStore<'a> {
-        SlowStore::new(self.folder, self.lag)
+    pub fn store(&self, world: &'a RefCell<World>) -> SlowStore<'a> {
+        SlowStore::new(Ground {
+            folder: self.folder,
+            lag: self.lag,
+            world,
+            host: self.number as usize,
+        })
     }
 
     /// Whether its process waits for a sync.
@@ -94,13 +107,37 @@ impl<'a> Host<'a> {
         } else {
             0
         };
-        self.lag.begin(each, time < self.full_until);
+        self.lag
+            .begin(each, time < self.full_until, self.armed.is_some());
     }
 
     /// The turn is over. Returns when its process has waited for all syncs of it.
     pub fn end(&mut self, time: u64) -> u64 {
+        self.is_cut = self.lag.is_off();
         self.busy_until = time.saturating_add(self.lag.end());
         self.busy_until
+    }
+
+    /// Whether its power was cut within the turn that is over.
+    pub fn is_cut(&self) -> bool {
+        self.is_cut
+    }
+
+    /// If it was, its files are what the cut leaves. Returns when its process is started again.
+    pub fn take_cut(&mut self) -> Option<u64> {
+        if !self.is_cut {
+            return None;
+        }
+        self.is_cut = false;
+        self.cuts = self.cuts.saturating_add(1);
+        let stroke = self.armed.take()?;
+        self.folder.cut(stroke.older, stroke.kept);
+        Some(stroke.back)
+    }
+
+    /// How often its power was cut within a turn.
+    pub fn cuts(&self) -> u64 {
+        self.cuts
     }
 
     /// A fault happens. Returns whether the process ends by it.
@@ -119,6 +156,11 @@ impl<'a> Host<'a> {
             Fault::SlowSync => {
                 self.sync_millis = (stroke.kept as u64).saturating_add(1);
                 self.slow_until = stroke.until;
+                return false;
+            }
+            Fault::CutCall => {
+                self.folder.set_failure(stroke.call, stroke.kept);
+                self.armed = Some(*stroke);
                 return false;
             }
             Fault::FullDisk => {
@@ -153,6 +195,7 @@ impl<'a> Host<'a> {
     pub fn heal(&mut self, time: u64) {
         self.slow_until = 0;
         self.full_until = 0;
+        self.armed = None;
         self.due = self.due.min(time);
         self.mend_disk();
     }

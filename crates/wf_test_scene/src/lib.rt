@@ -43,6 +43,6 @@ pub use process::Process;
 pub use requests::JOINER_BITS;
 pub use scene::Scene;
 pub use schedule::{Schedule, Stroke};
-pub use slow_store::{SlowStore, SlowTape};
+pub use slow_store::{Ground, SlowStore, SlowTape};
 pub use stranger::{MOST_STRANGERS, Strangers};
 pub use tally::Tally;

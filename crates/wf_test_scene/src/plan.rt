@@ -22,6 +22,8 @@ pub enum Fault {
     SlowSync,
     /// A client of it stops within its next request, or takes no byte of the response.
     Stop,
+    /// Its power is cut at a call of its disks, within a turn, and it is started again.
+    CutCall,
     /// There is no room on its disks for a time: each write fails.
     FullDisk,
     /// One stranger from an address that isn't listed, or more from the host of a peer than there
@@ -30,7 +32,7 @@ pub enum Fault {
 }
 
 /// Each of them, with its word, and the word that leaves it out.
-pub const FAULTS: [(&str, &str, Fault); 10] = [
+pub const FAULTS: [(&str, &str, Fault); 11] = [
     ("alone", "no-alone", Fault::Alone),
     ("one-way", "no-one-way", Fault::OneWay),
     ("kills", "no-kills", Fault::Kill),
@@ -41,6 +43,7 @@ pub const FAULTS: [(&str, &str, Fault); 10] = [
     ("stops", "no-stops", Fault::Stop),
     ("full-disks", "no-full-disks", Fault::FullDisk),
     ("strangers", "no-strangers", Fault::Strangers),
+    ("cut-calls", "no-cut-calls", Fault::CutCall),
 ];
 
 /// What takes the place of the folder of node 0 once the faults are over. The node has to be
@@ -100,8 +103,8 @@ pub struct Plan {
     /// Between two faults there are so many milliseconds at most.
     pub pause: u32,
     /// How often each fault is drawn, in the order of `FAULTS`, and whether none of a kind happens.
-    pub weights: [u32; 10],
-    pub skips: [bool; 10],
+    pub weights: [u32; 11],
+    pub skips: [bool; 11],
     /// The first and the last of the drawn faults that happen, counted from 1.
     pub first: u32,
     pub last: u32,
@@ -127,8 +130,8 @@ impl Plan {
             seconds: u64::from(words.number()?),
             network: Faults::NONE,
             pause: 1_500,
-            weights: [0; 10],
-            skips: [false; 10],
+            weights: [0; 11],
+            skips: [false; 11],
             first: 1,
             last: u32::MAX,
             relapse: Relapse::Nothing,
@@ -238,13 +241,13 @@ impl Plan {
 
     /// Whether clients may stop.
     pub fn has_stops(&self) -> bool {
-        let [_, _, _, _, _, _, _, stops, _, _] = self.weights;
+        let [_, _, _, _, _, _, _, stops, _, _, _] = self.weights;
         stops != 0
     }
 
     /// Whether strangers may come.
     pub fn has_strangers(&self) -> bool {
-        let [_, _, _, _, _, _, _, _, _, strangers] = self.weights;
+        let [_, _, _, _, _, _, _, _, _, strangers, _] = self.weights;
         strangers != 0
     }
 

@@ -1,26 +1,54 @@
-//! A folder whose syncs take time, and on which there may be no room.
+//! A folder whose syncs take time, on which there may be no room, and whose power may be cut.
 
 use crate::lag::Lag;
 use std::alloc::Global;
+use std::cell::RefCell;
 use std::io::ErrorKind;
 use wf_folder::Presence;
+use wf_simulation::World;
 use wf_store::{FileName, FolderFault, MemoryFolder, MemoryStore, SharedDisk, Store};
 use wf_tape::{DiskTape, Tape, TapeFault};
 
-/// The first call of the disks from now fails, and keeps nothing, if there is no room. Returns
-/// whether it does.
-fn begin_write(folder: &MemoryFolder, lag: &Lag) -> bool {
-    let is_full = lag.refuses();
-    if is_full {
-        folder.set_failure(1, 0);
-    }
-    is_full
+/// What a process's disks stand on: their folder, the time that their syncs take, and the host,
+/// whose power may be cut at a call.
+#[derive(Clone, Copy)]
+pub struct Ground<'a> {
+    pub folder: &'a MemoryFolder,
+    pub lag: &'a Lag,
+    pub world: &'a RefCell<World>,
+    pub host: usize,
 }
 
-/// The write is over: no later call fails for want of room.
-fn end_write(folder: &MemoryFolder, is_full: bool) {
-    if is_full {
-        folder.set_failure(0, 0);
+impl<'a> Ground<'a> {
+    /// Calls that write begin: the first one fails, and keeps nothing, if there is no room, or no
+    /// power any more.
+    fn begin_write(&self) {
+        if self.lag.is_full() && !self.lag.is_off() {
+            self.lag.refuse();
+            self.folder.set_failure(1, 0);
+        }
+        self.begin();
+    }
+
+    /// Calls begin: the first one fails if there is no power any more.
+    fn begin(&self) {
+        if self.lag.is_off() {
+            self.folder.set_failure(1, 0);
+        }
+    }
+
+    /// They are over. If the one failed at which the power is to be cut, it is: what the process
+    /// sends from now on doesn't leave its host. No later call fails for want of room.
+    fn end(&self) {
+        if self.lag.is_armed() && !self.folder.will_fail() {
+            self.lag.turn_off();
+            if let Ok(mut world) = self.world.try_borrow_mut() {
+                world.turn_off(self.host);
+            }
+        }
+        if self.lag.is_full() || self.lag.is_off() {
+            self.folder.set_failure(0, 0);
+        }
     }
 }
 
@@ -29,8 +57,7 @@ fn end_write(folder: &MemoryFolder, is_full: bool) {
 #[derive(Drop)]
 pub struct SlowTape<'a> {
     tape: DiskTape<SharedDisk<'a>>,
-    folder: &'a MemoryFolder,
-    lag: &'a Lag,
+    ground: Ground<'a>,
 }
 
 impl<'a> Tape for SlowTape<'a> {
@@ -53,26 +80,32 @@ impl<'a> Tape for SlowTape<'a> {
     ghost nested = { λ no. absurd no };
 
     fn read(&mut self, alloc: Global) -> Result<Vec<u8>, TapeFault> {
-        self.tape.read(alloc)
+        self.ground.begin();
+        let read = self.tape.read(alloc);
+        self.ground.end();
+        read
     }
 
     fn append(&mut self, bytes: &[u8]) -> Result<(), TapeFault> {
-        let is_full = begin_write(self.folder, self.lag);
+        self.ground.begin_write();
         let appended = self.tape.append(bytes);
-        end_write(self.folder, is_full);
+        self.ground.end();
         appended
     }
 
     fn sync(&mut self) -> Result<(), TapeFault> {
-        self.lag.sync();
-        self.tape.sync()
+        self.ground.lag.sync();
+        self.ground.begin();
+        let synced = self.tape.sync();
+        self.ground.end();
+        synced
     }
 
     fn replace(&mut self, bytes: &[u8]) -> Result<(), TapeFault> {
-        self.lag.sync();
-        let is_full = begin_write(self.folder, self.lag);
+        self.ground.lag.sync();
+        self.ground.begin_write();
         let replaced = self.tape.replace(bytes);
-        end_write(self.folder, is_full);
+        self.ground.end();
         replaced
     }
 
@@ -94,17 +127,15 @@ impl<'a> Tape for SlowTape<'a> {
 #[derive(Drop)]
 pub struct SlowStore<'a> {
     store: MemoryStore<'a>,
-    folder: &'a MemoryFolder,
-    lag: &'a Lag,
+    ground: Ground<'a>,
 }
 
 impl<'a> SlowStore<'a> {
-    /// A folder whose syncs take the time of this lag, and which is full when that says so.
-    pub fn new(folder: &'a MemoryFolder, lag: &'a Lag) -> Self {
+    /// The folder of this ground.
+    pub fn new(ground: Ground<'a>) -> Self {
         SlowStore {
-            store: MemoryStore::new(folder),
-            folder,
-            lag,
+            store: MemoryStore::new(ground.folder),
+            ground,
         }
     }
 
@@ -112,8 +143,7 @@ impl<'a> SlowStore<'a> {
     fn slow(&self, tape: DiskTape<SharedDisk<'a>>) -> SlowTape<'a> {
         SlowTape {
             tape,
-            folder: self.folder,
-            lag: self.lag,
+            ground: self.ground,
         }
     }
 }
@@ -152,7 +182,10 @@ impl<'a> Store for SlowStore<'a> {
     }
 
     fn read(&mut self, file: FileName, limit: usize) -> Result<Option<Vec<u8>>, FolderFault> {
-        self.store.read(file, limit)
+        self.ground.begin();
+        let read = self.store.read(file, limit);
+        self.ground.end();
+        read
     }
 
     fn open(&mut self, file: FileName) -> Result<SlowTape<'a>, FolderFault> {
@@ -170,10 +203,10 @@ impl<'a> Store for SlowStore<'a> {
     }
 
     fn replace(&mut self, file: FileName, bytes: Vec<u8>) -> Result<(), FolderFault> {
-        self.lag.sync();
-        let is_full = begin_write(self.folder, self.lag);
+        self.ground.lag.sync();
+        self.ground.begin_write();
         let replaced = self.store.replace(file, bytes);
-        end_write(self.folder, is_full);
+        self.ground.end();
         replaced
     }
 }

@@ -3,7 +3,7 @@
 use wf_test_table::Transcript;
 
 /// What is counted, in this order.
-const WORDS: [&str; 33] = [
+const WORDS: [&str; 34] = [
     "published",
     "reported",
     "accepted",
@@ -22,6 +22,7 @@ const WORDS: [&str; 33] = [
     "one-way",
     "kills",
     "cuts",
+    "cut-calls",
     "disks",
     "full-disks",
     "jumps",
@@ -42,17 +43,17 @@ const WORDS: [&str; 33] = [
 /// How often what happened, in a play or in several.
 #[derive(Clone, Copy)]
 pub struct Tally {
-    counts: [u64; 33],
+    counts: [u64; 34],
 }
 
 impl Tally {
     /// Nothing happened.
     pub fn new() -> Self {
-        Tally { counts: [0; 33] }
+        Tally { counts: [0; 34] }
     }
 
     /// So much happened, in the order of the words.
-    pub fn of(counts: [u64; 33]) -> Self {
+    pub fn of(counts: [u64; 34]) -> Self {
         Tally { counts }
     }
 

@@ -80,6 +80,11 @@ impl<'a> Member<'a> {
         self.host.failed()
     }
 
+    /// How often its power was cut at a call of its disks.
+    pub(crate) fn cuts(&self) -> u64 {
+        self.host.cuts()
+    }
+
     /// A fault happens to it. Returns whether it ran.
     pub(crate) fn fail(&mut self, world: &RefCell<World>, time: u64, stroke: &Stroke) -> bool {
         if self.process.is_none() {
@@ -158,7 +163,9 @@ impl<'a> Member<'a> {
         }
         self.step(machine, tokens.get(..count).unwrap_or(&[]), ledger);
         self.host.count_failure();
-        if self.is_over() {
+        if let Some(back) = self.host.take_cut() {
+            self.kill(back);
+        } else if self.is_over() {
             self.kill(time);
         }
         true
@@ -177,8 +184,10 @@ impl<'a> Member<'a> {
             machine.set_millis(time);
             let patience = process.patience(self.host.clock(over)).max(1);
             self.host.due = over.saturating_add(patience);
-            let history = process.process().node().history();
-            self.host.published = ledger.note_list(own, history, self.host.published);
+            if !self.host.is_cut() {
+                let history = process.process().node().history();
+                self.host.published = ledger.note_list(own, history, self.host.published);
+            }
         }
     }
 
@@ -203,7 +212,7 @@ impl<'a> Member<'a> {
         self.host.turn_on(world, dice.bits());
         let number = self.host.number as usize;
         let network = SimulatedNetwork::new(world, number);
-        let store = self.host.store();
+        let store = self.host.store(world);
         let line = names.node_line(number);
         match RunningNode::start(machine, network, store, &line, self.host.clock(time)) {
             Ok(process) => {

@@ -53,7 +53,7 @@ pub(crate) struct Play<'a, R> {
     strangers: Strangers<'a>,
     ledger: Ledger,
     // how often each fault happened
-    faults: [u64; 10],
+    faults: [u64; 11],
     turns: u64,
 }
 
@@ -144,7 +144,7 @@ impl<'a, R: Eprint> Play<'a, R> {
             clients: Vec::new(alloc),
             strangers: Strangers::new(alloc),
             ledger: Ledger::new(alloc),
-            faults: [0; 10],
+            faults: [0; 11],
             turns: 0,
         }
     }
@@ -689,16 +689,19 @@ impl<'a, R: Eprint> Play<'a, R> {
     fn tally(&self) -> Tally {
         let answers = self.ledger.answers;
         let network = self.network_counts();
-        let [alone, one_way, kills, cuts, _, jumps, _, _, _, strangers] = self.faults;
+        let [alone, one_way, kills, cuts, _, jumps, _, _, _, strangers, _] = self.faults;
         let mut messages = 0u64;
         let mut disks = 0u64;
+        let mut cut_calls = 0u64;
         let mut learned = 0u64;
         for member in &self.members {
             messages = messages.saturating_add(member.messages());
             disks = disks.saturating_add(member.failed());
+            cut_calls = cut_calls.saturating_add(member.cuts());
         }
         for replica in &self.replicas {
             disks = disks.saturating_add(replica.failed());
+            cut_calls = cut_calls.saturating_add(replica.cuts());
             learned = learned.saturating_add(u64::from(replica.published()));
         }
         Tally::of([
@@ -720,6 +723,7 @@ impl<'a, R: Eprint> Play<'a, R> {
             one_way,
             kills,
             cuts,
+            cut_calls,
             disks,
             self.machine.lag().refused(),
             jumps,

@@ -51,6 +51,11 @@ impl<'a> Replica<'a> {
         self.host.failed()
     }
 
+    /// How often its power was cut at a call of its disks.
+    pub(crate) fn cuts(&self) -> u64 {
+        self.host.cuts()
+    }
+
     /// A fault happens to it. Returns whether it ran.
     pub(crate) fn fail(&mut self, world: &RefCell<World>, time: u64, stroke: &Stroke) -> bool {
         if self.process.is_none() {
@@ -108,6 +113,10 @@ impl<'a> Replica<'a> {
         }
         self.step(machine, tokens.get(..count).unwrap_or(&[]), ledger);
         self.host.count_failure();
+        if let Some(back) = self.host.take_cut() {
+            self.end();
+            self.host.due = back;
+        }
         true
     }
 
@@ -125,8 +134,10 @@ impl<'a> Replica<'a> {
             machine.set_millis(time);
             let patience = process.patience(self.host.clock(over)).max(1);
             self.host.due = over.saturating_add(patience);
-            self.host.published = ledger.note_list(own, process.history(), self.host.published);
-            self.has_tape = process.has_tape();
+            if !self.host.is_cut() {
+                self.host.published = ledger.note_list(own, process.history(), self.host.published);
+                self.has_tape = process.has_tape();
+            }
             if turn != Turn::On {
                 ledger.violate(Violation::Ended(own));
             }
@@ -146,7 +157,7 @@ impl<'a> Replica<'a> {
         self.host.turn_on(world, dice.bits());
         let number = self.host.number as usize;
         let network = SimulatedNetwork::new(world, number);
-        let mut store = self.host.store();
+        let mut store = self.host.store(world);
         let line = names.replica_line(number);
         let started = start_replica(machine, network, &mut store, &line, self.host.clock(time));
         match started {
