@@ -1,5 +1,5 @@
-//! The tokens of a mapfile and its blocks: from bytes to words, strings and lists, and from these to
-//! keywords with their arguments, up to END.
+//! The tokens of a mapfile and its blocks: from bytes to words, strings and lists, and from these
+//! to keywords with their arguments, up to END.
 //!
 //! A text has a list of tokens or none (MapServer mapfile reference, the part of it that
 //! `specs/Token.antt` defines as an automaton over bytes): words, strings in either quote, lists in
@@ -14,12 +14,12 @@
 //! looks at each byte a bounded number of times. Tokens that are spelled as lines, as
 //! `specs/Spelling.antt` defines, are read back as the same tokens, and such lines are UTF-8:
 //! theorems about the definitions. A reader that returns a value returns what the tokens mean and
-//! leaves the tokens after it; if it returns an error other than allocation failure, the tokens mean
-//! nothing (`Gives` of `specs/ReadContract.antt`). [`fill_block`] keeps that promise for every block
-//! whose step (`take` of [`Slots`]) does. Which error, its byte offset, and where the reader is then
-//! ([`Parser::place`]: the block, the keyword, what the block lacks), is tested and not proved. Not
-//! here: which keywords a block has, and what it means (wf_class, wf_feature, wf_mapfile), and
-//! which lines a map has (wf_canon).
+//! leaves the tokens after it; if it returns an error other than allocation failure, the tokens
+//! mean nothing (`Gives` of `specs/ReadContract.antt`). [`fill_block`] keeps that promise for
+//! every block whose step (`take` of [`Slots`]) does. Which error, its byte offset, and where the
+//! reader is then ([`Parser::place`]: the block, the keyword, what it lacks), is tested and not
+//! proved. Not here: which keywords a block has, and what it means (wf_class, wf_feature,
+//! wf_mapfile), and which lines a map has (wf_canon).
 //!
 //! Modules: `lexer` steps over a text; each step finds a `lexeme` at its front, and the lexer
 //! collects each `token`; `spelling` (theorems on how tokens are written); `parser` (readers of

@@ -29,14 +29,15 @@
 //!   [`reachable_nodes_answer_alike`].
 //! - The four theorems of `wf_safety` hold for the program's definitions ([`agreement`]).
 //! - Deliveries of which none is lost are those of whole rounds, of one message after the other to
-//!   every node, from whatever world the nodes were ([`deliveries_are_rounds`], `specs/Rounds.antt`);
-//!   a farm's pump makes such rounds too. What one of three new nodes proposes is published on all
-//!   three, by 27 deliveries ([`new_nodes_publish`], `specs/Publication.antt`). New nodes of which
-//!   one catches up are new still ([`new_nodes_stay_new`]).
+//!   every node, from whatever world the nodes were ([`deliveries_are_rounds`];
+//!   `specs/Rounds.antt` defines them); a farm's pump makes such rounds too. What one of three new
+//!   nodes proposes is published on all three, by 27 deliveries ([`new_nodes_publish`],
+//!   `specs/Publication.antt`). New nodes of which one catches up are new still
+//!   ([`new_nodes_stay_new`]).
 //!
-//! **Doesn't.** There is no time, no promise that a message is delivered where allocations fail, and
-//! none that anything is ever published where messages or deliveries are lost, or by other numbers
-//! of nodes than three.
+//! **Doesn't.** There is no time, no promise that a message is delivered where allocations fail,
+//! and none that anything is ever published where messages or deliveries are lost, or by other
+//! numbers of nodes than three.
 #![tactic(auto)]
 
 mod delivery;

@@ -1,9 +1,9 @@
 //! What stands around the processes of a simulated farm: their hosts, the clients, what those see,
 //! and the faults that a seed draws.
 //!
-//! - [`Host`] has a clock of its own, a folder in memory that outlives its processes ([`SlowStore`],
-//!   whose syncs take time, [`Lag`]), and faults that happen to it; [`Machine`] is the runtime that
-//!   a process on it is given.
+//! - [`Host`] has a clock of its own, a folder in memory that outlives its processes
+//!   ([`SlowStore`], whose syncs take time, [`Lag`]), and faults that happen to it; [`Machine`] is
+//!   the runtime that a process on it is given.
 //! - [`Client`] publishes, asks for capabilities and pictures, looks at the operator's port, or
 //!   reads the history; [`Ledger`] keeps what was seen, and each [`Violation`] of what a farm
 //!   promises. [`Strangers`] connect to where only peers come.
