@@ -1,5 +1,5 @@
 //! Each call, type, variant and field that users of the crates rely on, named once. A name that is
-//! gone, hidden or moved makes this program fail to compile, so none can vanish without a word. The
+//! gone, hidden or moved makes this crate fail to compile, so none can vanish without a word. The
 //! table "Names" of docs/DECISIONS.md has those that stand elsewhere than they were first asked
 //! for, or have another form.
 //!
@@ -13,9 +13,3 @@ mod nodes;
 mod pictures;
 mod program;
 mod services;
-
-use std::io;
-
-fn main(rt: HostRuntime) -> io::Result<()> {
-    println!(rt; "each name is there")
-}
