@@ -118,12 +118,8 @@ impl<'a> Host<'a> {
         self.busy_until
     }
 
-    /// Whether its power was cut within the turn that is over.
-    pub fn is_cut(&self) -> bool {
-        self.is_cut
-    }
-
-    /// If it was, its files are what the cut leaves. Returns when its process is started again.
+    /// If its power was cut within the turn that is over, its files are what the cut leaves.
+    /// Returns when its process is started again.
     pub fn take_cut(&mut self) -> Option<u64> {
         if !self.is_cut {
             return None;

@@ -184,10 +184,8 @@ impl<'a> Member<'a> {
             machine.set_millis(time);
             let patience = process.patience(self.host.clock(over)).max(1);
             self.host.due = over.saturating_add(patience);
-            if !self.host.is_cut() {
-                let history = process.process().node().history();
-                self.host.published = ledger.note_list(own, history, self.host.published);
-            }
+            let history = process.process().node().history();
+            self.host.published = ledger.note_list(own, history, self.host.published);
         }
     }
 

@@ -134,10 +134,8 @@ impl<'a> Replica<'a> {
             machine.set_millis(time);
             let patience = process.patience(self.host.clock(over)).max(1);
             self.host.due = over.saturating_add(patience);
-            if !self.host.is_cut() {
-                self.host.published = ledger.note_list(own, process.history(), self.host.published);
-                self.has_tape = process.has_tape();
-            }
+            self.host.published = ledger.note_list(own, process.history(), self.host.published);
+            self.has_tape = process.has_tape();
             if turn != Turn::On {
                 ledger.violate(Violation::Ended(own));
             }
