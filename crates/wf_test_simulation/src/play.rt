@@ -111,8 +111,7 @@ fn connections(plan: &Plan) -> usize {
         .saturating_add(strangers)
 }
 
-/// A folder for each host, that of the clients for another one of node 0, and one more for another
-/// one of the first replica.
+/// A folder for each host, that of the clients for node 0 later, and one for the first replica then.
 fn folders_of(alloc: Global, plan: &Plan) -> Result<Vec<MemoryFolder>, AllocError> {
     let mut folders = Vec::new(alloc);
     for _ in 0..(plan.hosts() as usize).saturating_add(1) {
@@ -244,8 +243,7 @@ impl<'a, R: Eprint> Play<'a, R> {
         }
     }
 
-    /// Goes on until that moment at the latest, or until the connections of all clients that have
-    /// gone or stopped were given back; or, once the latter have gone too, none is left of them.
+    /// Goes on until that moment at the latest, or until all connections of clients are given back.
     fn run_leaving(&mut self, latest: u64, has_none: bool) {
         for _ in 0..MOST_MOMENTS {
             if latest <= self.machine.millis() || self.is_given_back(has_none) {
@@ -306,8 +304,7 @@ impl<'a, R: Eprint> Play<'a, R> {
         }
     }
 
-    /// Goes on to the next moment at which something is due, that time at the latest; each process
-    /// and each client does what it has to do.
+    /// Goes on to the next moment at which something is due: all do what they have to do.
     fn step(&mut self, latest: u64) {
         let time = self.next_moment().min(latest);
         self.machine.set_millis(time);
@@ -451,8 +448,7 @@ impl<'a, R: Eprint> Play<'a, R> {
         }
     }
 
-    /// Strangers come to a node: one from the clients' host, or many from that of another node.
-    /// Returns whether the host is a node's.
+    /// One stranger or many come to a node. Returns whether the host is a node's.
     fn let_come(&mut self, stroke: &Stroke) -> bool {
         let nodes = self.plan.nodes as usize;
         if nodes <= stroke.host {
@@ -483,7 +479,7 @@ impl<'a, R: Eprint> Play<'a, R> {
         true
     }
 
-    /// A process ends, or its disk fails or takes time, or its clock jumps. Returns whether it ran.
+    /// A fault happens to a process. Returns whether it ran.
     fn fail_process(&mut self, stroke: &Stroke) -> bool {
         let time = self.machine.millis();
         if let Some(member) = self.members.get_mut(stroke.host) {
