@@ -111,7 +111,7 @@ fn connections(plan: &Plan) -> usize {
         .saturating_add(strangers)
 }
 
-/// A folder for each host, that of the clients for node 0 later, and one for the first replica then.
+/// A folder for each host, that of the clients for node 0 later, and one for a replica then.
 fn folders_of(alloc: Global, plan: &Plan) -> Result<Vec<MemoryFolder>, AllocError> {
     let mut folders = Vec::new(alloc);
     for _ in 0..(plan.hosts() as usize).saturating_add(1) {
