@@ -26,6 +26,7 @@ mod feature;
 mod held;
 mod label;
 mod layer;
+mod layer_name;
 mod limits;
 mod map;
 mod members;

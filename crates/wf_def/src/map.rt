@@ -1,7 +1,8 @@
 //! Map definitions.
-ghost use Rattle.std.specs.Prelude.{◌≡◌, ◌+◌, ◌<◌, ◌≤◌, false, [], ◌∷◌, ◌++◌, length, slice_get, Some, IfOk, IfErr, OnOk, OnErr};
+ghost use Rattle.std.specs.Prelude.{◌≡◌, ◌+◌, ◌<◌, ◌≤◌, false, [], ◌∷◌, ◌++◌, length, position, slice_get, Some, IfSome, IfOk, IfErr, OnOk, OnErr};
+ghost use Rattle.std.specs.Str.{bytes_eq};
 ghost use Rattle.wf_def.specs.Definition.{Definition, empty_map};
-ghost use Rattle.wf_def.specs.Limits.{IsWithinLimits, IsLayer, IsLayerName, points_of_layer, feature_count, point_count, has_layer, is_repeated};
+ghost use Rattle.wf_def.specs.Limits.{IsWithinLimits, IsLayer, IsLayerName, points_of_layer, feature_count, point_count, has_layer, is_repeated, layer_names};
 ghost use Rattle.wf_def.specs.Limit.{most_features, most_layers, most_points};
 
 mod equality;
@@ -10,6 +11,7 @@ use crate::choice::Projection;
 use crate::extent::Extent;
 use crate::fault::LayerFault;
 use crate::layer::Layer;
+use crate::layer_name::LayerName;
 use crate::text::{clone_both, know_text};
 use indexmap::IndexMap;
 use std::alloc::{AllocError, Global};
@@ -170,6 +172,14 @@ impl MapDef {
         ensures within { IsWithinLimits self.now }
     {
         self.layers.get_index(index).unwrap()
+    }
+
+    /// The index of the layer of this name. None: the map has no such layer.
+    pub fn layer_index(&self, name: &[u8]) -> Option<usize>
+        ensures value { result ≡ position (bytes_eq name.now) (layer_names self.now.layers) }
+        ensures within { IfSome result (λ index. index < length self.now.layers) }
+    {
+        self.layers.get_index_of(&LayerName::new(name))
     }
 
     /// The name of the map.

@@ -1,5 +1,5 @@
 //! The parameter LAYERS (OGC 06-042, 7.3.3.3).
-ghost use Rattle.std.specs.Prelude.{◌≡◌, ◌<◌, ◌≤◌, IfOk, IfErr, IfSome, Some, None, filter_map, is_none, length, position};
+ghost use Rattle.std.specs.Prelude.{◌≡◌, ◌<◌, ◌≤◌, IfOk, IfErr, Some, None, filter_map, is_none, length, position};
 ghost use Rattle.std.specs.Result.{result_map_both};
 ghost use Rattle.wf_wms.specs.Limit.{most_entries};
 ghost use Rattle.wf_wms.specs.MapRequest.{AreLayersOf, check_layers, entries, layer_of, named_layers};
@@ -56,24 +56,10 @@ fn layer_indices(
 {
     let mut indices = Vec::new(alloc);
     for name in names.as_bytes().split(|byte| *byte == b',') {
-        match layer_of(map, name) {
+        match map.layer_index(name) {
             Some(index) => indices.push(index)?,
             None => return Ok(Err(indices.len())),
         }
     }
     Ok(Ok(indices))
-}
-
-/// The index in the map of the layer of this name.
-fn layer_of(map: &MapDef, name: &[u8]) -> Option<usize>
-    ensures index { result ≡ layer_of map.now name.now }
-    ensures within { IfSome result (λ index. index < length map.now.layers) }
-{
-    for index in 0..map.layer_count() {
-        let (layer_name, _) = map.layer(index);
-        if name == layer_name.as_bytes() {
-            return Some(index);
-        }
-    }
-    None
 }
