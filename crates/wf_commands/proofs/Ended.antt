@@ -26,11 +26,11 @@ use Rattle.wf_commands.specs.ServeRun.{IsLineServed, IsMachineServing, IsServeRu
 use Rattle.wf_commands.specs.declared.program.Ending.{Ending}
 use Rattle.wf_commands.specs.declared.fault.RunFault.{RunFault}
 use Rattle.wf_commands.specs.declared.fault.RunFault.TheVariants as faults
-use Rattle.wf_line.specs.CommandLine.{IsLineRejection}
+use Rattle.wf_line.specs.Program.{IsLineRejection, program}
 use Rattle.wf_line.specs.declared.command_line.Line.{Line}
 use Rattle.wf_line.specs.declared.command_line.Line.TheVariants as lines
 use Rattle.clap.specs.Simple.{subcommand_of}
-use Rattle.wf_line.specs.ProcessCommandLine.{AsksProcess, IsProcessRejection, names_process_command, process_program}
+use Rattle.wf_line.specs.ProcessCommandLine.{AsksProcess, names_process_command}
 use Rattle.wf_line.specs.declared.node_line.NodeCommand.{NodeCommand}
 use Rattle.wf_line.specs.declared.process_line.ProcessCommand.TheVariants as processes
 use Rattle.wf_line.specs.declared.replica_line.ReplicaLine.{ReplicaLine}
@@ -150,20 +150,20 @@ machine_serves inside outside service old new result reported_as served = record
 -- ---- the process
 
 module _ {T : Type 0} (tapes : Tape T) (status : ℕ) where
-  pub node_run : (words : List Text) → names_process_command words ≡ true → (command : NodeCommand) → AsksProcess (subcommand_of process_program words) (processes.Node command) →
+  pub node_run : (words : List Text) → names_process_command words ≡ true → (command : NodeCommand) → AsksProcess (subcommand_of program words) (processes.Node command) →
       (result : Result (Unit {0}) CommandFault) (none calls : List Call) → none ≡ [] → nodes.IsCommandDone tapes command none calls result → status ≡ nodes.command_status result → IsFarmProcess tapes status
   node_run words own command asked result none calls empty done is =
       let begun : nodes.IsCommandDone tapes command [] calls result = subst (λ (old : List Call). nodes.IsCommandDone tapes command old calls result) empty done in
       inl (record { words = words; own = own; command = command; asked = asked; result = result; calls = calls; done = begun; is = is })
 
-  pub replica_run : (words : List Text) → names_process_command words ≡ true → (line : ReplicaLine) → AsksProcess (subcommand_of process_program words) (processes.Replica line) →
+  pub replica_run : (words : List Text) → names_process_command words ≡ true → (line : ReplicaLine) → AsksProcess (subcommand_of program words) (processes.Replica line) →
       (result : Result (Unit {0}) ReplicaFault) → replicas.IsReplicaDone tapes line result → (none calls : List Call) → none ≡ [] → IsLineRun line none calls result →
       status ≡ replicas.replica_status result → IsFarmProcess tapes status
   replica_run words own line asked result done none calls empty folder is =
       let begun : IsLineRun line [] calls result = subst (λ (old : List Call). IsLineRun line old calls result) empty folder in
       inr (inl (record { words = words; own = own; line = line; asked = asked; result = result; done = done; calls = calls; folder = begun; is = is }))
 
-  pub farm_rejected : (words : List Text) → names_process_command words ≡ true → (kind : ErrorKind) → IsProcessRejection words kind → (printed : Bool) × (status ≡ rejection_status kind printed) →
+  pub farm_rejected : (words : List Text) → names_process_command words ≡ true → (kind : ErrorKind) → IsLineRejection words kind → (printed : Bool) × (status ≡ rejection_status kind printed) →
       IsFarmProcess tapes status
   farm_rejected words own kind why is = inr (inr (record { words = words; own = own; kind = kind; why = why; printed = is.0; is = is.1 }))
 

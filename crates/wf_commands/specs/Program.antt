@@ -8,7 +8,8 @@ use Rattle.clap.specs.declared.error.kind.ErrorKind.{ErrorKind}
 use Rattle.wf_serve.specs.declared.fault.ServeFault.{ServeFault}
 use Rattle.wf_service.specs.declared.service.Service.{Service}
 use Rattle.wf_stream.specs.Effects.{TakesUpTo}
-use Rattle.wf_line.specs.CommandLine.{Asks, IsLineRejection, program}
+use Rattle.wf_line.specs.CommandLine.{Asks}
+use Rattle.wf_line.specs.Program.{IsLineRejection, program}
 use Rattle.wf_commands.specs.FailureCount.{CountsReads, CountsWrites}
 use Rattle.wf_commands.specs.ProgramEnd.{left_to_report, rejection_status, reported, run_status, unreadable_status}
 use Rattle.wf_commands.specs.Contents.{Contents}
@@ -19,7 +20,7 @@ use Rattle.wf_commands.specs.declared.program.Ending.{Ending}
 use Rattle.wf_commands.specs.declared.fault.RunFault.{RunFault}
 use Rattle.wf_line.specs.declared.command_line.Line.{Line}
 use Rattle.wf_line.specs.declared.command_line.Line.TheVariants as lines
-use Rattle.wf_line.specs.ProcessCommandLine.{AsksProcess, IsProcessRejection, names_process_command, process_program}
+use Rattle.wf_line.specs.ProcessCommandLine.{AsksProcess, names_process_command}
 use Rattle.wf_line.specs.declared.node_line.NodeCommand.{NodeCommand}
 use Rattle.wf_line.specs.declared.process_line.ProcessCommand.TheVariants as processes
 use Rattle.wf_line.specs.declared.replica_line.ReplicaLine.{ReplicaLine}
@@ -108,7 +109,7 @@ pub record HasRunNode {T : Type 0} (tapes : Tape T) (status : ℕ) : Type 0 wher
   pub words : List Text
   pub own : names_process_command words ≡ true
   pub command : NodeCommand
-  pub asked : AsksProcess (subcommand_of process_program words) (processes.Node command)
+  pub asked : AsksProcess (subcommand_of program words) (processes.Node command)
   pub result : Result (Unit {0}) CommandFault
   pub calls : List Call
   pub done : nodes.IsCommandDone tapes command [] calls result
@@ -120,7 +121,7 @@ pub record HasRunReplica {T : Type 0} (tapes : Tape T) (status : ℕ) : Type 0 w
   pub words : List Text
   pub own : names_process_command words ≡ true
   pub line : ReplicaLine
-  pub asked : AsksProcess (subcommand_of process_program words) (processes.Replica line)
+  pub asked : AsksProcess (subcommand_of program words) (processes.Replica line)
   pub result : Result (Unit {0}) ReplicaFault
   pub done : replicas.IsReplicaDone tapes line result
   pub calls : List Call
@@ -132,7 +133,7 @@ pub record WasFarmRejected (status : ℕ) : Type 0 where
   pub words : List Text
   pub own : names_process_command words ≡ true
   pub kind : ErrorKind
-  pub why : IsProcessRejection words kind
+  pub why : IsLineRejection words kind
   pub printed : Bool
   pub is : status ≡ rejection_status kind printed
 

@@ -19,7 +19,8 @@ use Rattle.clap.specs.declared.parser.matches.ArgMatches.TheViews.{out-SubComman
 use Rattle.clap.specs.declared.parser.matches.ArgMatches.{ArgMatches}
 use Rattle.clap.specs.declared.parser.matches.Found.{Found}
 use Rattle.clap.specs.declared.parser.matches.SubCommand.{SubCommand}
-use Rattle.wf_line.specs.CommandLine.{Asks, IsCacheBy, IsCapsOf, IsCheckAsked, IsDrawOf, IsMapBy, IsLineRejection, IsServeOf, IsServiceOf, IsTapeOption, program, rejections}
+use Rattle.wf_line.specs.CommandLine.{Asks, IsCacheBy, IsCapsOf, IsCheckAsked, IsDrawOf, IsMapBy, IsServeOf, IsServiceOf, IsTapeOption}
+use Rattle.wf_line.specs.Program.{IsLineRejection, program, rejections}
 use Rattle.wf_ballot.specs.Sequence.{last_sequence}
 use Rattle.wf_line.specs.Line.{IsInRange}
 use Rattle.wf_line.specs.declared.command_line.Line.{Line}
@@ -158,7 +159,7 @@ simple_program : is_simple program ≡ true
 unfolding clap_on_literals
 simple_program = refl
 
-met_is : (app : App) (words : List Text) (m : ArgMatches) → app ≡ program → HasMatchesOf app words m → subcommand_rows_of m ≡ subcommand_of program words
+pub met_is : (app : App) (words : List Text) (m : ArgMatches) → app ≡ program → HasMatchesOf app words m → subcommand_rows_of m ≡ subcommand_of program words
 met_is app words m is has = (has (ap is_simple is ∙ simple_program)).1 ∙ ap (λ (a : App). subcommand_of a words) is
 
 pub asked_of_program : (app : App) (words : List Text) (m : ArgMatches) (line : Line) → app ≡ program → HasMatchesOf app words m → Asks (subcommand_rows_of m) line →

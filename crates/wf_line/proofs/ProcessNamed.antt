@@ -1,21 +1,16 @@
 -- From the parsed arguments to the command about a process that they ask for.
-use Rattle.std.proofs.Common.{◌≡◌, ◌∙◌, ◌≤◌, ℕ, List, [], true, inl, inr, sym, ap, subst, refl, codes, arith}
+use Rattle.std.proofs.Common.{◌≡◌, ◌∙◌, ◌≤◌, ℕ, List, true, sym, ap, subst, codes, arith}
 use Rattle.std.specs.Prelude.{Option, Some, None, option_map, IfNone}
 use Rattle.std.specs.Str.{bytes_eq}
 use Rattle.std.proofs.lemmas.Bool.{false≢true}
-use Rattle.clap.proofs.OnLiterals.{clap_on_literals}
-use Rattle.clap.specs.Faults.{fault_of, is_simple_and_free}
-use Rattle.clap.specs.Kinds.{HasKind}
-use Rattle.clap.specs.Simple.{App, HasMatchesOf, is_simple, subcommand_of, subcommand_rows_of}
-use Rattle.clap.specs.Takes.{takes}
-use Rattle.clap.specs.Values.{kind_of}
+use Rattle.clap.specs.Simple.{App, HasMatchesOf, subcommand_of, subcommand_rows_of}
 use Rattle.clap.specs.Walk.{Row, Text, first_of}
-use Rattle.clap.specs.declared.error.Error.{Error}
-use Rattle.clap.specs.declared.error.kind.ErrorKind.TheVariants.{OutOfMemory}
 use Rattle.clap.specs.declared.parser.matches.ArgMatches.{ArgMatches}
 use Rattle.wf_line.specs.NodeCommandLine.{IsNodeLineOf, IsNumberBy}
 use Rattle.wf_line.specs.NodeLine.{IsNodeInRange, most_clients}
-use Rattle.wf_line.specs.ProcessCommandLine.{AsksProcess, IsClearOf, IsInitOf, IsNodeOf, IsProcessRejection, IsReplicaOf, process_program, process_rejections}
+use Rattle.wf_line.proofs.Named.{met_is}
+use Rattle.wf_line.specs.Program.{program}
+use Rattle.wf_line.specs.ProcessCommandLine.{AsksProcess, IsClearOf, IsInitOf, IsNodeOf, IsReplicaOf}
 use Rattle.wf_line.specs.ProcessLine.{IsProcessInRange, IsReplicaInRange}
 use Rattle.wf_line.specs.ReplicaCommandLine.{IsReplicaLineOf}
 use Rattle.wf_line.specs.declared.node_line.NodeCommand.TheVariants as commands
@@ -97,43 +92,12 @@ command_in_range (Some named) (processes.Node (commands.Node line)) asks = node_
 command_in_range (Some named) (processes.Node (commands.Clear line)) asks = tt
 command_in_range (Some named) (processes.Replica line) asks = replica_in_range named.1 line asks.1
 
--- arguments that the parser accepts are rejected only if an allocation fails
-pub passes_on : (app : App) (words : List Text) (error : Error) → app ≡ process_program → (takes app words ≡ true → kind_of error ≡ OutOfMemory)
-    → takes process_program words ≡ true → kind_of error ≡ OutOfMemory
-passes_on app words error is passes taken = passes (ap (λ a. takes a words) is ∙ taken)
-
 -- ---- the parsed command is that of the program's rules
 
-simple_program : is_simple process_program ≡ true
-unfolding clap_on_literals
-simple_program = refl
-
-met_is : (app : App) (words : List Text) (m : ArgMatches) → app ≡ process_program → HasMatchesOf app words m → subcommand_rows_of m ≡ subcommand_of process_program words
-met_is app words m is has = (has (ap is_simple is ∙ simple_program)).1 ∙ ap (λ (a : App). subcommand_of a words) is
-
-pub asked_of_program : (app : App) (words : List Text) (m : ArgMatches) (command : ProcessCommand) → app ≡ process_program → HasMatchesOf app words m → AsksProcess (subcommand_rows_of m) command →
-    AsksProcess (subcommand_of process_program words) command
+pub asked_of_program : (app : App) (words : List Text) (m : ArgMatches) (command : ProcessCommand) → app ≡ program → HasMatchesOf app words m → AsksProcess (subcommand_rows_of m) command →
+    AsksProcess (subcommand_of program words) command
 asked_of_program app words m command is has asks = subst (λ (rows : Option (Text × List Row)). AsksProcess rows command) (met_is app words m is has) asks
 
-pub none_of_program : (app : App) (words : List Text) (m : ArgMatches) → app ≡ process_program → HasMatchesOf app words m → ((command : ProcessCommand) → ¬ (AsksProcess (subcommand_rows_of m) command)) →
-    (command : ProcessCommand) → ¬ (AsksProcess (subcommand_of process_program words) command)
+pub none_of_program : (app : App) (words : List Text) (m : ArgMatches) → app ≡ program → HasMatchesOf app words m → ((command : ProcessCommand) → ¬ (AsksProcess (subcommand_rows_of m) command)) →
+    (command : ProcessCommand) → ¬ (AsksProcess (subcommand_of program words) command)
 none_of_program app words m is has none command asks = none command (subst (λ (rows : Option (Text × List Row)). AsksProcess rows command) (sym (met_is app words m is has)) asks)
-
--- ---- the kinds of rejection are the parser's for the program's rules
-
-free_program : is_simple_and_free process_program ≡ true
-unfolding clap_on_literals
-free_program = refl
-
-pub kind_on : (app : App) (words : List Text) (error : Error) → app ≡ process_program → (is_simple_and_free app ≡ true → HasKind (fault_of app words) error)
-    → IsProcessRejection words (kind_of error)
-unfolding process_rejections
-kind_on app words error is kinds =
-    elim (subst (λ (a : App). HasKind (fault_of a words) error) is (kinds (ap is_simple_and_free is ∙ free_program))) [
-      | inl memory ↦ inl memory
-      | inr among ↦ inr (inl among)
-    ]
-
-pub none_on : (app : App) (words : List Text) → app ≡ process_program → (is_simple_and_free app ≡ true → fault_of app words ≡ []) → process_rejections words ≡ []
-unfolding process_rejections
-none_on app words is kinds = subst (λ (a : App). fault_of a words ≡ []) is (kinds (ap is_simple_and_free is ∙ free_program))

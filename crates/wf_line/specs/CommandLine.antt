@@ -1,16 +1,12 @@
 -- What the arguments of a command line ask for, by the rules of `clap`.
-use Rattle.std.specs.Prelude.{◌≡◌, ◌⊎◌, ℕ, ℤ, if◌then◌else◌, option_map, ◌==◌, not, Bool, List, [], ◌∷◌, Option, Some, None, false, true, codes, pos}
-use Rattle.clap.specs.Faults.{fault_of}
-use Rattle.clap.specs.Kinds.{IsAmong}
+use Rattle.std.specs.Prelude.{◌≡◌, ℕ, ℤ, if◌then◌else◌, option_map, Bool, List, [], ◌∷◌, Option, Some, None, false, true, codes, pos}
 use Rattle.clap.specs.Matches.{found_of}
 use Rattle.clap.specs.Walk.{Row, Rule, Text, first_of, rows_of}
-use Rattle.clap.specs.Simple.{App, Shape, app_of, new_rule, new_shape, shape_of, subcommand_of}
+use Rattle.clap.specs.Simple.{Shape, new_rule, new_shape, shape_of}
 use Rattle.clap.specs.Takes.{takes}
 use Rattle.clap.specs.declared.builder.command.Command.{Command}
 use Rattle.clap.specs.declared.builder.command.Command.TheViews.{out-Command}
 use Rattle.clap.specs.declared.parser.matches.ArgMatches.{ArgMatches}
-use Rattle.clap.specs.declared.error.kind.ErrorKind.{ErrorKind}
-use Rattle.clap.specs.declared.error.kind.ErrorKind.TheVariants.{OutOfMemory, ValueValidation}
 use Rattle.clap.specs.declared.builder.action.ArgAction.TheVariants.{SetTrue}
 use Rattle.clap.specs.declared.builder.value_parser.ValueParser.TheVariants.{Signed}
 use Rattle.std.specs.Str.{bytes_eq}
@@ -127,28 +123,11 @@ required_serve_shape = record (new_shape (codes "serve")) { rules = nodes_rule �
 abbrev pub serve_shape : Shape
 serve_shape = record (new_shape (codes "serve")) { rules = nodes_rule ∷ port_rule ∷ requests_rule ∷ cache_rule ∷ state_rule ∷ log_rule ∷ [] }
 
--- The program's command, as data for the parser: it takes one of eight commands, or asks for the
--- version or help.
-abbrev pub program : App
-program = record {
-  top = record (new_shape (codes "wfarm")) {
-    is_leaf = false;
-    no_binary_name = true;
-    has_version = true;
-    subcommand_required = true;
-  };
-  subs = caps_shape ∷ draw_shape ∷ canon_shape ∷ check_shape ∷ run_shape ∷ wire_shape ∷ tape_shape ∷ serve_shape ∷ [];
-}
-
 -- ---- the commands as they are built
 
 -- the command has this shape, and no argument that is its subcommands' too
 abbrev pub IsOfShape : Shape → Command → Type 0
 IsOfShape shape command = (shape_of command ≡ shape) × ((out-Command command).has_globals ≡ false)
-
--- the command is the program's, with these subcommands so far
-abbrev pub HasSubcommands : List Shape → Command → Type 0
-HasSubcommands shapes command = app_of command ≡ record program { subs = shapes }
 
 -- ---- the line that is asked for
 
@@ -288,63 +267,3 @@ Asks (Some named) (lines.Tape file map) = (named.0 ≡ codes "tape") × IsTapeOp
 Asks (Some named) lines.Run = named.0 ≡ codes "run"
 Asks (Some named) lines.Wire = named.0 ≡ codes "wire"
 Asks (Some named) (lines.Serve service) = (named.0 ≡ codes "serve") × IsServeOf named.1 (lines.Serve service)
-
--- why arguments are rejected: if the parser accepts them and they ask for a line, an allocation
--- failed
-abbrev pub IsWhyLineRejected : List Text → ErrorKind → Type 0
-IsWhyLineRejected words kind = takes program words ≡ true → (line : Line) → Asks (subcommand_of program words) line → kind ≡ OutOfMemory
-
--- The kinds of error by which the parser rejects arguments, of which one comes: help and the
--- version are among them. None if it accepts them.
-unfoldable pub rejections : List Text → List ErrorKind
-rejections words = fault_of program words
-
--- the kind of a rejection: an allocation failed; the parser's; or a value out of range, if the
--- parser accepts the arguments
-abbrev pub IsLineRejection : List Text → ErrorKind → Type 0
-IsLineRejection words kind = (kind ≡ OutOfMemory) ⊎ (IsAmong kind (rejections words) ⊎ ((rejections words ≡ []) × (kind ≡ ValueValidation)))
-
--- the argument doesn't begin with a hyphen, so it isn't an option
-abbrev pub is_plain : Text → Bool
-is_plain [] = true
-is_plain (first ∷ rest) = not (first == 45)
-
--- The parser accepts `caps`, an argument that spells an update sequence and any argument as the
--- query, neither with a leading hyphen. They ask for exactly the line of that number and that
--- query.
-abbrev pub PlainCapsIsAsked : Type 0
-PlainCapsIsAsked = (word query : Text) (line : Line) → is_plain word ≡ true → is_plain query ≡ true → IsCapsLine word query line
-    → (takes program (codes "caps" ∷ word ∷ query ∷ []) ≡ true) × Asks (subcommand_of program (codes "caps" ∷ word ∷ query ∷ [])) line
-
--- The parser accepts `draw` and any argument without a leading hyphen as the query. They ask for
--- exactly the line of that query.
-abbrev pub PlainDrawIsAsked : Type 0
-PlainDrawIsAsked = (query : Text) (line : Line) → is_plain query ≡ true → IsDrawLine query line
-    → (takes program (codes "draw" ∷ query ∷ []) ≡ true) × Asks (subcommand_of program (codes "draw" ∷ query ∷ [])) line
-
--- The parser accepts `tape` and any argument without a leading hyphen as the file. They ask for
--- exactly the line of that file, without a map.
-abbrev pub PlainTapeIsAsked : Type 0
-PlainTapeIsAsked = (file : Text) (line : Line) → is_plain file ≡ true → IsTapeLine file None line
-    → (takes program (codes "tape" ∷ file ∷ []) ≡ true) × Asks (subcommand_of program (codes "tape" ∷ file ∷ [])) line
-
--- The parser accepts `canon` alone; it asks for the canonical text.
-abbrev pub PlainCanonIsAsked : Type 0
-PlainCanonIsAsked = (takes program (codes "canon" ∷ []) ≡ true) × Asks (subcommand_of program (codes "canon" ∷ [])) lines.Canon
-
--- The parser accepts `check` alone; it asks to check the mapfile, with a report as text.
-abbrev pub PlainCheckIsAsked : Type 0
-PlainCheckIsAsked = (takes program (codes "check" ∷ []) ≡ true) × Asks (subcommand_of program (codes "check" ∷ [])) (lines.Check formats.Text)
-
--- The parser accepts `check --format json`; it asks to check the mapfile, with a report as JSON.
-abbrev pub JsonCheckIsAsked : Type 0
-JsonCheckIsAsked = (takes program (codes "check" ∷ codes "--format" ∷ codes "json" ∷ []) ≡ true)
-    × Asks (subcommand_of program (codes "check" ∷ codes "--format" ∷ codes "json" ∷ [])) (lines.Check formats.Json)
-
--- The parser accepts `run` alone; it asks to play a script.
-abbrev pub PlainRunIsAsked : Type 0
-PlainRunIsAsked = (takes program (codes "run" ∷ []) ≡ true) × Asks (subcommand_of program (codes "run" ∷ [])) lines.Run
-
--- The parser accepts `wire` alone; it asks to play a script whose messages cross a connection.
-abbrev pub PlainWireIsAsked : Type 0
-PlainWireIsAsked = (takes program (codes "wire" ∷ []) ≡ true) × Asks (subcommand_of program (codes "wire" ∷ [])) lines.Wire

@@ -4,4 +4,5 @@ pub mod NodeCommandLine
 pub mod NodeLine
 pub mod ProcessCommandLine
 pub mod ProcessLine
+pub mod Program
 pub mod ReplicaCommandLine

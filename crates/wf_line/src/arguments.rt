@@ -1,23 +1,23 @@
 //! Parses the command line.
-ghost use Rattle.std.specs.Prelude.{◌≡◌, ◌∷◌, [], ℕ, IfErr, IfNone, IfOk, IfSome, Option, false, map, option_map};
-ghost use Rattle.clap.specs.Simple.{app_of, shape_of, subcommand_of, subcommand_rows_of};
+ghost use Rattle.std.specs.Prelude.{◌≡◌, ℕ, IfErr, IfNone, IfOk, IfSome, Option, false, map, option_map};
+ghost use Rattle.clap.specs.Simple.{shape_of, subcommand_of, subcommand_rows_of};
 ghost use Rattle.clap.specs.Values.{kind_of};
 ghost use Rattle.clap.specs.Walk.{first_of, rule_of};
 ghost use Rattle.clap.specs.declared.builder.command.Command.TheViews.{out-Command};
-ghost use Rattle.wf_line.specs.CommandLine.{Asks, HasSubcommands, IsCacheBy, IsCapsOf, IsDrawOf, IsNumberOf, IsOfShape, IsLineRejection, IsServeOf, IsServiceOf, IsTapeOption, IsWhyLineRejected, PlainCanonIsAsked, PlainCapsIsAsked, PlainDrawIsAsked, PlainRunIsAsked, PlainTapeIsAsked, PlainWireIsAsked, program, caps_shape, draw_shape, canon_shape, run_shape, wire_shape, tape_shape, required_serve_shape, serve_shape, rows_in, is_set, IsMapBy, map_rule, log_rule, sequence_rule, query_rule, file_rule, number_rule, nodes_rule, port_rule, requests_rule, cache_rule, state_rule, PlainCheckIsAsked, JsonCheckIsAsked, check_shape, format_rule, IsCheckAsked, format_by};
+ghost use Rattle.wf_line.specs.CommandLine.{Asks, IsCacheBy, IsCapsOf, IsDrawOf, IsNumberOf, IsOfShape, IsServeOf, IsServiceOf, IsTapeOption, caps_shape, draw_shape, canon_shape, run_shape, wire_shape, tape_shape, required_serve_shape, serve_shape, rows_in, is_set, IsMapBy, map_rule, log_rule, sequence_rule, query_rule, file_rule, number_rule, nodes_rule, port_rule, requests_rule, cache_rule, state_rule, check_shape, format_rule, IsCheckAsked, format_by};
+ghost use Rattle.wf_line.specs.Program.{IsLineRejection, IsWhyLineRejected, JsonCheckIsAsked, PlainCanonIsAsked, PlainCapsIsAsked, PlainCheckIsAsked, PlainDrawIsAsked, PlainRunIsAsked, PlainTapeIsAsked, PlainWireIsAsked, program};
 ghost use Rattle.wf_line.specs.Line.{IsInRange, IsNumber, SpellsSequence};
 ghost use Rattle.wf_line.specs.declared.command_line.Line.{Line};
 ghost use Rattle.wf_service.specs.declared.service.Service.{Service};
 
 use crate::command_line::{Format, Line};
+use crate::program::{program, rejection};
 use clap::builder::ValueParser;
-use clap::error::ErrorKind;
 use clap::{Arg, ArgAction, ArgMatches, Command, Error};
 use std::alloc::{AllocError, Global};
 use std::convert::AsStr;
 use wf_ballot::SEQUENCES;
 use wf_service::Service;
-use wf_version::BUILD;
 
 const CAPS_HELP: &str =
     "caps answers GetCapabilities; it does not support GetMap, which draw answers.
@@ -90,13 +90,6 @@ const MOST_CACHE: i64 = 64;
 /// The number of pictures that each node keeps by default.
 const DEFAULT_CACHE: u32 = 16;
 
-const PROCESSES_HELP: &str = "A farm of processes:
-  init      Makes the folder of a node
-  node      Serves one node of a farm, whose other nodes are other processes
-  clear     Ends a suspension, and forgets what the node accused its peers of
-  replica   Serves what a farm publishes, without a vote
-wfarm help init, wfarm help node, wfarm help clear and wfarm help replica tell of these";
-
 const SERVE_HELP: &str =
     "GET /wms?QUERY answers a WMS request, POST /publish proposes the mapfile in its body, GET /status reports a node.
 Node c mod N serves connection c, counted from 0.
@@ -106,8 +99,6 @@ exist; without it the tapes are lost when the program ends. The folder belongs t
 With --log a line on standard error tells each event: TIME LEVEL EVENT KEY=VALUE ..
 
 Errors (status 1): serve fault";
-
-static NO_WORDS: [&str; 0] = [];
 
 // One function for each part, called one after another: only clap drops what is built.
 fn seq_argument<'a>(alloc: Global) -> Arg<'a>
@@ -161,7 +152,7 @@ fn file_argument<'a>(alloc: Global) -> Arg<'a>
 }
 
 // `caps SEQ QUERY`.
-fn caps_command<'a>(alloc: Global) -> Result<Command<'a>, AllocError>
+pub(crate) fn caps_command<'a>(alloc: Global) -> Result<Command<'a>, AllocError>
     ensures { IfOk result (IsOfShape caps_shape) }
 {
     Command::new(alloc, "caps")
@@ -172,7 +163,7 @@ fn caps_command<'a>(alloc: Global) -> Result<Command<'a>, AllocError>
 }
 
 // `draw QUERY`.
-fn draw_command<'a>(alloc: Global) -> Result<Command<'a>, AllocError>
+pub(crate) fn draw_command<'a>(alloc: Global) -> Result<Command<'a>, AllocError>
     ensures { IfOk result (IsOfShape draw_shape) }
 {
     Command::new(alloc, "draw")
@@ -182,7 +173,7 @@ fn draw_command<'a>(alloc: Global) -> Result<Command<'a>, AllocError>
 }
 
 // `canon`.
-fn canon_command<'a>(alloc: Global) -> Command<'a>
+pub(crate) fn canon_command<'a>(alloc: Global) -> Command<'a>
     ensures shape { shape_of result ≡ canon_shape }
     ensures local { (out-Command result).has_globals ≡ false }
 {
@@ -203,7 +194,7 @@ fn format_argument<'a>(alloc: Global) -> Arg<'a>
 }
 
 // `check --format FORMAT`.
-fn check_command<'a>(alloc: Global) -> Result<Command<'a>, AllocError>
+pub(crate) fn check_command<'a>(alloc: Global) -> Result<Command<'a>, AllocError>
     ensures { IfOk result (IsOfShape check_shape) }
 {
     Command::new(alloc, "check")
@@ -213,7 +204,7 @@ fn check_command<'a>(alloc: Global) -> Result<Command<'a>, AllocError>
 }
 
 // `run`.
-fn run_command<'a>(alloc: Global) -> Command<'a>
+pub(crate) fn run_command<'a>(alloc: Global) -> Command<'a>
     ensures shape { shape_of result ≡ run_shape }
     ensures local { (out-Command result).has_globals ≡ false }
 {
@@ -223,7 +214,7 @@ fn run_command<'a>(alloc: Global) -> Command<'a>
 }
 
 // `wire`.
-fn wire_command<'a>(alloc: Global) -> Command<'a>
+pub(crate) fn wire_command<'a>(alloc: Global) -> Command<'a>
     ensures shape { shape_of result ≡ wire_shape }
     ensures local { (out-Command result).has_globals ≡ false }
 {
@@ -249,7 +240,7 @@ fn map_argument<'a>(alloc: Global) -> Arg<'a>
 }
 
 // `tape FILE --map S`.
-fn tape_command<'a>(alloc: Global) -> Result<Command<'a>, AllocError>
+pub(crate) fn tape_command<'a>(alloc: Global) -> Result<Command<'a>, AllocError>
     ensures { IfOk result (IsOfShape tape_shape) }
 {
     Command::new(alloc, "tape")
@@ -360,91 +351,13 @@ fn farm_command<'a>(alloc: Global) -> Result<Command<'a>, AllocError>
 }
 
 // `serve --nodes N --port P --requests K --cache C --state DIR --log`.
-fn serve_command<'a>(alloc: Global) -> Result<Command<'a>, AllocError>
+pub(crate) fn serve_command<'a>(alloc: Global) -> Result<Command<'a>, AllocError>
     ensures { IfOk result (IsOfShape serve_shape) }
 {
     farm_command(alloc)?
         .arg(cache_argument(alloc))?
         .arg(state_argument(alloc))?
         .arg(log_argument(alloc))
-}
-
-// The program with its first command only.
-fn first_command<'a>(alloc: Global) -> Result<Command<'a>, AllocError>
-    ensures { IfOk result (HasSubcommands (caps_shape ∷ [])) }
-{
-    let caps = caps_command(alloc)?;
-    Command::new(alloc, "wfarm")
-        .version(BUILD)
-        .about("Runs a farm of Web Map Service servers that publish one history of maps")
-        .after_help(PROCESSES_HELP)
-        .no_binary_name(true)
-        .subcommand_required(true)
-        .subcommand(caps)
-}
-
-// The commands that answer a request about a mapfile.
-fn drawing_commands<'a>(alloc: Global) -> Result<Command<'a>, AllocError>
-    ensures { IfOk result (HasSubcommands (caps_shape ∷ draw_shape ∷ [])) }
-{
-    let draw = draw_command(alloc)?;
-    first_command(alloc)?.subcommand(draw)
-}
-
-// The commands about a mapfile.
-fn mapfile_commands<'a>(alloc: Global) -> Result<Command<'a>, AllocError>
-    ensures { IfOk result (HasSubcommands
-        (caps_shape ∷ draw_shape ∷ canon_shape ∷ check_shape ∷ [])) }
-{
-    let check = check_command(alloc)?;
-    drawing_commands(alloc)?
-        .subcommand(canon_command(alloc))?
-        .subcommand(check)
-}
-
-// The commands about an input.
-fn input_commands<'a>(alloc: Global) -> Result<Command<'a>, AllocError>
-    ensures { IfOk result (HasSubcommands
-        (caps_shape ∷ draw_shape ∷ canon_shape ∷ check_shape ∷ run_shape ∷ wire_shape ∷ [])) }
-{
-    mapfile_commands(alloc)?
-        .subcommand(run_command(alloc))?
-        .subcommand(wire_command(alloc))
-}
-
-// The commands about an input or a file.
-fn reading_commands<'a>(alloc: Global) -> Result<Command<'a>, AllocError>
-    ensures { IfOk result (HasSubcommands
-        (caps_shape ∷ draw_shape ∷ canon_shape ∷ check_shape ∷ run_shape ∷ wire_shape ∷
-        tape_shape ∷ [])) }
-{
-    let tape = tape_command(alloc)?;
-    input_commands(alloc)?.subcommand(tape)
-}
-
-// The program with all its commands.
-fn command<'a>(alloc: Global) -> Result<Command<'a>, AllocError>
-    ensures { IfOk result (λ command. app_of command ≡ program) }
-{
-    let serve = serve_command(alloc)?;
-    reading_commands(alloc)?
-        .subcommand(serve)?
-        .bin_name("wfarm")
-}
-
-// The error for a missing command or a value out of range, with the usage.
-fn rejection(alloc: Global) -> Result<Error, AllocError>
-    ensures { IfOk result (λ error. kind_of error ≡ ErrorKind.ValueValidation) }
-{
-    let mut command = command(alloc)?;
-    let rejection = command.error(
-        ErrorKind::ValueValidation,
-        "a command is missing, or a value is out of range",
-    );
-    // Parsing no arguments drops the command. A drop here would need a proof for all of its parts
-    // again.
-    let _ = command.try_get_matches_from(NO_WORDS.as_slice());
-    rejection
 }
 
 // The update sequence that an argument spells.
@@ -645,7 +558,7 @@ pub fn line<'a, S: AsStr>(alloc: Global, words: &'a [S]) -> Result<Line<'a>, Err
     ensures kind { IfErr result
         (λ error. IsLineRejection (map S.text words.entry.now) (kind_of error)) }
 {
-    let matches = command(alloc)?.try_get_matches_from(words)?;
+    let matches = program(alloc)?.try_get_matches_from(words)?;
     let asked = line_of(&matches);
     drop(matches);
     // The parser has checked that there is a line, but clap's contract doesn't cover a subcommand's

@@ -8,7 +8,8 @@
 //!
 //! [`process_command`] does so for the command lines about processes of a farm, `init`, `node`,
 //! `clear` and `replica` (`specs/ProcessCommandLine.antt`); [`names_process_command`] says which
-//! these are.
+//! these are. The parser's program is one (`program` of `specs/Program.antt`), so that help and
+//! errors know all commands.
 //!
 //! Not here: what a command does (wf_commands), and the text that is printed for a rejected command
 //! line.
@@ -20,6 +21,7 @@ mod node_arguments;
 mod node_line;
 mod process_arguments;
 mod process_line;
+mod program;
 mod replica_arguments;
 mod replica_line;
 

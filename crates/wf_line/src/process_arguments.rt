@@ -1,76 +1,21 @@
 //! Parses the command lines about processes of a farm.
-ghost use Rattle.std.specs.Prelude.{◌≡◌, ◌∷◌, [], IfErr, IfNone, IfOk, IfSome, map};
-ghost use Rattle.clap.specs.Simple.{app_of, subcommand_of, subcommand_rows_of};
+ghost use Rattle.std.specs.Prelude.{◌≡◌, [], IfErr, IfNone, IfOk, IfSome, map};
+ghost use Rattle.clap.specs.Simple.{subcommand_of, subcommand_rows_of};
 ghost use Rattle.clap.specs.Values.{kind_of};
 ghost use Rattle.wf_line.specs.CommandLine.{rows_in};
-ghost use Rattle.wf_line.specs.NodeCommandLine.{clear_shape, init_shape, node_shape};
-ghost use Rattle.wf_line.specs.ProcessCommandLine.{AsksProcess, IsClearOf, IsInitOf, IsNodeOf, IsProcessRejection, IsReplicaOf, IsWhyProcessRejected, begins_with_process_command, is_process_command, names_process_command, process_program, program_of};
+ghost use Rattle.wf_line.specs.ProcessCommandLine.{AsksProcess, IsClearOf, IsInitOf, IsNodeOf, IsReplicaOf, begins_with_process_command, is_process_command, names_process_command};
+ghost use Rattle.wf_line.specs.Program.{IsLineRejection, IsWhyProcessRejected, program};
 ghost use Rattle.wf_line.specs.ProcessLine.{IsProcessInRange};
 ghost use Rattle.wf_line.specs.declared.process_line.ProcessCommand.{ProcessCommand};
 
-use crate::node_arguments::{
-    clear_command, clear_line, init_command, init_line, node_arguments, node_line,
-};
+use crate::node_arguments::{clear_line, init_line, node_line};
 use crate::node_line::NodeCommand;
 use crate::process_line::ProcessCommand;
-use crate::replica_arguments::{replica_arguments, replica_line};
-use clap::error::ErrorKind;
-use clap::{ArgMatches, Command, Error};
-use std::alloc::{AllocError, Global};
+use crate::program::{program, rejection};
+use crate::replica_arguments::replica_line;
+use clap::{ArgMatches, Error};
+use std::alloc::Global;
 use std::convert::AsStr;
-
-static NO_WORDS: [&str; 0] = [];
-
-// The program with its first command only.
-fn first_command<'a>(alloc: Global) -> Result<Command<'a>, AllocError>
-    ensures { IfOk result (λ command. app_of command ≡ program_of (init_shape ∷ [])) }
-{
-    let init = init_command(alloc)?;
-    Command::new(alloc, "wfarm")
-        .no_binary_name(true)
-        .subcommand_required(true)
-        .subcommand(init)
-}
-
-// The program with the commands that make and serve a node.
-fn serving_program<'a>(alloc: Global) -> Result<Command<'a>, AllocError>
-    ensures { IfOk result (λ command. app_of command ≡ program_of (init_shape ∷ node_shape ∷ [])) }
-{
-    let node = node_arguments(alloc)?;
-    first_command(alloc)?.subcommand(node)
-}
-
-// The program with the commands about nodes.
-fn node_program<'a>(alloc: Global) -> Result<Command<'a>, AllocError>
-    ensures { IfOk result (λ command.
-        app_of command ≡ program_of (init_shape ∷ node_shape ∷ clear_shape ∷ [])) }
-{
-    let clear = clear_command(alloc)?;
-    serving_program(alloc)?.subcommand(clear)
-}
-
-// The program with all commands about processes.
-fn program<'a>(alloc: Global) -> Result<Command<'a>, AllocError>
-    ensures { IfOk result (λ command. app_of command ≡ process_program) }
-{
-    let replica = replica_arguments(alloc)?;
-    node_program(alloc)?.subcommand(replica)?.bin_name("wfarm")
-}
-
-// The error for a missing command or a value out of range, with the usage.
-fn rejection(alloc: Global) -> Result<Error, AllocError>
-    ensures { IfOk result (λ error. kind_of error ≡ ErrorKind.ValueValidation) }
-{
-    let mut command = program(alloc)?;
-    let rejection = command.error(
-        ErrorKind::ValueValidation,
-        "a command is missing, or a value is out of range",
-    );
-    // Parsing no arguments drops the command. A drop here would need a proof for all of its parts
-    // again.
-    let _ = command.try_get_matches_from(NO_WORDS.as_slice());
-    rejection
-}
 
 // The `init` command of the parsed arguments.
 fn init<'a>(found: &ArgMatches<'a>) -> Option<ProcessCommand<'a>>
@@ -179,13 +124,13 @@ pub fn process_command<'a, S: AsStr>(
 ) -> Result<ProcessCommand<'a>, Error>
     ensures range { IfOk result IsProcessInRange }
     ensures asked { IfOk result
-        (AsksProcess (subcommand_of process_program (map S.text words.entry.now))) }
+        (AsksProcess (subcommand_of program (map S.text words.entry.now))) }
     // Arguments that ask for a command are rejected only if an allocation fails.
     ensures rejected { IfErr result
         (λ error. IsWhyProcessRejected (map S.text words.entry.now) (kind_of error)) }
     // The error's kind is the parser's.
     ensures kind { IfErr result
-        (λ error. IsProcessRejection (map S.text words.entry.now) (kind_of error)) }
+        (λ error. IsLineRejection (map S.text words.entry.now) (kind_of error)) }
 {
     let matches = program(alloc)?.try_get_matches_from(words)?;
     let asked = command_of(&matches);

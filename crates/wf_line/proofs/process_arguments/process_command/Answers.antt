@@ -2,7 +2,8 @@ use Rattle.std.proofs.Common.{inr}
 use Rattle.std.specs.Prelude.{map}
 use Rattle.clap.specs.Simple.{app_of}
 use Rattle.clap.proofs.TakesLemmas.{passed_up}
-use Rattle.wf_line.proofs.ProcessNamed.{asked_of_program, kind_on, none_of_program, none_on, passes_on}
+use Rattle.wf_line.proofs.Named.{kind_on, none_on, passes_on}
+use Rattle.wf_line.proofs.ProcessNamed.{asked_of_program, none_of_program}
 use Rattle.wf_line.proofs.process_arguments.process_command.Goals as goal
 
 pub returns-in_err-matches-clause-rejected : goal.returns-in_err-matches-clause-rejected
