@@ -1,6 +1,6 @@
 -- The calls of `clear`, one after the other.
 use Rattle.std.proofs.Common.{◌≡◌, ◌⊎◌, ◌∙◌, ℕ, List, ◌∷◌, ap, inl, inr, subst}
-use Rattle.std.specs.Prelude.{Option, Some, None, Result, Ok, Err, OnErr, OnOk, IfErr}
+use Rattle.std.specs.Prelude.{Option, Some, None, Result, Ok, Err, OnErr, OnOk, IfErr, replicate}
 use Rattle.wf_folder.specs.NodeFile.{IsNodeFile, node_text}
 use Rattle.wf_folder.specs.declared.node_admission.NodeFound.TheVariants as finds
 use Rattle.wf_folder.specs.declared.node_file.NodeFile.{NodeFile}
@@ -8,7 +8,9 @@ use Rattle.wf_node_folder.specs.Cleared.{HasReadFarmFile, IsClearDone, IsClearFa
 use Rattle.wf_node_folder.specs.Folder.{IsFarmFound, IsFoundIn}
 use Rattle.wf_node_folder.specs.declared.fault.CommandFault.{CommandFault}
 use Rattle.wf_node_folder.specs.declared.fault.CommandFault.TheVariants as faults
-use Rattle.wf_store.specs.Call.{Call, OnlyReads, failed_at, locked, read, replaced}
+use Rattle.wf_peer.specs.PeerProgressText.{peer_progress_text}
+use Rattle.wf_peer.specs.declared.heard.Heard.{Heard as HeardOfNode}
+use Rattle.wf_store.specs.Call.{Call, OnlyReads, locked, read, replaced, unreplaced}
 use Rattle.wf_store.specs.CallTheorems.{reads_both}
 use Rattle.wf_store.specs.declared.fault.FolderFault.{FolderFault}
 use Rattle.wf_store.specs.declared.file_name.FileName.TheVariants.{Farm, Heard}
@@ -16,12 +18,20 @@ use Rattle.wf_store.specs.declared.file_name.FileName.TheVariants.{Farm, Heard}
 -- ---- the two files
 
 -- `heard` wasn't written
-pub not_heard : (old new : List Call) → (new ≡ old) ⊎ (new ≡ failed_at Heard ∷ old) → IsUnwritten old new
-not_heard old new is = elim is [ inl same ↦ inl same | inr at ↦ inr (inl at) ]
+pub not_heard : (file : NodeFile) (heard : List (Option HeardOfNode)) (old new : List Call) → heard ≡ replicate 64 None → (new ≡ old) ⊎ (new ≡ unreplaced Heard (peer_progress_text heard) ∷ old) → IsUnwritten file old new
+not_heard file heard old new none is = elim is [
+  | inl same ↦ inl same
+  | inr at ↦ inr (inl (at ∙ ap (λ (h : List (Option HeardOfNode)). unreplaced Heard (peer_progress_text h) ∷ old) none))
+]
 
 -- it was, and `farm` wasn't
-pub heard_alone : (old mid new : List Call) → mid ≡ replaced Heard nothing_heard ∷ old → (new ≡ mid) ⊎ (new ≡ failed_at Farm ∷ mid) → IsUnwritten old new
-heard_alone old mid new first is = elim is [ inl same ↦ inr (inr (inl (same ∙ first))) | inr at ↦ inr (inr (inr (at ∙ ap (λ (calls : List Call). failed_at Farm ∷ calls) first))) ]
+pub heard_alone : (file cleared : NodeFile) (old mid new : List Call) → mid ≡ replaced Heard nothing_heard ∷ old → cleared ≡ without_suspension file → (new ≡ mid) ⊎ (new ≡ unreplaced Farm (node_text cleared) ∷ mid)
+    → IsUnwritten file old new
+heard_alone file cleared old mid new first cleared_is is = elim is [
+  | inl same ↦ inr (inr (inl (same ∙ first)))
+  | inr at ↦ inr (inr (inr (at ∙ ap (λ (calls : List Call). unreplaced Farm (node_text cleared) ∷ calls) first
+      ∙ ap (λ (f : NodeFile). unreplaced Farm (node_text f) ∷ replaced Heard nothing_heard ∷ old) cleared_is)))
+]
 
 -- both were
 pub rewritten : (file cleared : NodeFile) (old mid new : List Call) → mid ≡ replaced Heard nothing_heard ∷ old → cleared ≡ without_suspension file → new ≡ replaced Farm (node_text cleared) ∷ mid
@@ -43,7 +53,7 @@ is_read file old new is sound = has_read file old new is.bytes is.calls is.is so
 pub not_read : (old new : List Call) → OnlyReads old new → IsUncleared old new
 not_read old new reads = inl reads
 
-pub not_written : (file : NodeFile) (old mid new : List Call) → HasReadFarmFile file old mid → IsUnwritten mid new → IsUncleared old new
+pub not_written : (file : NodeFile) (old mid new : List Call) → HasReadFarmFile file old mid → IsUnwritten file mid new → IsUncleared old new
 not_written file old mid new is unwritten = inr (record { file = file; found = mid; is_found = is; unwritten = unwritten })
 
 pub written : (file : NodeFile) (old mid new : List Call) → HasReadFarmFile file old mid → IsRewritten file mid new → IsCleared old new

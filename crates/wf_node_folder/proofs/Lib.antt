@@ -7,6 +7,7 @@ mod Kept
 mod Making
 mod Opening
 mod Own
+mod PowerCut
 mod Reached
 mod ReplacementFiles
 mod Started

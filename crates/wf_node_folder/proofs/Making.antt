@@ -9,10 +9,11 @@ use Rattle.wf_folder.specs.declared.node_file.NodeFile.{NodeFile}
 use Rattle.wf_line.specs.declared.node_line.InitLine.{InitLine}
 use Rattle.wf_node_folder.specs.Fault.{IsFromSystem}
 use Rattle.wf_node_folder.specs.From.{MayBeFrom}
-use Rattle.wf_node_folder.specs.Made.{IsFolderMade, IsFirstFile, IsFirstTape, IsHalfFilled, IsInitCause, IsInitDone, IsInitFault, IsUnfilled, IsWhyNotEmpty, made_empty, with_joins, with_tape}
+use Rattle.wf_node_folder.specs.Made.{IsFirstFileTried, IsFolderMade, IsFirstFile, IsFirstTape, IsHalfFilled, IsInitCause, IsInitDone, IsInitFault, IsUnfilled, IsWhyNotEmpty, first_joining, made_empty, with_joins, with_tape}
+use Rattle.wf_rejoin.specs.JoiningText.{joins_text}
 use Rattle.wf_node_folder.specs.declared.fault.CommandFault.{CommandFault}
 use Rattle.wf_node_folder.specs.declared.fault.CommandFault.TheVariants as faults
-use Rattle.wf_store.specs.Call.{Call, OnlyReads, counted, drawn, failed_at, locked, made, replaced}
+use Rattle.wf_store.specs.Call.{Call, OnlyReads, counted, drawn, locked, made, replaced, unreplaced}
 use Rattle.wf_store.specs.CallTheorems.{reads_both, reads_none}
 use Rattle.wf_store.specs.declared.file_name.FileName.TheVariants.{Farm, Joins, NodeTape}
 
@@ -68,30 +69,36 @@ is_empty old a b new names first second third none =
 -- ---- its files
 
 module _ (line : InitLine) (tape : List ℕ) (old a : List Call) (mark : List ℕ) (first : a ≡ drawn mark ∷ old) where
-  pub tape_failed : (new : List Call) → new ≡ failed_at (NodeTape line.id) ∷ a → IsUnfilled line tape old new
-  tape_failed new is = inr (record { mark = mark; calls = inl (is ∙ ap (λ (calls : List Call). failed_at (NodeTape line.id) ∷ calls) first) })
+  pub tape_failed : (new : List Call) → new ≡ unreplaced (NodeTape line.id) tape ∷ a → IsUnfilled line tape old new
+  tape_failed new is = inr (record { mark = mark; calls = inl (is ∙ ap (λ (calls : List Call). unreplaced (NodeTape line.id) tape ∷ calls) first) })
 
   after_tape : (b : List Call) → b ≡ replaced (NodeTape line.id) tape ∷ a → b ≡ replaced (NodeTape line.id) tape ∷ drawn mark ∷ old
   after_tape b is = is ∙ ap (λ (calls : List Call). replaced (NodeTape line.id) tape ∷ calls) first
 
-  pub tape_alone : (b new : List Call) → b ≡ replaced (NodeTape line.id) tape ∷ a → (new ≡ b) ⊎ (new ≡ failed_at Joins ∷ b) → IsUnfilled line tape old new
+  pub tape_alone : (b new : List Call) → b ≡ replaced (NodeTape line.id) tape ∷ a → (new ≡ b) ⊎ (new ≡ unreplaced Joins (joins_text (first_joining line mark)) ∷ b) → IsUnfilled line tape old new
   tape_alone b new second is = inr (record {
     mark = mark;
     calls = elim is [
       | inl same ↦ inr (inl (same ∙ after_tape b second))
-      | inr at ↦ inr (inr (inl (at ∙ ap (λ (calls : List Call). failed_at Joins ∷ calls) (after_tape b second))))
+      | inr at ↦ inr (inr (inl (at ∙ ap (λ (calls : List Call). unreplaced Joins (joins_text (first_joining line mark)) ∷ calls) (after_tape b second))))
     ];
   })
 
   after_joins : (b c : List Call) → b ≡ replaced (NodeTape line.id) tape ∷ a → c ≡ with_joins line mark b → c ≡ with_joins line mark (with_tape line tape mark old)
   after_joins b c second third = third ∙ ap (λ (calls : List Call). with_joins line mark calls) (after_tape b second)
 
-  pub no_farm : (b c new : List Call) → b ≡ replaced (NodeTape line.id) tape ∷ a → c ≡ with_joins line mark b → (new ≡ c) ⊎ (new ≡ failed_at Farm ∷ c) → IsUnfilled line tape old new
-  no_farm b c new second third is = inr (record {
+  pub no_farm : (b c new : List Call) (file : NodeFile) → b ≡ replaced (NodeTape line.id) tape ∷ a → c ≡ with_joins line mark b → (new ≡ c) ⊎ (new ≡ unreplaced Farm (node_text file) ∷ c) → file.mark ≡ mark → IsFirstFile line file
+      → IsUnfilled line tape old new
+  no_farm b c new file second third is same first_file = inr (record {
     mark = mark;
     calls = elim is [
       | inl same ↦ inr (inr (inr (inl (same ∙ after_joins b c second third))))
-      | inr at ↦ inr (inr (inr (inr (at ∙ ap (λ (calls : List Call). failed_at Farm ∷ calls) (after_joins b c second third)))))
+      | inr at ↦ inr (inr (inr (inr (record {
+        file = file;
+        is_first = first_file;
+        marked = same;
+        calls = at ∙ ap (λ (calls : List Call). unreplaced Farm (node_text file) ∷ calls) (after_joins b c second third);
+      }))))
     ];
   })
 

@@ -3,7 +3,7 @@ use Rattle.std.proofs.Common.{◌≡◌, ◌⊎◌, ◌∙◌, ℕ, List, ◌∷
 use Rattle.std.specs.Prelude.{Option, Result, Ok, Err, IfErr, IfOk, IfSome, OnErr, option_map}
 use Rattle.wf_voter.specs.Process.{Process}
 use Rattle.wf_def.specs.Definition.{Definition}
-use Rattle.wf_folder.specs.NodeFile.{node_text, raised_known}
+use Rattle.wf_folder.specs.NodeFile.{IsNodeFile, node_text, raised_known}
 use Rattle.wf_folder.specs.declared.node_file.NodeFile.{NodeFile}
 use Rattle.wf_folder.specs.declared.reach.Known.{Known}
 use Rattle.wf_line.specs.declared.node_line.NodeLine.{NodeLine}
@@ -45,7 +45,7 @@ use Rattle.wf_node_folder.specs.declared.replacement_files.ReplacementFiles.{Rep
 use Rattle.wf_peer.specs.Told.{AreLeft}
 use Rattle.wf_peer.specs.declared.heard.Heard.{Heard as HeardOfNode}
 use Rattle.wf_rejoin.specs.declared.replacement.Replacement.{Replacement}
-use Rattle.wf_store.specs.Call.{Call, OnlyReads, failed_at, locked, replaced}
+use Rattle.wf_store.specs.Call.{Call, OnlyReads, unreplaced, locked, replaced}
 use Rattle.wf_store.specs.CallTheorems.{reads_both, reads_none}
 use Rattle.wf_store.specs.declared.fault.FolderFault.{FolderFault}
 use Rattle.wf_store.specs.declared.file_name.FileName.TheVariants.{Farm}
@@ -62,10 +62,11 @@ counted_by heard raised old mid new found is = record {
 }
 
 -- or it wasn't
-pub unwritten_by : (heard : List (Option HeardOfNode)) (old mid new : List Call) → IsHeardFound heard old mid → OnlyReads old mid → (new ≡ mid) ⊎ (new ≡ failed_at Farm ∷ mid) → IsNotCounted old new
-unwritten_by heard old mid new found reads is = elim is [
+pub unwritten_by : (heard : List (Option HeardOfNode)) (raised : NodeFile) (old mid new : List Call) → IsHeardFound heard old mid → OnlyReads old mid → IsNodeFile raised
+    → (new ≡ mid) ⊎ (new ≡ unreplaced Farm (node_text raised) ∷ mid) → IsNotCounted old new
+unwritten_by heard raised old mid new found reads sound is = elim is [
   | inl same ↦ inl (subst (λ (calls : List Call). OnlyReads old calls) (sym same) reads)
-  | inr at ↦ inr (record { bytes = found.bytes; calls = at ∙ ap (λ (calls : List Call). failed_at Farm ∷ calls) found.calls })
+  | inr at ↦ inr (record { bytes = found.bytes; file = raised; sound = sound; calls = at ∙ ap (λ (calls : List Call). unreplaced Farm (node_text raised) ∷ calls) found.calls })
 ]
 
 pub raised_by : (stored : DurableState Definition) (file written : NodeFile) (known : Known) → IsKnownOf stored known → written ≡ record file { known = raised_known file.known known.reach known.digest }

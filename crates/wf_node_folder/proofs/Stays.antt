@@ -7,7 +7,7 @@ use Rattle.wf_folder.specs.declared.node_admission.NodeFound.{NodeFound}
 use Rattle.wf_folder.specs.declared.presence.Presence.{Presence}
 use Rattle.wf_node_folder.specs.Folder.{IsFarmFound, MayHaveGot, StaysFrom, heard_in, heard_of_file, is_of_tape, is_own, is_tape, needs_own, of_tapes, tape_changes}
 use Rattle.wf_node_folder.specs.Joined.{IsJoinedSoundly, MayBePutAt}
-use Rattle.wf_store.specs.Call.{Call, bytes_of, changes, compared, failed, failed_at, is_change, opened_existing, read, replaced, seen}
+use Rattle.wf_store.specs.Call.{Call, bytes_of, changes, compared, failed, is_change, opened_existing, read, replaced, seen, unreplaced}
 use Rattle.wf_store.specs.declared.fault.FolderFault.{FolderFault}
 use Rattle.wf_store.specs.declared.file_name.FileName.{FileName}
 use Rattle.wf_store.specs.declared.file_name.FileName.TheVariants.{Farm, Joins}
@@ -57,16 +57,16 @@ module _ (begun old new : List Call) (stays : ∥ StaysFrom begun old ∥₁) wh
   stays_seeing file (Err fault) done wrong = stays_one failed wrong refl (λ needs. absurd cc) tt
 
   -- a file was opened, which was there
-  pub stays_opening : {A : Type 0} (file : FileName) (result : Result A FolderFault) → OnOk result (new ≡ opened_existing file ∷ old) → OnErr result (new ≡ failed ∷ old) → is_own old ≡ true
+  pub stays_opening : {A : Type 0} (file : FileName) (result : Result A FolderFault) → OnOk result (new ≡ opened_existing file ∷ old) → OnErr result (new ≡ failed ∷ old) → is_tape file ≡ true → is_own old ≡ true
       → ∥ StaysFrom begun new ∥₁
-  stays_opening file (Ok tape) done wrong own = stays_one (opened_existing file) done refl (λ needs. own) tt
-  stays_opening file (Err fault) done wrong own = stays_one failed wrong refl (λ needs. absurd cc) tt
+  stays_opening file (Ok tape) done wrong is own = stays_one (opened_existing file) done refl (λ needs. own) is
+  stays_opening file (Err fault) done wrong is own = stays_one failed wrong refl (λ needs. absurd cc) tt
 
   -- a file that is no tape was replaced
-  pub stays_replacing : (file : FileName) (bytes : List ℕ) (result : Result (Unit {0}) FolderFault) → OnOk result (new ≡ replaced file bytes ∷ old) → OnErr result (new ≡ failed_at file ∷ old)
+  pub stays_replacing : (file : FileName) (bytes : List ℕ) (result : Result (Unit {0}) FolderFault) → OnOk result (new ≡ replaced file bytes ∷ old) → OnErr result (new ≡ unreplaced file bytes ∷ old)
       → is_tape file ≡ false → is_own old ≡ true → MayBePutAt file bytes old → ∥ StaysFrom begun new ∥₁
   stays_replacing file bytes (Ok done) written wrong other own may = stays_one (replaced file bytes) written other (λ needs. own) (record { text = bytes; may = may; is = refl })
-  stays_replacing file bytes (Err fault) written wrong other own may = stays_one (failed_at file) wrong other (λ needs. own) (record { text = bytes; may = may })
+  stays_replacing file bytes (Err fault) written wrong other own may = stays_one (unreplaced file bytes) wrong other (λ needs. own) (record { text = bytes; may = may; is = refl })
 
 -- ---- what is known of the folder then
 
@@ -109,8 +109,8 @@ module _ (old new : List Call) where
     | inr put ↦ put ∙ same
   ]
 
-  pub heard_not_put : (file : FileName) (put : Option (List ℕ)) → new ≡ failed_at file ∷ old → (heard_in new ≡ heard_in old) ⊎ (heard_in new ≡ put)
-  heard_not_put file put wrong = inl (ap heard_in wrong)
+  pub heard_not_put : (file : FileName) (bytes : List ℕ) (put : Option (List ℕ)) → new ≡ unreplaced file bytes ∷ old → (heard_in new ≡ heard_in old) ⊎ (heard_in new ≡ put)
+  heard_not_put file bytes put wrong = inl (ap heard_in wrong)
 
   pub own_found : (result : Result NodeFound FolderFault) → IfOk result (λ found. IsFarmFound found old new) → OnErr result (new ≡ failed ∷ old) → is_own new ≡ is_own old
   own_found (Ok found) done wrong = ap is_own done.calls

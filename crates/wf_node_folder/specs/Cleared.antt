@@ -7,7 +7,7 @@ use Rattle.wf_node_folder.specs.Fault.{IsFromSystem}
 use Rattle.wf_node_folder.specs.declared.fault.CommandFault.{CommandFault}
 use Rattle.wf_node_folder.specs.declared.fault.CommandFault.TheVariants as faults
 use Rattle.wf_peer.specs.PeerProgressText.{peer_progress_text}
-use Rattle.wf_store.specs.Call.{Call, OnlyReads, failed_at, locked, read, replaced}
+use Rattle.wf_store.specs.Call.{Call, OnlyReads, locked, read, replaced, unreplaced}
 use Rattle.wf_store.specs.declared.file_name.FileName.TheVariants.{Farm, Heard}
 
 -- The file `farm` was read, and is this node's file.
@@ -32,9 +32,10 @@ IsRewritten file old new = new ≡ replaced Farm (node_text (without_suspension 
 
 -- they weren't both: none was, or `heard` was, and of a file whose writing failed either may be
 -- there
-abbrev pub IsUnwritten : List Call → List Call → Type 0
-IsUnwritten old new =
-    (new ≡ old) ⊎ ((new ≡ failed_at Heard ∷ old) ⊎ ((new ≡ replaced Heard nothing_heard ∷ old) ⊎ (new ≡ failed_at Farm ∷ replaced Heard nothing_heard ∷ old)))
+abbrev pub IsUnwritten : NodeFile → List Call → List Call → Type 0
+IsUnwritten file old new =
+    (new ≡ old) ⊎ ((new ≡ unreplaced Heard nothing_heard ∷ old) ⊎ ((new ≡ replaced Heard nothing_heard ∷ old)
+    ⊎ (new ≡ unreplaced Farm (node_text (without_suspension file)) ∷ replaced Heard nothing_heard ∷ old)))
 
 -- The folder was read, and then its files were written.
 pub record IsCleared (old new : List Call) : Type 0 where
@@ -48,7 +49,7 @@ pub record IsHalfCleared (old new : List Call) : Type 0 where
   pub file : NodeFile
   pub found : List Call
   pub is_found : HasReadFarmFile file old found
-  pub unwritten : IsUnwritten found new
+  pub unwritten : IsUnwritten file found new
 
 -- it wasn't cleared: no file was changed, or not both were
 abbrev pub IsUncleared : List Call → List Call → Type 0

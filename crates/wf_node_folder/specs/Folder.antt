@@ -8,6 +8,7 @@ use Rattle.wf_folder.specs.declared.node_file.NodeFile.{NodeFile}
 use Rattle.wf_model.specs.DurableState.{DurableState}
 use Rattle.wf_node.specs.Images.{StandsFor}
 use Rattle.wf_node_folder.specs.Joined.{AreJoinedSoundly}
+pub use Rattle.wf_node_folder.specs.Texts.{is_tape}
 use Rattle.wf_peer.specs.PeerProgressText as peers
 use Rattle.wf_peer.specs.declared.heard.Heard.{Heard as HeardOfNode}
 use Rattle.wf_store.specs.Call.{Call, IsAfter, changes, read}
@@ -103,14 +104,6 @@ MayHaveGot (Ok done) had got has = has ≡ got
 MayHaveGot (Err error) had got has = (has ≡ had) ⊎ (has ≡ got)
 
 -- ---- what is left alone
-
-abbrev pub is_tape : FileName → Bool
-is_tape Farm = false
-is_tape Heard = false
-is_tape Joins = false
-is_tape Replaced = false
-is_tape (NodeTape node) = true
-is_tape ReplicaTape = true
 
 abbrev pub is_of_tape : Deed → Bool
 is_of_tape (deeds.Opens file) = is_tape file

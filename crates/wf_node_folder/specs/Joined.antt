@@ -1,10 +1,10 @@
 -- What is written to the file `joins` of a folder that joins.
-use Rattle.std.specs.Prelude.{◌≡◌, ◌⊎◌, ℕ, ⊤, List, [], ◌∷◌, ◌++◌, Option, Some}
-use Rattle.wf_folder.specs.NodeFile.{IsTextOf}
+use Rattle.std.specs.Prelude.{◌≡◌, ◌⊎◌, ℕ, ⊤, true, List, [], ◌∷◌, ◌++◌, Option, Some}
+use Rattle.wf_folder.specs.NodeFile.{IsNodeFile, IsTextOf, node_text}
 use Rattle.wf_folder.specs.declared.node_admission.NodeFound.{NodeFound}
 use Rattle.wf_folder.specs.declared.node_admission.NodeFound.TheVariants as finds
 use Rattle.wf_folder.specs.declared.node_file.NodeFile.{NodeFile}
-use Rattle.wf_node_folder.specs.Texts.{is_farm, is_joins, text_in}
+use Rattle.wf_node_folder.specs.Texts.{is_farm, is_joins, is_tape, text_in}
 use Rattle.wf_rejoin.specs.JoinStep.{StepCounts, stepped}
 use Rattle.wf_rejoin.specs.Joining.{MayVote}
 use Rattle.wf_rejoin.specs.JoiningText.{IsJoins, joins_text}
@@ -60,28 +60,30 @@ pub record IsToldNext (text : List ℕ) (calls : List Call) : Type 0 where
 abbrev pub MayBePut : List ℕ → List Call → Type 0
 MayBePut text calls = ((text ≡ []) × MayVoteBy calls) ⊎ IsToldNext text calls
 
--- so it is, if the file is this one
+-- the text is that of a node's file `farm`
+abbrev pub IsFarmText : List ℕ → Type 0
+IsFarmText text = (file : NodeFile) × IsNodeFile file × (text ≡ node_text file)
+
+-- what may be put in the place of each file; of those of peers and replacements any text
 abbrev pub MayBePutAt : FileName → List ℕ → List Call → Type 0
 MayBePutAt names.Joins text calls = MayBePut text calls
-MayBePutAt names.Farm text calls = ⊤
+MayBePutAt names.Farm text calls = IsFarmText text
 MayBePutAt names.Heard text calls = ⊤
 MayBePutAt names.Replaced text calls = ⊤
 MayBePutAt (names.NodeTape node) text calls = ⊤
 MayBePutAt names.ReplicaTape text calls = ⊤
 
--- The text that a call put there, or tried to, may be; `bytes` are those that the call shows.
+-- The text that a call put there, or tried to, may be: `bytes` are those that the call shows.
 pub record IsPutSoundly (file : FileName) (bytes : Option (List ℕ)) (calls : List Call) : Type 0 where
   pub text : List ℕ
   pub may : MayBePutAt file text calls
   pub is : bytes ≡ Some text
 
-pub record IsTriedSoundly (file : FileName) (calls : List Call) : Type 0 where
-  pub text : List ℕ
-  pub may : MayBePutAt file text calls
-
 abbrev pub IsJoinedSoundly : Deed → Option (List ℕ) → List Call → Type 0
 IsJoinedSoundly (deeds.Replaces file) bytes calls = IsPutSoundly file bytes calls
-IsJoinedSoundly (deeds.FailsAt file) bytes calls = IsTriedSoundly file calls
+IsJoinedSoundly (deeds.FailsAt file) bytes calls = IsPutSoundly file bytes calls
+IsJoinedSoundly (deeds.Opens file) bytes calls = is_tape file ≡ true
+IsJoinedSoundly (deeds.OpensExisting file) bytes calls = is_tape file ≡ true
 IsJoinedSoundly deed bytes calls = ⊤
 
 -- so does each of the later calls

@@ -7,6 +7,7 @@ pub mod From
 pub mod Held
 pub mod Joined
 pub mod Made
+pub mod PowerCut
 pub mod Ready
 pub mod ReplacementFiles
 pub mod Start

@@ -5,7 +5,7 @@ use Rattle.wf_address.specs.Address.{IsFirstBad, IsNoAddress, words_of}
 use Rattle.wf_address.specs.declared.address_option.AddressOption.{AddressOption}
 use Rattle.wf_address.specs.declared.address_option.AddressOption.TheVariants as options
 use Rattle.wf_folder.specs.NodeAdmission.{IsNodeRejection, IsNodeStart, IsSoundFind}
-use Rattle.wf_folder.specs.NodeFile.{node_text}
+use Rattle.wf_folder.specs.NodeFile.{IsNodeFile, node_text}
 use Rattle.wf_folder.specs.declared.node_admission.NodeFound.{NodeFound}
 use Rattle.wf_folder.specs.declared.node_admission.NodeFound.TheVariants as finds
 use Rattle.wf_folder.specs.declared.node_admission.NodeRejection.{NodeRejection}
@@ -24,7 +24,7 @@ use Rattle.wf_node_folder.specs.declared.replacement_fault.ReplacementFault.{Rep
 use Rattle.wf_peer.specs.Told.{AreLeft}
 use Rattle.wf_peer.specs.declared.heard.Heard.{Heard as HeardOfNode}
 use Rattle.wf_rejoin.specs.declared.replacement.Replacement.{Replacement}
-use Rattle.wf_store.specs.Call.{Call, OnlyReads, drawn, failed_at, locked, opened, read, replaced, seen}
+use Rattle.wf_store.specs.Call.{Call, OnlyReads, drawn, failed_at, locked, opened, read, replaced, seen, unreplaced}
 use Rattle.wf_store.specs.declared.file_name.FileName.TheVariants.{Farm, Heard, Joins, NodeTape, Replaced}
 use Rattle.wf_tape.specs.declared.tape.Tape.{Ghosts as Tape}
 
@@ -153,10 +153,12 @@ pub record IsReadyCounted (replacements : List (Option Replacement)) (heard : Li
   pub is_counted : IsStartCounted known written old new
   pub left : AreLeft known replacements heard
 
--- Its text wasn't written, or may have been.
+-- The file `farm` was tried to be written then: it is there, or the one from before.
 pub record IsUncounted (old new : List Call) : Type 0 where
   pub bytes : Option (List ℕ)
-  pub calls : new ≡ failed_at Farm ∷ read Heard bytes ∷ old
+  pub file : NodeFile
+  pub sound : IsNodeFile file
+  pub calls : new ≡ unreplaced Farm (node_text file) ∷ read Heard bytes ∷ old
 
 -- what was left where the start wasn't counted
 abbrev pub IsNotCounted : List Call → List Call → Type 0

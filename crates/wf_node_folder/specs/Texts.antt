@@ -18,6 +18,15 @@ abbrev pub is_joins : FileName → Bool
 is_joins names.Joins = true
 is_joins file = false
 
+-- it is the tape of a node or of a replica
+abbrev pub is_tape : FileName → Bool
+is_tape names.Farm = false
+is_tape names.Heard = false
+is_tape names.Joins = false
+is_tape names.Replaced = false
+is_tape (names.NodeTape node) = true
+is_tape names.ReplicaTape = true
+
 -- what was read of such a file last, or what it got by a call that succeeded
 abbrev pub text_by : (FileName → Bool) → Deed → (bytes earlier : Option (List ℕ)) → Option (List ℕ)
 text_by is (deeds.Reads file) bytes earlier = if is file then bytes else earlier

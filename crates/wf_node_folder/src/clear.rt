@@ -47,7 +47,7 @@ fn clear_held<S: Store>(alloc: Global, store: &mut S) -> Result<(), CommandFault
 fn write_cleared<S: Store>(alloc: Global, store: &mut S, file: &NodeFile) -> Result<(), FolderFault>
     requires { IsNodeFile file.now }
     ensures written { OnOk result (IsRewritten file.now (S.calls store.old) (S.calls store.new)) }
-    ensures left { OnErr result (IsUnwritten (S.calls store.old) (S.calls store.new)) }
+    ensures left { OnErr result (IsUnwritten file.now (S.calls store.old) (S.calls store.new)) }
 {
     if let Err(fault) = write_heard(alloc, store, &PeerProgress::new()) {
         return Err(fault);

@@ -5,7 +5,7 @@ ghost use Rattle.wf_folder.specs.NodeFile.{IsNodeFile, node_text};
 ghost use Rattle.wf_node_folder.specs.Fault.{IsWhyUnheard};
 ghost use Rattle.wf_node_folder.specs.Folder.{IsFarmFound, IsFoundIn, IsHeardFound};
 ghost use Rattle.wf_peer.specs.PeerProgressText.{peer_progress_text};
-ghost use Rattle.wf_store.specs.Call.{OnlyReads, failed, failed_at, replaced};
+ghost use Rattle.wf_store.specs.Call.{OnlyReads, failed, replaced, unreplaced};
 ghost use Rattle.wf_store.specs.Fault.{IsWhyUnread, IsWhyUnwritten};
 ghost use Rattle.wf_store.specs.declared.file_name.FileName.TheVariants as names;
 
@@ -78,7 +78,7 @@ pub(crate) fn write_farm<S: Store>(
     ensures written { OnOk result
         (S.calls store.new ≡ replaced names.Farm (node_text file.now) ∷ S.calls store.old) }
     ensures unwritten { OnErr result ((S.calls store.new ≡ S.calls store.old)
-        ⊎ (S.calls store.new ≡ failed_at names.Farm ∷ S.calls store.old)) }
+        ⊎ (S.calls store.new ≡ unreplaced names.Farm (node_text file.now) ∷ S.calls store.old)) }
     ensures cause { IfErr result (IsWhyUnwritten names.Farm) }
 {
     match file.text(alloc) {
@@ -97,7 +97,8 @@ pub(crate) fn write_heard<S: Store>(
     ensures written { OnOk result
         (S.calls store.new ≡ replaced names.Heard (peer_progress_text heard.now) ∷ S.calls store.old) }
     ensures unwritten { OnErr result ((S.calls store.new ≡ S.calls store.old)
-        ⊎ (S.calls store.new ≡ failed_at names.Heard ∷ S.calls store.old)) }
+        ⊎ (S.calls store.new ≡
+        unreplaced names.Heard (peer_progress_text heard.now) ∷ S.calls store.old)) }
     ensures cause { IfErr result (IsWhyUnwritten names.Heard) }
 {
     match heard.text(alloc) {

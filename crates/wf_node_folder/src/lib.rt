@@ -33,6 +33,10 @@
 //!   started: these files, in this order.
 //! - `clear` locks the folder, forgets what was heard, and then writes the file that it read
 //!   without its suspension.
+//! - Wherever the power is cut while `init` makes a folder, there is no file `farm`, or all is
+//!   there ([`made_folders_are_whole`]); and of a folder whose calls wrote files of nodes there, as
+//!   those of `init` and of a node that runs do, a cut leaves none or a whole one
+//!   ([`farm_files_are_whole`], `specs/PowerCut.antt`; `wf_power_cuts` has what a cut leaves).
 //! - Each error has its cause, and its status: 2 where the command line is bad, else 1.
 //!
 //! **Doesn't.** What the system does with files has no model: that its lock holds, and that what is
@@ -71,4 +75,5 @@ pub use init::init_folder;
 pub use node::start_node;
 pub use ready::ReadyNode;
 pub use replacement_fault::ReplacementFault;
+pub use theorem::{farm_files_are_whole, made_folders_are_whole};
 pub use wf_address::AddressOption;

@@ -1,6 +1,6 @@
 -- The calls of a start, one after the other.
 use Rattle.std.proofs.Common.{◌≡◌, ◌⊎◌, ◌∙◌, ℕ, List, ◌∷◌, ap, inl, inr, refl, subst, sym}
-use Rattle.std.specs.Prelude.{Some, None, Result, Ok, Err, IfErr}
+use Rattle.std.specs.Prelude.{Some, None, Result, Ok, Err, IfErr, OnErr}
 use Rattle.wf_line.specs.declared.replica_line.ReplicaLine.{ReplicaLine}
 use Rattle.wf_replica_command.specs.Done.{IsReplicaEnd}
 use Rattle.wf_replica_command.specs.Fault.{IsReplicaFault, IsReplicaSystemFault, IsReplicaWordsFault}
@@ -21,7 +21,7 @@ use Rattle.wf_replica_command.specs.Start.{
 use Rattle.wf_replica_command.specs.declared.fault.ReplicaFault.{ReplicaFault}
 use Rattle.wf_replica_command.specs.declared.fault.ReplicaFault.TheVariants as faults
 use Rattle.wf_replica_command.specs.declared.plan.ReplicaPlan.{ReplicaPlan}
-use Rattle.wf_store.specs.Call.{Call, OnlyReads, locked, counted, read, opened, replaced, failed, failed_at}
+use Rattle.wf_store.specs.Call.{Call, OnlyReads, locked, counted, read, opened, replaced, unreplaced, failed, failed_at}
 use Rattle.wf_store.specs.CallTheorems.{reads_both}
 use Rattle.wf_store.specs.declared.file_name.FileName.TheVariants.{Farm, ReplicaTape}
 use Rattle.wf_tape.specs.declared.tape.Tape.{Ghosts as Tape}
@@ -32,13 +32,21 @@ use Rattle.wf_tape.specs.declared.tape.Tape.{Ghosts as Tape}
 pub claimed_anew : (text : List ℕ) (old mid new : List Call) → mid ≡ read Farm None ∷ old → new ≡ replaced Farm text ∷ counted 0 ∷ mid → IsClaimed text old new
 claimed_anew text old mid new first second = inr (second ∙ ap (λ (calls : List Call). replaced Farm text ∷ counted 0 ∷ calls) first)
 
--- it wasn't written, and no file was changed
-pub unclaimed_anew : (old mid new : List Call) → OnlyReads old mid → OnlyReads mid new → IsUnclaimed old new
-unclaimed_anew old mid new first second = inl (reads_both old mid new first second)
+-- it wasn't: no file was changed, or to write it failed
+unclaimed_at : (text : List ℕ) (old mid new : List Call) → mid ≡ read Farm None ∷ old → OnlyReads old mid → OnlyReads mid new ⊎ (new ≡ unreplaced Farm text ∷ counted 0 ∷ mid) → IsUnclaimed text old new
+unclaimed_at text old mid new first reads is = elim is [
+  | inl only ↦ inl (reads_both old mid new reads only)
+  | inr tried ↦ inr (tried ∙ ap (λ (calls : List Call). unreplaced Farm text ∷ counted 0 ∷ calls) first)
+]
 
--- to write it failed
-pub unclaimed_at : (old mid new : List Call) → mid ≡ read Farm None ∷ old → new ≡ failed_at Farm ∷ counted 0 ∷ mid → IsUnclaimed old new
-unclaimed_at old mid new first second = inr (second ∙ ap (λ (calls : List Call). failed_at Farm ∷ counted 0 ∷ calls) first)
+pub unclaimed_on : (text : List ℕ) (old mid new : List Call) (result : Result (Unit {0}) ReplicaFault) → mid ≡ read Farm None ∷ old → OnlyReads old mid
+    → OnErr result (OnlyReads mid new ⊎ (new ≡ unreplaced Farm text ∷ counted 0 ∷ mid)) → OnErr result (IsUnclaimed text old new)
+unclaimed_on text old mid new (Ok done) first reads is = tt
+unclaimed_on text old mid new (Err fault) first reads is = unclaimed_at text old mid new first reads is
+
+-- it couldn't be read
+pub unclaimed_anew : (text : List ℕ) (old new : List Call) → OnlyReads old new → IsUnclaimed text old new
+unclaimed_anew text old new reads = inl reads
 
 -- ---- the tape
 
@@ -53,20 +61,20 @@ tape_unopened old looked new reads is = subst (λ (calls : List Call). IsTapeLoo
 pub begun_by : (text : List ℕ) (held claimed new : List Call) → IsClaimed text held claimed → IsTapeLookedFor claimed new → IsStarted text held new
 begun_by text held claimed new farm tape = record { claimed = claimed; farm = farm; tape = tape }
 
-pub started_by : (text : List ℕ) (held claimed new : List Call) → IsClaimed text held claimed → IsTapeLookedFor claimed new → IsStarted text held new ⊎ IsUnclaimed held new
+pub started_by : (text : List ℕ) (held claimed new : List Call) → IsClaimed text held claimed → IsTapeLookedFor claimed new → IsStarted text held new ⊎ IsUnclaimed text held new
 started_by text held claimed new farm tape = inl (begun_by text held claimed new farm tape)
 
 -- a folder that isn't taken
-pub not_claimed : (text : List ℕ) (held new : List Call) → IsUnclaimed held new → IsStarted text held new ⊎ IsUnclaimed held new
+pub not_claimed : (text : List ℕ) (held new : List Call) → IsUnclaimed text held new → IsStarted text held new ⊎ IsUnclaimed text held new
 not_claimed text held new is = inr is
 
 -- the folder was locked before
 pub started_on : (text : List ℕ) (old held new : List Call) → held ≡ locked ∷ old → IsStarted text held new → IsStarted text (locked ∷ old) new
 started_on text old held new is started = subst (λ (calls : List Call). IsStarted text calls new) is started
 
-pub unstarted_on : (text : List ℕ) (old held new : List Call) → held ≡ locked ∷ old → IsStarted text held new ⊎ IsUnclaimed held new → IsUnstarted text old new
+pub unstarted_on : (text : List ℕ) (old held new : List Call) → held ≡ locked ∷ old → IsStarted text held new ⊎ IsUnclaimed text held new → IsUnstarted text old new
 unstarted_on text old held new is why =
-    elim (subst (λ (calls : List Call). IsStarted text calls new ⊎ IsUnclaimed calls new) is why) [ inl started ↦ inl started | inr unclaimed ↦ inr (inl unclaimed) ]
+    elim (subst (λ (calls : List Call). IsStarted text calls new ⊎ IsUnclaimed text calls new) is why) [ inl started ↦ inl started | inr unclaimed ↦ inr (inl unclaimed) ]
 
 -- it couldn't be locked
 pub not_locked : (text : List ℕ) (old new : List Call) → new ≡ failed ∷ old → IsUnstarted text old new
@@ -95,10 +103,10 @@ other_found text bytes old new result calls why = by_result result why
     by_result (Err fault) is = absurd is
 
 -- there is none, and none was made
-pub unmade_there : (text : List ℕ) (old mid new : List Call) (result : Result (Unit {0}) ReplicaFault) → mid ≡ read Farm None ∷ old → IfErr result (IsWhyUnmadeText mid new) → IfErr result (IsReplicaFolderCause text old new)
-unmade_there text old mid new result calls why = by_result result (subst (λ (m : List Call). IfErr result (IsWhyUnmadeText m new)) calls why)
+pub unmade_there : (text : List ℕ) (old mid new : List Call) (result : Result (Unit {0}) ReplicaFault) → mid ≡ read Farm None ∷ old → IfErr result (IsWhyUnmadeText text mid new) → IfErr result (IsReplicaFolderCause text old new)
+unmade_there text old mid new result calls why = by_result result (subst (λ (m : List Call). IfErr result (IsWhyUnmadeText text m new)) calls why)
   where
-    by_result : (r : Result (Unit {0}) ReplicaFault) → IfErr r (IsWhyUnmadeText (read Farm None ∷ old) new) → IfErr r (IsReplicaFolderCause text old new)
+    by_result : (r : Result (Unit {0}) ReplicaFault) → IfErr r (IsWhyUnmadeText text (read Farm None ∷ old) new) → IfErr r (IsReplicaFolderCause text old new)
     by_result (Ok done) is = tt
     by_result (Err (faults.Folder why)) is = inr is
     by_result (Err faults.NotEmpty) is = is
@@ -106,10 +114,10 @@ unmade_there text old mid new result calls why = by_result result (subst (λ (m 
     by_result (Err fault) is = absurd is
 
 -- the folder is empty, and it wasn't written
-pub unwritten_there : (old mid new : List Call) (result : Result (Unit {0}) ReplicaFault) → mid ≡ counted 0 ∷ old → IfErr result (IsWhyUnwrittenText mid new) → IfErr result (IsWhyUnmadeText old new)
-unwritten_there old mid new result calls why = by_result result (subst (λ (m : List Call). IfErr result (IsWhyUnwrittenText m new)) calls why)
+pub unwritten_there : (text : List ℕ) (old mid new : List Call) (result : Result (Unit {0}) ReplicaFault) → mid ≡ counted 0 ∷ old → IfErr result (IsWhyUnwrittenText text mid new) → IfErr result (IsWhyUnmadeText text old new)
+unwritten_there text old mid new result calls why = by_result result (subst (λ (m : List Call). IfErr result (IsWhyUnwrittenText text m new)) calls why)
   where
-    by_result : (r : Result (Unit {0}) ReplicaFault) → IfErr r (IsWhyUnwrittenText (counted 0 ∷ old) new) → IfErr r (IsWhyUnmadeText old new)
+    by_result : (r : Result (Unit {0}) ReplicaFault) → IfErr r (IsWhyUnwrittenText text (counted 0 ∷ old) new) → IfErr r (IsWhyUnmadeText text old new)
     by_result (Ok done) is = tt
     by_result (Err (faults.Folder why)) is = inr is
     by_result (Err faults.Memory) is = tt

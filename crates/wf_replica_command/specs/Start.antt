@@ -6,7 +6,7 @@ use Rattle.wf_line.specs.declared.replica_line.ReplicaLine.{ReplicaLine}
 use Rattle.wf_replica.specs.FarmFile.{kind_replica_line, replica_text}
 use Rattle.wf_replica_command.specs.declared.fault.ReplicaFault.{ReplicaFault}
 use Rattle.wf_replica_command.specs.declared.fault.ReplicaFault.TheVariants as faults
-use Rattle.wf_store.specs.Call.{Call, OnlyReads, locked, counted, read, opened, replaced, failed, failed_at}
+use Rattle.wf_store.specs.Call.{Call, OnlyReads, locked, counted, read, opened, replaced, unreplaced, failed, failed_at}
 use Rattle.wf_store.specs.Fault.{IsWhyUnlisted, IsWhyUnlocked, IsWhyUnread, IsWhyUnwritten}
 use Rattle.wf_store.specs.declared.file_name.FileName.TheVariants.{Farm, ReplicaTape}
 
@@ -15,9 +15,10 @@ use Rattle.wf_store.specs.declared.file_name.FileName.TheVariants.{Farm, Replica
 abbrev pub IsClaimed : List ℕ → List Call → List Call → Type 0
 IsClaimed text old new = (new ≡ read Farm (Some text) ∷ old) ⊎ (new ≡ replaced Farm text ∷ counted 0 ∷ read Farm None ∷ old)
 
--- The folder isn't taken: no file was changed, or to write `farm` in an empty folder failed.
-abbrev pub IsUnclaimed : List Call → List Call → Type 0
-IsUnclaimed old new = OnlyReads old new ⊎ (new ≡ failed_at Farm ∷ counted 0 ∷ read Farm None ∷ old)
+-- The folder isn't taken: no file was changed, or to write `farm`, with this text, in an empty
+-- folder failed.
+abbrev pub IsUnclaimed : List ℕ → List Call → List Call → Type 0
+IsUnclaimed text old new = OnlyReads old new ⊎ (new ≡ unreplaced Farm text ∷ counted 0 ∷ read Farm None ∷ old)
 
 -- It was looked for the tape, which was opened then, or couldn't be.
 abbrev pub IsTapeLookedFor : List Call → List Call → Type 0
@@ -36,18 +37,18 @@ IsOtherText text bytes faults.Memory = ⊤
 IsOtherText text bytes fault = ⊥
 
 -- why the file isn't written: to write it failed
-abbrev pub IsWhyUnwrittenText : List Call → List Call → ReplicaFault → Type 0
-IsWhyUnwrittenText old new (faults.Folder why) = IsWhyUnwritten Farm why × (new ≡ failed_at Farm ∷ old)
-IsWhyUnwrittenText old new faults.Memory = ⊤
-IsWhyUnwrittenText old new fault = ⊥
+abbrev pub IsWhyUnwrittenText : List ℕ → List Call → List Call → ReplicaFault → Type 0
+IsWhyUnwrittenText text old new (faults.Folder why) = IsWhyUnwritten Farm why × (new ≡ unreplaced Farm text ∷ old)
+IsWhyUnwrittenText text old new faults.Memory = ⊤
+IsWhyUnwrittenText text old new fault = ⊥
 
 -- why it isn't made: the folder has names, which were counted; or to count them failed, or to write
 -- it
-abbrev pub IsWhyUnmadeText : List Call → List Call → ReplicaFault → Type 0
-IsWhyUnmadeText old new faults.NotEmpty = (names : ℕ) × (names ≢ 0) × (new ≡ counted names ∷ old)
-IsWhyUnmadeText old new (faults.Folder why) = (IsWhyUnlisted why × (new ≡ failed ∷ old)) ⊎ IsWhyUnwrittenText (counted 0 ∷ old) new (faults.Folder why)
-IsWhyUnmadeText old new faults.Memory = ⊤
-IsWhyUnmadeText old new fault = ⊥
+abbrev pub IsWhyUnmadeText : List ℕ → List Call → List Call → ReplicaFault → Type 0
+IsWhyUnmadeText text old new faults.NotEmpty = (names : ℕ) × (names ≢ 0) × (new ≡ counted names ∷ old)
+IsWhyUnmadeText text old new (faults.Folder why) = (IsWhyUnlisted why × (new ≡ failed ∷ old)) ⊎ IsWhyUnwrittenText text (counted 0 ∷ old) new (faults.Folder why)
+IsWhyUnmadeText text old new faults.Memory = ⊤
+IsWhyUnmadeText text old new fault = ⊥
 
 -- the bytes of the file `farm` were read, and aren't this text
 abbrev pub IsOtherFound : List ℕ → List Call → List Call → ReplicaFault → Type 0
@@ -56,8 +57,8 @@ IsOtherFound text old new why = (bytes : List ℕ) × (new ≡ read Farm (Some b
 -- why a folder that is locked isn't taken: what was read of the file, or that there is none and the
 -- folder isn't empty; or a call of the folder failed
 abbrev pub IsReplicaFolderCause : List ℕ → List Call → List Call → ReplicaFault → Type 0
-IsReplicaFolderCause text old new (faults.Folder why) = (IsWhyUnread Farm why × (new ≡ failed ∷ old)) ⊎ IsWhyUnmadeText (read Farm None ∷ old) new (faults.Folder why)
-IsReplicaFolderCause text old new faults.NotEmpty = IsWhyUnmadeText (read Farm None ∷ old) new faults.NotEmpty
+IsReplicaFolderCause text old new (faults.Folder why) = (IsWhyUnread Farm why × (new ≡ failed ∷ old)) ⊎ IsWhyUnmadeText text (read Farm None ∷ old) new (faults.Folder why)
+IsReplicaFolderCause text old new faults.NotEmpty = IsWhyUnmadeText text (read Farm None ∷ old) new faults.NotEmpty
 IsReplicaFolderCause text old new faults.Memory = ⊤
 IsReplicaFolderCause text old new fault = IsOtherFound text old new fault
 
@@ -82,7 +83,7 @@ pub record IsStarted (text : List ℕ) (held new : List Call) : Type 0 where
 -- No replica started, or it ended before it served: its folder was locked, and it started there or
 -- the folder wasn't taken; or it wasn't locked, or not touched.
 abbrev pub IsUnstarted : List ℕ → List Call → List Call → Type 0
-IsUnstarted text old new = IsStarted text (locked ∷ old) new ⊎ IsUnclaimed (locked ∷ old) new ⊎ (new ≡ failed ∷ old) ⊎ (new ≡ old)
+IsUnstarted text old new = IsStarted text (locked ∷ old) new ⊎ IsUnclaimed text (locked ∷ old) new ⊎ (new ≡ failed ∷ old) ⊎ (new ≡ old)
 
 -- The replica served: for all its turns, or until its sources ended it.
 abbrev pub HasServedClients : Result (Unit {0}) ReplicaFault → Type 0
@@ -94,7 +95,7 @@ HasServedClients (Err fault) = ⊥
 -- serve, it wasn't locked, or not touched. An error of the folder has its cause there.
 pub record IsReplicaRun (text : List ℕ) (old new : List Call) (result : Result (Unit {0}) ReplicaFault) : Type 0 where
   pub served : HasServedClients result → IsStarted text (locked ∷ old) new
-  pub others : IsStarted text (locked ∷ old) new ⊎ IsUnclaimed (locked ∷ old) new ⊎ (new ≡ failed ∷ old) ⊎ (new ≡ old)
+  pub others : IsStarted text (locked ∷ old) new ⊎ IsUnclaimed text (locked ∷ old) new ⊎ (new ≡ failed ∷ old) ⊎ (new ≡ old)
   pub cause : IfErr result (IsReplicaStartCause text old new)
 
 -- what the run of a command line did to its folder: the file `farm` is that of a replica of the

@@ -3,7 +3,7 @@ ghost use Rattle.std.specs.Prelude.{◌≡◌, ◌⊎◌, ◌∷◌, IfErr, OnEr
 ghost use Rattle.wf_replica.specs.FarmFile.{replica_text};
 ghost use Rattle.wf_replica_command.specs.Start.{IsClaimed, IsReplicaFolderCause, IsOtherText, IsUnclaimed, IsWhyUnmadeText, IsWhyUnwrittenText};
 ghost use Rattle.wf_store.specs.declared.file_name.FileName.TheVariants.{Farm};
-ghost use Rattle.wf_store.specs.Call.{OnlyReads, counted, failed_at, replaced};
+ghost use Rattle.wf_store.specs.Call.{OnlyReads, counted, replaced, unreplaced};
 
 use crate::fault::ReplicaFault;
 use std::alloc::Global;
@@ -21,7 +21,7 @@ const KIND_LINE: &[u8] = b"kind replica\n";
 
 /// Makes sure that a folder is that of a replica of this farm: its file `farm` says so, or the
 /// folder is empty, and gets such a file.
-#[tactic(auto, using(crate::proofs::Starting::claimed_anew, crate::proofs::Starting::unclaimed_anew, crate::proofs::Starting::unclaimed_at, crate::proofs::Starting::other_found, crate::proofs::Starting::unmade_there))]
+#[tactic(auto, using(crate::proofs::Starting::claimed_anew, crate::proofs::Starting::unclaimed_anew, crate::proofs::Starting::unclaimed_on, crate::proofs::Starting::other_found, crate::proofs::Starting::unmade_there))]
 pub(crate) fn claim<S: Store>(
     alloc: Global,
     store: &mut S,
@@ -29,7 +29,8 @@ pub(crate) fn claim<S: Store>(
 ) -> Result<(), ReplicaFault>
     ensures claimed { OnOk result (IsClaimed (replica_text farm.now) (S.calls store.old)
         (S.calls store.new)) }
-    ensures unclaimed { OnErr result (IsUnclaimed (S.calls store.old) (S.calls store.new)) }
+    ensures unclaimed { OnErr result
+        (IsUnclaimed (replica_text farm.now) (S.calls store.old) (S.calls store.new)) }
     ensures cause { IfErr result (IsReplicaFolderCause (replica_text farm.now) (S.calls store.old)
         (S.calls store.new)) }
 {
@@ -65,8 +66,10 @@ fn make<S: Store>(alloc: Global, store: &mut S, farm: &FarmName) -> Result<(), R
     ensures made { OnOk result
         (S.calls store.new ≡ replaced Farm (replica_text farm.now) ∷ counted 0 ∷ S.calls store.old) }
     ensures unmade { OnErr result (OnlyReads (S.calls store.old) (S.calls store.new)
-        ⊎ (S.calls store.new ≡ failed_at Farm ∷ counted 0 ∷ S.calls store.old)) }
-    ensures cause { IfErr result (IsWhyUnmadeText (S.calls store.old) (S.calls store.new)) }
+        ⊎ (S.calls store.new ≡
+        unreplaced Farm (replica_text farm.now) ∷ counted 0 ∷ S.calls store.old)) }
+    ensures cause { IfErr result (IsWhyUnmadeText (replica_text farm.now) (S.calls store.old)
+        (S.calls store.new)) }
 {
     match store.count_names() {
         Ok(0) => write(alloc, store, farm),
@@ -80,8 +83,9 @@ fn write<S: Store>(alloc: Global, store: &mut S, farm: &FarmName) -> Result<(), 
     ensures written { OnOk result
         (S.calls store.new ≡ replaced Farm (replica_text farm.now) ∷ S.calls store.old) }
     ensures unwritten { OnErr result ((S.calls store.new ≡ S.calls store.old)
-        ⊎ (S.calls store.new ≡ failed_at Farm ∷ S.calls store.old)) }
-    ensures cause { IfErr result (IsWhyUnwrittenText (S.calls store.old) (S.calls store.new)) }
+        ⊎ (S.calls store.new ≡ unreplaced Farm (replica_text farm.now) ∷ S.calls store.old)) }
+    ensures cause { IfErr result (IsWhyUnwrittenText (replica_text farm.now) (S.calls store.old)
+        (S.calls store.new)) }
 {
     let text = replica_text(alloc, farm)?;
     match store.replace(FileName::Farm, text) {

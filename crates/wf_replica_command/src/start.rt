@@ -66,7 +66,8 @@ fn start<R: Clock + Eprint + AllocGlobal, S: Store>(
     ensures started { OnOk result (IsStarted (replica_text plan.farm)
         (S.calls store.old) (S.calls store.new)) }
     ensures unstarted { OnErr result (IsStarted (replica_text plan.farm)
-        (S.calls store.old) (S.calls store.new) ⊎ IsUnclaimed (S.calls store.old) (S.calls store.new)) }
+        (S.calls store.old) (S.calls store.new)
+        ⊎ IsUnclaimed (replica_text plan.farm) (S.calls store.old) (S.calls store.new)) }
 {
     match claim(rt.alloc(), store, &plan.farm) {
         Ok(()) => begin(rt, store, log, line, plan),

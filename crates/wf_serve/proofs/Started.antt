@@ -2,17 +2,17 @@
 use Rattle.std.proofs.Common.{◌≡◌, ◌⊎◌, ◌∙◌, ◌+◌, ◌<◌, ℕ, suc, true, false, List, ◌∷◌, ap, arith, inl, inr, refl, subst, sym}
 use Rattle.std.specs.Prelude.{Result, Ok, Err, IfErr, OnOk}
 use Rattle.wf_folder.specs.Admission.{IsStart}
-use Rattle.wf_folder.specs.FarmFile.{farm_text}
+use Rattle.wf_folder.specs.FarmFile.{IsFarmFile, farm_text}
 use Rattle.wf_folder.specs.declared.admission.Start.{Start}
 use Rattle.wf_folder.specs.declared.farm_file.Beginning.{Beginning}
 use Rattle.wf_folder.specs.declared.farm_file.FarmFile.{FarmFile}
 use Rattle.wf_folder.specs.declared.presence.Presence.{Presence}
-use Rattle.wf_serve.specs.Start.{HaveOpened, IsMarkDrawn, IsFarmAdmitted, IsFarmBegun, IsFarmRejected, IsFarmStarted, IsFiled, IsStoppedAt, IsSurveyed, IsNodeTapeOpened, IsTapeStopped, IsFarmUnwritten, IsFarmWritten, is_early, tape_opens}
+use Rattle.wf_serve.specs.Start.{HaveOpened, IsMarkDrawn, IsFarmAdmitted, IsFarmBegun, IsFarmRejected, IsFarmStarted, IsFarmTried, IsFiled, IsStoppedAt, IsSurveyed, IsNodeTapeOpened, IsTapeStopped, IsFarmUnwritten, IsFarmWritten, is_early, tape_opens}
 use Rattle.wf_serve.specs.TapeCheck.{AreTapesChecked}
 use Rattle.wf_serve.specs.declared.event.Cause.{Cause}
 use Rattle.wf_serve.specs.declared.event.Cause.TheVariants.{Memory}
 use Rattle.wf_serve.specs.declared.survey.Survey.{Survey}
-use Rattle.wf_store.specs.Call.{Call, IsAfter, OnlyReads, changes, failed_at, locked, opened, replaced}
+use Rattle.wf_store.specs.Call.{Call, IsAfter, OnlyReads, changes, failed_at, locked, opened, replaced, unreplaced}
 use Rattle.wf_store.specs.CallTheorems.{after_both, after_none, after_one}
 use Rattle.wf_store.specs.declared.file_name.FileName.TheVariants.{Farm, NodeTape}
 
@@ -112,22 +112,22 @@ tapes_stopped n number cause old middle new within have stopped = elim stopped.c
 pub no_text : (calls : List Call) → IsFarmUnwritten Memory calls calls
 no_text calls = record { left = inl refl; late = refl }
 
-pub not_written : (cause : Cause) (old new : List Call) → new ≡ failed_at Farm ∷ old → is_early cause ≡ false → IsFarmUnwritten cause old new
-not_written cause old new is late = record { left = inr is; late = late }
+pub not_written : (file : FarmFile) (cause : Cause) (old new : List Call) → IsFarmFile file → new ≡ unreplaced Farm (farm_text file) ∷ old → is_early cause ≡ false → IsFarmUnwritten cause old new
+not_written file cause old new sound is late = record { left = inr (file, sound, is); late = late }
 
 pub written_last : (n : ℕ) (file : FarmFile) (old before new : List Call) → HaveOpened n old before → new ≡ replaced Farm (farm_text file) ∷ before → IsFarmWritten n file old new
 written_last n file old before new opened is = record { before = before; opened = opened; written = is }
 
-left_after : (before new : List Call) → (new ≡ before) ⊎ (new ≡ failed_at Farm ∷ before) → IsAfter before new
+left_after : (before new : List Call) → (new ≡ before) ⊎ IsFarmTried before new → IsAfter before new
 left_after before new left = elim left [
   | inl same ↦ subst (λ (calls : List Call). IsAfter before calls) (sym same) (after_none before)
-  | inr failed ↦ after_one (failed_at Farm) before new failed
+  | inr tried ↦ after_one (unreplaced Farm (farm_text tried.0)) before new tried.2
 ]
 
-left_changes : (n : ℕ) (before : List Call) (mid new : List Call) → changes mid ≡ tape_opens n before → (new ≡ mid) ⊎ (new ≡ failed_at Farm ∷ mid) → IsStoppedAt n n before (changes new)
+left_changes : (n : ℕ) (before : List Call) (mid new : List Call) → changes mid ≡ tape_opens n before → (new ≡ mid) ⊎ IsFarmTried mid new → IsStoppedAt n n before (changes new)
 left_changes n before mid new opened left = elim left [
   | inl same ↦ inl (ap changes same ∙ opened)
-  | inr failed ↦ inr (inr (ap changes failed ∙ ap (λ (calls : List Call). failed_at Farm ∷ calls) opened))
+  | inr tried ↦ inr (inr (tried.0, tried.1, ap changes tried.2 ∙ ap (λ (calls : List Call). unreplaced Farm (farm_text tried.0) ∷ calls) opened))
 ]
 
 pub unwritten : (n : ℕ) (cause : Cause) (old before new : List Call) → HaveOpened n old before → IsFarmUnwritten cause before new → IsFarmRejected n cause old new

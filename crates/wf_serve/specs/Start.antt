@@ -15,7 +15,7 @@ use Rattle.wf_serve.specs.TapeCheck.{AreTapesChecked}
 use Rattle.wf_serve.specs.declared.event.Cause.{Cause}
 use Rattle.wf_serve.specs.declared.event.Cause.TheVariants.{FileUnwritten, Memory, TapeFailed}
 use Rattle.wf_serve.specs.declared.survey.Survey.{Survey}
-use Rattle.wf_store.specs.Call.{Call, IsAfter, changes, drawn, failed_at, locked, opened, read, replaced, seen}
+use Rattle.wf_store.specs.Call.{Call, IsAfter, changes, drawn, failed_at, locked, opened, read, replaced, seen, unreplaced}
 use Rattle.wf_store.specs.declared.file_name.FileName.TheVariants.{Farm, NodeTape}
 
 -- ---- what is in the folder
@@ -111,10 +111,14 @@ is_early FileUnwritten = false
 is_early Memory = false
 is_early cause = true
 
+-- a file `farm` of such a farm was tried to be written
+abbrev pub IsFarmTried : List Call → List Call → Type 0
+IsFarmTried old new = (file : FarmFile) × IsFarmFile file × (new ≡ unreplaced Farm (farm_text file) ∷ old)
+
 -- the tapes of so many nodes were opened, and then nothing was changed, or the next one couldn't be
 -- opened, or the file be written
 abbrev pub IsStoppedAt : ℕ → ℕ → List Call → List Call → Type 0
-IsStoppedAt n count before after = (after ≡ tape_opens count before) ⊎ ((count < n) × (after ≡ failed_at (NodeTape count) ∷ tape_opens count before)) ⊎ (after ≡ failed_at Farm ∷ tape_opens n before)
+IsStoppedAt n count before after = (after ≡ tape_opens count before) ⊎ ((count < n) × (after ≡ failed_at (NodeTape count) ∷ tape_opens count before)) ⊎ IsFarmTried (tape_opens n before) after
 
 -- The farm didn't start: the first of its tapes were opened, or none was; and none was for an early
 -- cause.
@@ -145,5 +149,5 @@ pub record IsTapeStopped (number : ℕ) (cause : Cause) (old new : List Call) : 
 
 -- The file `farm` isn't written: its text wasn't made, or to write it failed.
 pub record IsFarmUnwritten (cause : Cause) (old new : List Call) : Type 0 where
-  pub left : (new ≡ old) ⊎ (new ≡ failed_at Farm ∷ old)
+  pub left : (new ≡ old) ⊎ IsFarmTried old new
   pub late : is_early cause ≡ false

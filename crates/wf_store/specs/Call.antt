@@ -61,9 +61,13 @@ replaced file bytes = record { deed = deeds.Replaces file; bytes = Some bytes }
 abbrev pub failed : Call
 failed = record { deed = deeds.Fails; bytes = None }
 
--- a call failed that changes a file: it may have been made, or replaced, or not
+-- a file wasn't opened: it may have been made, or not
 abbrev pub failed_at : FileName → Call
 failed_at file = record { deed = deeds.FailsAt file; bytes = None }
+
+-- a replacement failed: a file's bytes are those from before, or these
+abbrev pub unreplaced : FileName → List ℕ → Call
+unreplaced file bytes = record { deed = deeds.FailsAt file; bytes = Some bytes }
 
 -- the bytes of a file that was read
 abbrev pub bytes_of : Option (Vec ℕ Global) → Option (List ℕ)

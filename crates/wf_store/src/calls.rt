@@ -8,7 +8,7 @@ use wf_past::Past;
 
 /// The calls so far, the latest first. Only proofs read them, and they take no memory.
 #[derive(Drop)]
-pub(crate) struct Calls {
+pub struct Calls {
     notes: Past<Option<Vec<u8>>, Deed>,
 }
 
@@ -23,14 +23,14 @@ impl Model for Calls {
 
 impl Calls {
     /// No call was made yet.
-    pub(crate) fn new() -> Calls
+    pub fn new() -> Calls
         ensures { result ≡ [] }
     {
         Calls { notes: Past::new() }
     }
 
-    /// One more call, with the bytes that it read or wrote.
-    pub(crate) fn and(&self, deed: Deed, bytes: &Option<Vec<u8>>) -> Calls
+    /// One more call, with the bytes that it read, wrote or was to write.
+    pub fn and(&self, deed: Deed, bytes: &Option<Vec<u8>>) -> Calls
         ensures all { result ≡ record { deed = deed; bytes = bytes_of bytes.now } ∷ self.now }
         ensures after { IsAfter self.now result }
         ensures reads { is_change deed ≡ false → OnlyReads self.now result }

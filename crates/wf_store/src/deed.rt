@@ -30,6 +30,6 @@ pub enum Deed {
     Replaces(FileName),
     /// It failed, and changed no file.
     Fails,
-    /// It failed, and may have made or replaced a file.
+    /// It failed, and may have made a file, or replaced it by the bytes that it was given.
     FailsAt(FileName),
 }

@@ -8,10 +8,10 @@
 //! system; [`MemoryStore`] is one in memory, in a [`MemoryFolder`] that outlives it, whose disks
 //! fail where that was set, and whose power is cut.
 //!
-//! **Model.** What a clause sees of any store is the list of its calls (`specs/Call.antt`): in
-//! which order they were made, what was read and what was written. `changes` of it are those that
-//! changed a file, or may have. [`read_file`], [`file_length`], [`is_folder`] and [`probe_file`]
-//! are about what is at any path.
+//! **Model.** What a clause sees of any store is the list of its calls ([`Calls`],
+//! `specs/Call.antt`): in which order they were made, what was read, what was written or was to be.
+//! `changes` of it are those that changed a file, or may have. [`read_file`], [`file_length`],
+//! [`is_folder`] and [`probe_file`] are about what is at any path.
 //!
 //! **Promises.** Each call is noted, with the bytes that were read or left, and an error is one of
 //! those that its call has, of the file that it was about (`specs/Fault.antt`); a call that reads
@@ -41,6 +41,7 @@ mod system_file;
 mod system_folder;
 
 pub use at_path::{ProbeFault, file_length, is_folder, probe_file, read_file};
+pub use calls::Calls;
 pub use deed::Deed;
 pub use fault::FolderFault;
 pub use file_name::{FileName, path_in};

@@ -1,6 +1,6 @@
 //! The folder that a process uses.
 ghost use Rattle.std.specs.Prelude.{◌≡◌, List, ◌∷◌, IfErr, IfOk, OnErr, OnOk};
-ghost use Rattle.wf_store.specs.Call.{Call, made, locked, compared, counted, drawn, seen, measured, read, opened, opened_existing, replaced, failed, failed_at, bytes_of, IsAfter, OnlyReads};
+ghost use Rattle.wf_store.specs.Call.{Call, made, locked, compared, counted, drawn, seen, measured, read, opened, opened_existing, replaced, unreplaced, failed, failed_at, bytes_of, IsAfter, OnlyReads};
 ghost use Rattle.wf_store.specs.Fault.{IsNoFolder, IsWhyUndrawn, IsWhyUnlisted, IsWhyUnlocked, IsWhyUnmade, IsWhyUnopened, IsWhyUnread, IsWhyUnwritten};
 
 use crate::fault::FolderFault;
@@ -105,6 +105,6 @@ pub trait Store {
     fn replace(&mut self, file: FileName, bytes: Vec<u8>) -> Result<(), FolderFault>
         ensures ok { OnOk result (calls self.new ≡ replaced file bytes.items ∷ calls self.old) }
         ensures after { IsAfter (calls self.old) (calls self.new) }
-        ensures err { OnErr result (calls self.new ≡ failed_at file ∷ calls self.old) }
+        ensures err { OnErr result (calls self.new ≡ unreplaced file bytes.items ∷ calls self.old) }
         ensures cause { IfErr result (IsWhyUnwritten file) };
 }

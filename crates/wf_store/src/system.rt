@@ -177,18 +177,14 @@ impl<'a, 'p, R: Files<File = File> + AllocGlobal> Store for SystemStore<'a, 'p, 
     }
 
     fn replace(&mut self, file: FileName, bytes: Vec<u8>) -> Result<(), FolderFault> {
-        match replace_in(self.rt, self.folder, file, &bytes) {
-            Ok(()) => {
-                let written = Some(bytes);
-                self.calls = self.calls.and(Deed::Replaces(file), &written);
-                drop(written);
-                Ok(())
-            }
-            Err(fault) => {
-                drop(bytes);
-                self.note(Deed::FailsAt(file));
-                Err(fault)
-            }
-        }
+        let replaced = replace_in(self.rt, self.folder, file, &bytes);
+        let deed = match replaced {
+            Ok(()) => Deed::Replaces(file),
+            Err(_) => Deed::FailsAt(file),
+        };
+        let given = Some(bytes);
+        self.calls = self.calls.and(deed, &given);
+        drop(given);
+        replaced
     }
 }

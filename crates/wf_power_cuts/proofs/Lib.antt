@@ -1,0 +1,4 @@
+mod DiskLemmas
+mod Noting
+mod OneDisk
+mod Told
