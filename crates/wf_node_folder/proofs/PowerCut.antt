@@ -10,7 +10,7 @@ use Rattle.wf_node_folder.specs.Joined.{AreJoinedSoundly, IsFarmText, IsJoinedSo
 use Rattle.wf_node_folder.specs.Made.{HasMade, IsFirstFile, IsFirstTape, IsHalfFilled, IsHalfMade, first_joining, made_empty, with_joins, with_tape}
 use Rattle.wf_node_folder.specs.PowerCut.{AreFarmCalls, FarmsAreWhole, InitsAreWhole, InitsWriteFarms, IsFarmCall, IsMadeWhole, NodesWriteFarms}
 use Rattle.wf_node_folder.specs.Texts.{is_tape}
-use Rattle.wf_power_cuts.specs.Cut.{CouldLeave, IsGiven, IsLeftBy, IsLeftIn, MayLeaveNow, OfFile, is_file}
+use Rattle.wf_power_cuts.specs.Cut.{CouldLeave, WasGiven, IsCutAfter, IsLeftIn, MayLeaveNow, OfFile, is_file}
 use Rattle.wf_rejoin.specs.JoiningText.{joins_text}
 use Rattle.wf_store.specs.Call.{Call, drawn, replaced, unreplaced}
 use Rattle.wf_store.specs.declared.deed.Deed.{Deed}
@@ -24,8 +24,8 @@ use Rattle.wf_store.specs.declared.file_name.FileName.TheVariants.{Farm, Heard, 
 abbrev IsFarmLeft : List ℕ → Type 0
 IsFarmLeft image = (image ≡ []) ⊎ IsFarmText image
 
-given_text : (bytes : Option (List ℕ)) (text image : List ℕ) → bytes ≡ Some text → IsFarmText text → IsGiven bytes image → IsFarmLeft image
-given_text bytes text image is sound given = inr (subst IsFarmText (sym (subst (λ (b : Option (List ℕ)). IsGiven b image → image ≡ text) (sym is) (λ (e : image ≡ text). e) given)) sound)
+given_text : (bytes : Option (List ℕ)) (text image : List ℕ) → bytes ≡ Some text → IsFarmText text → WasGiven bytes image → IsFarmLeft image
+given_text bytes text image is sound given = inr (subst IsFarmText (sym (subst (λ (b : Option (List ℕ)). WasGiven b image → image ≡ text) (sym is) (λ (e : image ≡ text). e) given)) sound)
 
 beside : (is : Bool) (own other : Type 0) → is ≡ false → OfFile is own other → other
 beside true own other not left = absurd (false≢true (sym not))
@@ -57,7 +57,7 @@ module _ (before : List ℕ → Type 0) (sound : (image : List ℕ) → before i
   left_in (deeds.Reads file) bytes image call left = sound image left
   left_in deeds.Fails bytes image call left = sound image left
 
-  left_by : (deed : Deed) (bytes : Option (List ℕ)) (image : List ℕ) → IsFarmCall deed bytes → IsLeftBy deed bytes Farm before image → IsFarmLeft image
+  left_by : (deed : Deed) (bytes : Option (List ℕ)) (image : List ℕ) → IsFarmCall deed bytes → IsCutAfter deed bytes Farm before image → IsFarmLeft image
   left_by (deeds.Replaces Farm) bytes image call left = given_text bytes call.0 image call.1 call.2 left
   left_by (deeds.Replaces Heard) bytes image call left = sound image left
   left_by (deeds.Replaces Joins) bytes image call left = sound image left

@@ -25,8 +25,8 @@ pub record IsMadeWhole (line : InitLine) (images : FileName → List ℕ) : Type
   pub tape : IsFirstTape line (images (NodeTape line.id))
   pub joins : line.replaces ≡ true → images Joins ≡ joins_text (first_joining line file.mark)
 
--- Wherever the power is cut while `init` makes a folder, or begins to, there is no file `farm`, so the
--- folder is none of a node; or all is there.
+-- Wherever the power is cut while `init` makes a folder, or begins to, there is no file `farm`, so
+-- the folder is none of a node; or all is there.
 abbrev pub InitsAreWhole : Type 0
 InitsAreWhole = (line : InitLine) (calls : List Call) → HasMade line [] calls ⊎ IsHalfMade line [] calls → (images : FileName → List ℕ) → CouldLeave calls images
     → (images Farm ≡ []) ⊎ IsMadeWhole line images

@@ -7,12 +7,12 @@ use Rattle.wf_disk.specs.MemoryDisk.{DiskValue}
 use Rattle.wf_power_cuts.specs.Cut.{is_file}
 use Rattle.wf_disk.specs.Folder.{MayLeave}
 use Rattle.wf_disk.specs.MemoryMoments.{memory_now}
-use Rattle.wf_power_cuts.specs.Disks.{AreRead, Changes, DiskSet, HasLeft, IsOldOr, disk_of, has_disk, no_files, with_disk}
+use Rattle.wf_power_cuts.specs.Disks.{AreOnlyRead, ChangesDisk, DiskSet, LeavesOnDisk, IsOldOr, disk_of, has_disk, no_files, with_disk}
 use Rattle.wf_store.specs.declared.file_name.FileName.{FileName}
 use Rattle.wf_store.specs.declared.file_name.FileName.TheVariants.{Farm, Heard, Joins, NodeTape, Replaced, ReplicaTape}
 
 -- a disk that no call was on
-pub untouched : (disk : DiskValue) → HasLeft (MayLeave disk.folder) disk disk
+pub untouched : (disk : DiskValue) → LeavesOnDisk (MayLeave disk.folder) disk disk
 untouched disk = record { after = λ image left. left; inside = λ image left. (memory_now disk).nothing_else image left }
 
 -- files that are one are equal
@@ -153,9 +153,9 @@ module _ (old mid new : DiskSet) (file : FileName) (taken : DiskValue) (has : ha
   is_back = is_disk file ∙ if_true (is_file file file) taken (disk_of old file) (same_file file)
 
   -- so what it left is left, and the others are as they were
-  pub changed_by : (P : List ℕ → Type 0) (before : DiskValue) → before ≡ disk_of old file → HasLeft P before taken → Changes file P old new
+  pub changed_by : (P : List ℕ → Type 0) (before : DiskValue) → before ≡ disk_of old file → LeavesOnDisk P before taken → ChangesDisk file P old new
   changed_by P before was left = record {
-    own = subst (λ (disk : DiskValue). HasLeft P (disk_of old file) disk) (sym is_back) (subst (λ (disk : DiskValue). HasLeft P disk taken) was left);
+    own = subst (λ (disk : DiskValue). LeavesOnDisk P (disk_of old file) disk) (sym is_back) (subst (λ (disk : DiskValue). LeavesOnDisk P disk taken) was left);
     others = λ other not. is_disk other ∙ if_false (is_file file other) taken (disk_of old other) not;
   }
 
@@ -166,12 +166,12 @@ taken_out old new file has out other not =
     ap (λ (set : DiskSet). disk_of set other) out ∙ disk_with old file other no_files has ∙ if_false (is_file file other) no_files (disk_of old other) not
 
 -- no disk was changed
-pub unchanged : (disks new : DiskSet) (file : FileName) → new ≡ disks → Changes file (MayLeave (disk_of disks file).folder) disks new
-unchanged disks new file same = subst (λ (set : DiskSet). Changes file (MayLeave (disk_of disks file).folder) disks set) (sym same)
+pub unchanged : (disks new : DiskSet) (file : FileName) → new ≡ disks → ChangesDisk file (MayLeave (disk_of disks file).folder) disks new
+unchanged disks new file same = subst (λ (set : DiskSet). ChangesDisk file (MayLeave (disk_of disks file).folder) disks set) (sym same)
     (record { own = untouched (disk_of disks file); others = λ other not. refl })
 
-pub unchanged_or : (disks new : DiskSet) (file : FileName) (bytes : List ℕ) → new ≡ disks → Changes file (IsOldOr disks file bytes) disks new
-unchanged_or disks new file bytes same = subst (λ (set : DiskSet). Changes file (IsOldOr disks file bytes) disks set) (sym same)
+pub unchanged_or : (disks new : DiskSet) (file : FileName) (bytes : List ℕ) → new ≡ disks → ChangesDisk file (IsOldOr disks file bytes) disks new
+unchanged_or disks new file bytes same = subst (λ (set : DiskSet). ChangesDisk file (IsOldOr disks file bytes) disks set) (sym same)
     (record {
       own = record {
         after = λ image left. inl left;
@@ -182,21 +182,21 @@ unchanged_or disks new file bytes same = subst (λ (set : DiskSet). Changes file
 
 -- ---- each disk leaves what it could before
 
-pub none_read : (old new : DiskSet) → new ≡ old → AreRead old new
-none_read old new same = subst (λ (set : DiskSet). AreRead old set) (sym same) (λ file. untouched (disk_of old file))
+pub none_read : (old new : DiskSet) → new ≡ old → AreOnlyRead old new
+none_read old new same = subst (λ (set : DiskSet). AreOnlyRead old set) (sym same) (λ file. untouched (disk_of old file))
 
-read_at : (old new : DiskSet) (file other : FileName) → Changes file (MayLeave (disk_of old file).folder) old new → (is : Bool) → is_file file other ≡ is
-    → HasLeft (MayLeave (disk_of old other).folder) (disk_of old other) (disk_of new other)
+read_at : (old new : DiskSet) (file other : FileName) → ChangesDisk file (MayLeave (disk_of old file).folder) old new → (is : Bool) → is_file file other ≡ is
+    → LeavesOnDisk (MayLeave (disk_of old other).folder) (disk_of old other) (disk_of new other)
 read_at old new file other change true same =
-    subst (λ (f : FileName). HasLeft (MayLeave (disk_of old f).folder) (disk_of old f) (disk_of new f)) (one_file file other same) change.own
+    subst (λ (f : FileName). LeavesOnDisk (MayLeave (disk_of old f).folder) (disk_of old f) (disk_of new f)) (one_file file other same) change.own
 read_at old new file other change false same =
-    subst (λ (disk : DiskValue). HasLeft (MayLeave (disk_of old other).folder) (disk_of old other) disk) (sym (change.others other same)) (untouched (disk_of old other))
+    subst (λ (disk : DiskValue). LeavesOnDisk (MayLeave (disk_of old other).folder) (disk_of old other) disk) (sym (change.others other same)) (untouched (disk_of old other))
 
-pub one_read : (old new : DiskSet) (file : FileName) → Changes file (MayLeave (disk_of old file).folder) old new → AreRead old new
+pub one_read : (old new : DiskSet) (file : FileName) → ChangesDisk file (MayLeave (disk_of old file).folder) old new → AreOnlyRead old new
 one_read old new file change = λ other. read_at old new file other change (is_file file other) refl
 
 -- one that was taken out, read, and put back
 pub read_back : (old mid new : DiskSet) (file : FileName) (before taken : DiskValue) → has_disk old file ≡ true → mid ≡ with_disk old file no_files → new ≡ with_disk mid file taken → before ≡ disk_of old file
-    → HasLeft (MayLeave before.folder) before taken → AreRead old new
+    → LeavesOnDisk (MayLeave before.folder) before taken → AreOnlyRead old new
 read_back old mid new file before taken has out back was left =
-    one_read old new file (changed_by old mid new file taken has out back (MayLeave (disk_of old file).folder) before was (subst (λ (d : DiskValue). HasLeft (MayLeave d.folder) before taken) was left))
+    one_read old new file (changed_by old mid new file taken has out back (MayLeave (disk_of old file).folder) before was (subst (λ (d : DiskValue). LeavesOnDisk (MayLeave d.folder) before taken) was left))

@@ -7,7 +7,7 @@ use Rattle.wf_disk.specs.Folder.{MayLeave}
 use Rattle.wf_power_cuts.proofs.DiskLemmas.{none_read, one_read}
 use Rattle.wf_power_cuts.proofs.Told.{told_compared, told_counted, told_drawn, told_failed, told_failed_at, told_first, told_locked, told_looked, told_made, told_measured, told_opened, told_opened_existing, told_read, told_replaced, told_seen, told_seen_open, told_unreplaced}
 use Rattle.wf_power_cuts.specs.Cut.{is_file}
-use Rattle.wf_power_cuts.specs.Disks.{AreRead, AreTold, Changes, DiskSet, IsOldOr, disk_of, empty_disks, past_of}
+use Rattle.wf_power_cuts.specs.Disks.{AreOnlyRead, AreCutsTold, ChangesDisk, DiskSet, IsOldOr, disk_of, empty_disks, past_of}
 use Rattle.wf_store.specs.Call.{Call, failed, failed_at, is_change, opened, opened_existing, read, replaced, unreplaced}
 use Rattle.wf_store.specs.declared.deed.Deed.{Deed}
 use Rattle.wf_store.specs.declared.deed.Deed.TheVariants as deeds
@@ -20,12 +20,12 @@ past_grows notes later disks is =
 
 -- so what a cut leaves is told, where it is of one call more
 pub told_by : (calls later : List Call) (notes after : List (DiskSet × Unit {0})) (now new : DiskSet) (call : Call) → after ≡ notes ++ (now, tt) ∷ [] → later ≡ call ∷ calls
-    → AreTold (call ∷ calls) new (now ∷ past_of notes) → AreTold later new (past_of after)
+    → AreCutsTold (call ∷ calls) new (now ∷ past_of notes) → AreCutsTold later new (past_of after)
 told_by calls later notes after now new call grown more told =
-    subst (λ (past : List DiskSet). AreTold later new past) (sym (past_grows notes after now grown)) (subst (λ (c : List Call). AreTold c new (now ∷ past_of notes)) (sym more) told)
+    subst (λ (past : List DiskSet). AreCutsTold later new past) (sym (past_grows notes after now grown)) (subst (λ (c : List Call). AreCutsTold c new (now ∷ past_of notes)) (sym more) told)
 
-quiet : (calls : List Call) (now new : DiskSet) (past : List DiskSet) (deed : Deed) → AreTold calls now past → AreRead now new → is_change deed ≡ false
-    → AreTold (record { deed = deed; bytes = None } ∷ calls) new (now ∷ past)
+quiet : (calls : List Call) (now new : DiskSet) (past : List DiskSet) (deed : Deed) → AreCutsTold calls now past → AreOnlyRead now new → is_change deed ≡ false
+    → AreCutsTold (record { deed = deed; bytes = None } ∷ calls) new (now ∷ past)
 quiet calls now new past deeds.Makes told reads plain = told_made calls now new past told reads
 quiet calls now new past deeds.Locks told reads plain = told_locked calls now new past told reads
 quiet calls now new past (deeds.Compares same) told reads plain = told_compared calls now new past told reads same
@@ -40,53 +40,53 @@ quiet calls now new past (deeds.Replaces file) told reads plain = absurd (false�
 quiet calls now new past deeds.Fails told reads plain = told_failed calls now new past told reads
 quiet calls now new past (deeds.FailsAt file) told reads plain = absurd (false≢true (sym plain))
 
-pub told_quiet : (calls later : List Call) (notes after : List (DiskSet × Unit {0})) (now new : DiskSet) (deed : Deed) → AreTold calls now (past_of notes) → AreRead now new → is_change deed ≡ false
-    → after ≡ notes ++ (now, tt) ∷ [] → later ≡ record { deed = deed; bytes = None } ∷ calls → AreTold later new (past_of after)
+pub told_quiet : (calls later : List Call) (notes after : List (DiskSet × Unit {0})) (now new : DiskSet) (deed : Deed) → AreCutsTold calls now (past_of notes) → AreOnlyRead now new → is_change deed ≡ false
+    → after ≡ notes ++ (now, tt) ∷ [] → later ≡ record { deed = deed; bytes = None } ∷ calls → AreCutsTold later new (past_of after)
 told_quiet calls later notes after now new deed told reads plain grown more =
     told_by calls later notes after now new (record { deed = deed; bytes = None }) grown more (quiet calls now new (past_of notes) deed told reads plain)
 
-pub told_look : (calls : List Call) (notes after : List (DiskSet × Unit {0})) (now new : DiskSet) → AreTold calls now (past_of notes) → AreRead now new → after ≡ notes ++ (now, tt) ∷ [] → AreTold calls new (past_of after)
-told_look calls notes after now new told reads grown = subst (λ (past : List DiskSet). AreTold calls new past) (sym (past_grows notes after now grown)) (told_looked calls now new (past_of notes) told reads)
+pub told_look : (calls : List Call) (notes after : List (DiskSet × Unit {0})) (now new : DiskSet) → AreCutsTold calls now (past_of notes) → AreOnlyRead now new → after ≡ notes ++ (now, tt) ∷ [] → AreCutsTold calls new (past_of after)
+told_look calls notes after now new told reads grown = subst (λ (past : List DiskSet). AreCutsTold calls new past) (sym (past_grows notes after now grown)) (told_looked calls now new (past_of notes) told reads)
 
 -- a file was replaced, or was to be
-pub told_replacing : (calls later : List Call) (notes after : List (DiskSet × Unit {0})) (now new : DiskSet) (file : FileName) (bytes : List ℕ) → AreTold calls now (past_of notes) → Changes file (IsOldOr now file bytes) now new
-    → ((image : List ℕ) → MayLeave (disk_of new file).folder image → image ≡ bytes) → after ≡ notes ++ (now, tt) ∷ [] → later ≡ replaced file bytes ∷ calls → AreTold later new (past_of after)
+pub told_replacing : (calls later : List Call) (notes after : List (DiskSet × Unit {0})) (now new : DiskSet) (file : FileName) (bytes : List ℕ) → AreCutsTold calls now (past_of notes) → ChangesDisk file (IsOldOr now file bytes) now new
+    → ((image : List ℕ) → MayLeave (disk_of new file).folder image → image ≡ bytes) → after ≡ notes ++ (now, tt) ∷ [] → later ≡ replaced file bytes ∷ calls → AreCutsTold later new (past_of after)
 told_replacing calls later notes after now new file bytes told change alone grown more =
     told_by calls later notes after now new (replaced file bytes) grown more (told_replaced calls now new (past_of notes) told file bytes change alone)
 
-pub told_not_replacing : (calls later : List Call) (notes after : List (DiskSet × Unit {0})) (now new : DiskSet) (file : FileName) (bytes : List ℕ) → AreTold calls now (past_of notes) → Changes file (IsOldOr now file bytes) now new
-    → after ≡ notes ++ (now, tt) ∷ [] → later ≡ unreplaced file bytes ∷ calls → AreTold later new (past_of after)
+pub told_not_replacing : (calls later : List Call) (notes after : List (DiskSet × Unit {0})) (now new : DiskSet) (file : FileName) (bytes : List ℕ) → AreCutsTold calls now (past_of notes) → ChangesDisk file (IsOldOr now file bytes) now new
+    → after ≡ notes ++ (now, tt) ∷ [] → later ≡ unreplaced file bytes ∷ calls → AreCutsTold later new (past_of after)
 told_not_replacing calls later notes after now new file bytes told change grown more =
     told_by calls later notes after now new (unreplaced file bytes) grown more (told_unreplaced calls now new (past_of notes) told file bytes change)
 
 -- bytes of a file were read before, and now that is noted
-pub told_reading : (calls later : List Call) (notes after : List (DiskSet × Unit {0})) (now : DiskSet) (file : FileName) (bytes : Option (List ℕ)) → AreTold calls now (past_of notes)
-    → after ≡ notes ++ (now, tt) ∷ [] → later ≡ read file bytes ∷ calls → AreTold later now (past_of after)
+pub told_reading : (calls later : List Call) (notes after : List (DiskSet × Unit {0})) (now : DiskSet) (file : FileName) (bytes : Option (List ℕ)) → AreCutsTold calls now (past_of notes)
+    → after ≡ notes ++ (now, tt) ∷ [] → later ≡ read file bytes ∷ calls → AreCutsTold later now (past_of after)
 told_reading calls later notes after now file bytes told grown more =
     told_by calls later notes after now now (read file bytes) grown more (told_read calls now now (past_of notes) told (none_read now now refl) file bytes)
 
 -- a file was opened as a tape, or wasn't
-pub told_opening : (calls later : List Call) (notes after : List (DiskSet × Unit {0})) (now new : DiskSet) (file : FileName) → AreTold calls now (past_of notes)
+pub told_opening : (calls later : List Call) (notes after : List (DiskSet × Unit {0})) (now new : DiskSet) (file : FileName) → AreCutsTold calls now (past_of notes)
     → ((other : FileName) → is_file file other ≡ false → disk_of new other ≡ disk_of now other)
-    → after ≡ notes ++ (now, tt) ∷ [] → later ≡ opened file ∷ calls → AreTold later new (past_of after)
+    → after ≡ notes ++ (now, tt) ∷ [] → later ≡ opened file ∷ calls → AreCutsTold later new (past_of after)
 told_opening calls later notes after now new file told others grown more = told_by calls later notes after now new (opened file) grown more (told_opened calls now new (past_of notes) told file others)
 
-pub told_opening_existing : (calls later : List Call) (notes after : List (DiskSet × Unit {0})) (now new : DiskSet) (file : FileName) → AreTold calls now (past_of notes)
+pub told_opening_existing : (calls later : List Call) (notes after : List (DiskSet × Unit {0})) (now new : DiskSet) (file : FileName) → AreCutsTold calls now (past_of notes)
     → ((other : FileName) → is_file file other ≡ false → disk_of new other ≡ disk_of now other)
-    → after ≡ notes ++ (now, tt) ∷ [] → later ≡ opened_existing file ∷ calls → AreTold later new (past_of after)
+    → after ≡ notes ++ (now, tt) ∷ [] → later ≡ opened_existing file ∷ calls → AreCutsTold later new (past_of after)
 told_opening_existing calls later notes after now new file told others grown more =
     told_by calls later notes after now new (opened_existing file) grown more (told_opened_existing calls now new (past_of notes) told file others)
 
-pub told_unopened : (calls later : List Call) (notes after : List (DiskSet × Unit {0})) (now new : DiskSet) (file : FileName) → AreTold calls now (past_of notes) → Changes file (MayLeave (disk_of now file).folder) now new
-    → after ≡ notes ++ (now, tt) ∷ [] → later ≡ failed_at file ∷ calls → AreTold later new (past_of after)
+pub told_unopened : (calls later : List Call) (notes after : List (DiskSet × Unit {0})) (now new : DiskSet) (file : FileName) → AreCutsTold calls now (past_of notes) → ChangesDisk file (MayLeave (disk_of now file).folder) now new
+    → after ≡ notes ++ (now, tt) ∷ [] → later ≡ failed_at file ∷ calls → AreCutsTold later new (past_of after)
 told_unopened calls later notes after now new file told change grown more = told_by calls later notes after now new (failed_at file) grown more (told_failed_at calls now new (past_of notes) told file change)
 
-pub told_unopened_existing : (calls later : List Call) (notes after : List (DiskSet × Unit {0})) (now new : DiskSet) (file : FileName) → AreTold calls now (past_of notes) → Changes file (MayLeave (disk_of now file).folder) now new
-    → after ≡ notes ++ (now, tt) ∷ [] → later ≡ failed ∷ calls → AreTold later new (past_of after)
+pub told_unopened_existing : (calls later : List Call) (notes after : List (DiskSet × Unit {0})) (now new : DiskSet) (file : FileName) → AreCutsTold calls now (past_of notes) → ChangesDisk file (MayLeave (disk_of now file).folder) now new
+    → after ≡ notes ++ (now, tt) ∷ [] → later ≡ failed ∷ calls → AreCutsTold later new (past_of after)
 told_unopened_existing calls later notes after now new file told change grown more =
     told_by calls later notes after now new failed grown more (told_failed calls now new (past_of notes) told (one_read now new file change))
 
 -- before the first call
-pub told_new : (node : ℕ) (disks : DiskSet) (calls : List Call) (notes : List (DiskSet × Unit {0})) → disks ≡ empty_disks node → calls ≡ [] → notes ≡ [] → AreTold calls disks (past_of notes)
+pub told_new : (node : ℕ) (disks : DiskSet) (calls : List Call) (notes : List (DiskSet × Unit {0})) → disks ≡ empty_disks node → calls ≡ [] → notes ≡ [] → AreCutsTold calls disks (past_of notes)
 told_new node disks calls notes empty none nothing =
-    subst (λ (c : List Call). AreTold c disks (past_of notes)) (sym none) (subst (λ (past : List DiskSet). AreTold [] disks past) (sym (ap past_of nothing)) (told_first node disks empty))
+    subst (λ (c : List Call). AreCutsTold c disks (past_of notes)) (sym none) (subst (λ (past : List DiskSet). AreCutsTold [] disks past) (sym (ap past_of nothing)) (told_first node disks empty))

@@ -6,7 +6,7 @@ use Rattle.wf_disk.specs.FolderTheorems.{no_file_is_left, whole_is_left}
 use Rattle.wf_disk.specs.MemoryDisk.{DiskValue, IsFileLeftSince, moment_of}
 use Rattle.wf_disk.specs.MemoryMoments.{memory_nested, memory_now}
 use Rattle.wf_disk.specs.Moments.{Elapses, LeavesOldOrNew}
-use Rattle.wf_power_cuts.specs.Disks.{HasLeft}
+use Rattle.wf_power_cuts.specs.Disks.{LeavesOnDisk}
 
 -- of a synced file the bytes alone
 pub left_alone : (folder : Folder) (bytes image : List ℕ) → IsSynced folder bytes → MayLeave folder image → image ≡ bytes
@@ -21,7 +21,7 @@ left_alone_on (Err error) folder bytes synced = tt
 
 -- what it could have left inside the call says also what it may leave after it
 pub left_or : (P : List ℕ → Type 0) (old new : DiskValue) → Elapses (moment_of old) (moment_of new) (IsFileLeftSince old) (IsFileLeftSince new)
-    → ((image : List ℕ) → IsFileLeftSince new (moment_of old) image → P image) → HasLeft P old new
+    → ((image : List ℕ) → IsFileLeftSince new (moment_of old) image → P image) → LeavesOnDisk P old new
 left_or P old new time inside = record {
   after = λ image left. inside image (memory_nested new (moment_of old) (moment_of new) image time.later ((memory_now new).counts image left));
   inside = inside;
@@ -29,6 +29,6 @@ left_or P old new time inside = record {
 
 -- a call that leaves the folder as it was
 pub left_reading : (old new : DiskValue) → Elapses (moment_of old) (moment_of new) (IsFileLeftSince old) (IsFileLeftSince new)
-    → LeavesOldOrNew (MayLeave old.folder) (MayLeave new.folder) (IsFileLeftSince new (moment_of old)) → new.folder ≡ old.folder → HasLeft (MayLeave old.folder) old new
+    → LeavesOldOrNew (MayLeave old.folder) (MayLeave new.folder) (IsFileLeftSince new (moment_of old)) → new.folder ≡ old.folder → LeavesOnDisk (MayLeave old.folder) old new
 left_reading old new time inside same = left_or (MayLeave old.folder) old new time
     (λ image left. elim (inside image left) [ inl was ↦ was | inr is ↦ subst (λ (folder : Folder). MayLeave folder image) same is ])

@@ -6,8 +6,8 @@ use Rattle.wf_disk.specs.MemoryDisk.{DiskValue, IsFileLeftSince, moment_of}
 use Rattle.wf_disk.specs.MemoryMoments.{memory_now}
 use Rattle.wf_folder.specs.declared.presence.Presence.{Presence}
 use Rattle.wf_power_cuts.proofs.DiskLemmas.{one_file, untouched}
-use Rattle.wf_power_cuts.specs.Cut.{CouldLeave, IsGiven, IsLeftBy, IsLeftIn, MayLeaveNow, OfFile, is_file}
-use Rattle.wf_power_cuts.specs.Disks.{AreRead, AreTold, Changes, DiskSet, HasLeft, IsOldOr, WereLeft, disk_of, empty_disks, no_files}
+use Rattle.wf_power_cuts.specs.Cut.{CouldLeave, WasGiven, IsCutAfter, IsLeftIn, MayLeaveNow, OfFile, is_file}
+use Rattle.wf_power_cuts.specs.Disks.{AreOnlyRead, AreCutsTold, ChangesDisk, DiskSet, LeavesOnDisk, IsOldOr, WereLeft, disk_of, empty_disks, no_files}
 use Rattle.wf_disk.specs.FolderTheorems.{no_file_is_left, none_is_left}
 use Rattle.wf_store.specs.declared.file_name.FileName.TheVariants.{Farm, Heard, Joins, NodeTape, Replaced, ReplicaTape}
 use Rattle.wf_store.specs.Call.{Call, compared, counted, drawn, failed, failed_at, locked, made, measured, opened, opened_existing, read, replaced, seen, unreplaced}
@@ -32,9 +32,9 @@ nothing_left node (NodeTape other) image left = none_left image (subst (λ (disk
 nothing_left node ReplicaTape image left = none_left image left
 
 -- before the first call
-pub told_first : (node : ℕ) (now : DiskSet) → now ≡ empty_disks node → AreTold [] now []
+pub told_first : (node : ℕ) (now : DiskSet) → now ≡ empty_disks node → AreCutsTold [] now []
 unfolding MayLeaveNow CouldLeave WereLeft
-told_first node now is = subst (λ (disks : DiskSet). AreTold [] disks []) (sym is) (record {
+told_first node now is = subst (λ (disks : DiskSet). AreCutsTold [] disks []) (sym is) (record {
   now_told = λ file image left. nothing_left node file image left;
   told = λ images were. λ file. nothing_left node file (images file) (were file);
 })
@@ -47,10 +47,10 @@ chosen true on other here there = here refl
 chosen false on other here there = there refl
 
 -- what a cut may leave after a call, one could leave inside it
-inside_too : (deed : Deed) (bytes : Option (List ℕ)) (file : FileName) (before : List ℕ → Type 0) (image : List ℕ) → IsLeftBy deed bytes file before image → IsLeftIn deed bytes file before image
+inside_too : (deed : Deed) (bytes : Option (List ℕ)) (file : FileName) (before : List ℕ → Type 0) (image : List ℕ) → IsCutAfter deed bytes file before image → IsLeftIn deed bytes file before image
 inside_too (deeds.Replaces named) bytes file before image left = given_too (is_file named file) left
   where
-    given_too : (is : Bool) → OfFile is (IsGiven bytes image) (before image) → OfFile is (before image ⊎ IsGiven bytes image) (before image)
+    given_too : (is : Bool) → OfFile is (WasGiven bytes image) (before image) → OfFile is (before image ⊎ WasGiven bytes image) (before image)
     given_too true given = inr given
     given_too false was = was
 inside_too (deeds.FailsAt named) bytes file before image left = left
@@ -74,14 +74,14 @@ could_now (call ∷ earlier) images left = inl (λ file. inside_too call.deed ca
 
 -- ---- one call more
 
-module _ (calls : List Call) (now new : DiskSet) (past : List DiskSet) (told : AreTold calls now past) where
+module _ (calls : List Call) (now new : DiskSet) (past : List DiskSet) (told : AreCutsTold calls now past) where
   -- what a cut could leave of a file before it
   abbrev could : FileName → List ℕ → Type 0
   could = MayLeaveNow calls
 
-  told_step : (call : Call) → ((file : FileName) (image : List ℕ) → MayLeave (disk_of new file).folder image → IsLeftBy call.deed call.bytes file (could file) image)
+  told_step : (call : Call) → ((file : FileName) (image : List ℕ) → MayLeave (disk_of new file).folder image → IsCutAfter call.deed call.bytes file (could file) image)
       → ((file : FileName) (image : List ℕ) → IsFileLeftSince (disk_of new file) (moment_of (disk_of now file)) image → IsLeftIn call.deed call.bytes file (could file) image)
-      → AreTold (call ∷ calls) new (now ∷ past)
+      → AreCutsTold (call ∷ calls) new (now ∷ past)
   unfolding MayLeaveNow CouldLeave WereLeft
   told_step call after inside = record {
     now_told = after;
@@ -93,7 +93,7 @@ module _ (calls : List Call) (now new : DiskSet) (past : List DiskSet) (told : A
 
   -- ---- one that changed no file
 
-  module _ (reads : AreRead now new) where
+  module _ (reads : AreOnlyRead now new) where
     after_read : (file : FileName) (image : List ℕ) → MayLeave (disk_of new file).folder image → could file image
     after_read file image left = told.now_told file image ((reads file).after image left)
 
@@ -101,7 +101,7 @@ module _ (calls : List Call) (now new : DiskSet) (past : List DiskSet) (told : A
     inside_read file image left = told.now_told file image ((reads file).inside image left)
 
     -- it was looked at files, and no call was noted yet
-    pub told_looked : AreTold calls new (now ∷ past)
+    pub told_looked : AreCutsTold calls new (now ∷ past)
     unfolding WereLeft
     told_looked = record {
       now_told = after_read;
@@ -111,41 +111,41 @@ module _ (calls : List Call) (now new : DiskSet) (past : List DiskSet) (told : A
       ];
     }
 
-    pub told_made : AreTold (made ∷ calls) new (now ∷ past)
+    pub told_made : AreCutsTold (made ∷ calls) new (now ∷ past)
     told_made = told_step made after_read inside_read
 
-    pub told_locked : AreTold (locked ∷ calls) new (now ∷ past)
+    pub told_locked : AreCutsTold (locked ∷ calls) new (now ∷ past)
     told_locked = told_step locked after_read inside_read
 
-    pub told_compared : (same : Bool) → AreTold (compared same ∷ calls) new (now ∷ past)
+    pub told_compared : (same : Bool) → AreCutsTold (compared same ∷ calls) new (now ∷ past)
     told_compared same = told_step (compared same) after_read inside_read
 
-    pub told_counted : (count : ℕ) → AreTold (counted count ∷ calls) new (now ∷ past)
+    pub told_counted : (count : ℕ) → AreCutsTold (counted count ∷ calls) new (now ∷ past)
     told_counted count = told_step (counted count) after_read inside_read
 
-    pub told_drawn : (bits : List ℕ) → AreTold (drawn bits ∷ calls) new (now ∷ past)
+    pub told_drawn : (bits : List ℕ) → AreCutsTold (drawn bits ∷ calls) new (now ∷ past)
     told_drawn bits = told_step (drawn bits) after_read inside_read
 
-    pub told_seen : (file : FileName) (there : Presence) → AreTold (seen file there ∷ calls) new (now ∷ past)
+    pub told_seen : (file : FileName) (there : Presence) → AreCutsTold (seen file there ∷ calls) new (now ∷ past)
     told_seen file there = told_step (seen file there) after_read inside_read
 
-    pub told_measured : (file : FileName) (length : Option ℕ) → AreTold (measured file length ∷ calls) new (now ∷ past)
+    pub told_measured : (file : FileName) (length : Option ℕ) → AreCutsTold (measured file length ∷ calls) new (now ∷ past)
     told_measured file length = told_step (measured file length) after_read inside_read
 
-    pub told_read : (file : FileName) (bytes : Option (List ℕ)) → AreTold (read file bytes ∷ calls) new (now ∷ past)
+    pub told_read : (file : FileName) (bytes : Option (List ℕ)) → AreCutsTold (read file bytes ∷ calls) new (now ∷ past)
     told_read file bytes = told_step (read file bytes) after_read inside_read
 
-    pub told_seen_open : (file : FileName) → AreTold (opened_existing file ∷ calls) new (now ∷ past)
+    pub told_seen_open : (file : FileName) → AreCutsTold (opened_existing file ∷ calls) new (now ∷ past)
     told_seen_open file = told_step (opened_existing file)
         (λ other image left. chosen (is_file file other) ⊤ (could other image) (λ is. tt) (λ isnt. after_read other image left))
         (λ other image left. chosen (is_file file other) ⊤ (could other image) (λ is. tt) (λ isnt. inside_read other image left))
 
-    pub told_failed : AreTold (failed ∷ calls) new (now ∷ past)
+    pub told_failed : AreCutsTold (failed ∷ calls) new (now ∷ past)
     told_failed = told_step failed after_read inside_read
 
   -- ---- one that changed a file, or may have
 
-  module _ (file : FileName) (P : List ℕ → Type 0) (change : Changes file P now new) where
+  module _ (file : FileName) (P : List ℕ → Type 0) (change : ChangesDisk file P now new) where
     -- of another file what could be left before
     beside_after : (other : FileName) (image : List ℕ) → is_file file other ≡ false → MayLeave (disk_of new other).folder image → could other image
     beside_after other image not left = told.now_told other image (subst (λ (disk : DiskValue). MayLeave disk.folder image) (change.others other not) left)
@@ -162,7 +162,7 @@ module _ (calls : List Call) (now new : DiskSet) (past : List DiskSet) (told : A
     own_inside other image is left =
         change.own.inside image (subst (λ (f : FileName). IsFileLeftSince (disk_of new f) (moment_of (disk_of now f)) image) (sym (one_file file other is)) left)
 
-  module _ (file : FileName) (bytes : List ℕ) (change : Changes file (IsOldOr now file bytes) now new) where
+  module _ (file : FileName) (bytes : List ℕ) (change : ChangesDisk file (IsOldOr now file bytes) now new) where
     -- the bytes from before, as the calls so far say, or the new ones
     old_or : (other : FileName) (image : List ℕ) → is_file file other ≡ true → IsOldOr now file bytes image → could other image ⊎ (image ≡ bytes)
     old_or other image is old = elim old [
@@ -170,14 +170,14 @@ module _ (calls : List Call) (now new : DiskSet) (past : List DiskSet) (told : A
       | inr given ↦ inr given
     ]
 
-    pub told_unreplaced : AreTold (unreplaced file bytes ∷ calls) new (now ∷ past)
+    pub told_unreplaced : AreCutsTold (unreplaced file bytes ∷ calls) new (now ∷ past)
     told_unreplaced = told_step (unreplaced file bytes)
         (λ other image left. chosen (is_file file other) (could other image ⊎ (image ≡ bytes)) (could other image)
         (λ is. old_or other image is (own_after file (IsOldOr now file bytes) change other image is left)) (λ not. beside_after file (IsOldOr now file bytes) change other image not left))
         (λ other image left. chosen (is_file file other) (could other image ⊎ (image ≡ bytes)) (could other image)
         (λ is. old_or other image is (own_inside file (IsOldOr now file bytes) change other image is left)) (λ not. beside_inside file (IsOldOr now file bytes) change other image not left))
 
-    pub told_replaced : ((image : List ℕ) → MayLeave (disk_of new file).folder image → image ≡ bytes) → AreTold (replaced file bytes ∷ calls) new (now ∷ past)
+    pub told_replaced : ((image : List ℕ) → MayLeave (disk_of new file).folder image → image ≡ bytes) → AreCutsTold (replaced file bytes ∷ calls) new (now ∷ past)
     told_replaced alone = told_step (replaced file bytes)
         (λ other image left. chosen (is_file file other) (image ≡ bytes) (could other image)
         (λ is. alone image (subst (λ (f : FileName). MayLeave (disk_of new f).folder image) (sym (one_file file other is)) left)) (λ not. beside_after file (IsOldOr now file bytes) change other image not left))
@@ -185,7 +185,7 @@ module _ (calls : List Call) (now new : DiskSet) (past : List DiskSet) (told : A
         (λ is. old_or other image is (own_inside file (IsOldOr now file bytes) change other image is left)) (λ not. beside_inside file (IsOldOr now file bytes) change other image not left))
 
   -- a file wasn't opened
-  pub told_failed_at : (file : FileName) → Changes file (MayLeave (disk_of now file).folder) now new → AreTold (failed_at file ∷ calls) new (now ∷ past)
+  pub told_failed_at : (file : FileName) → ChangesDisk file (MayLeave (disk_of now file).folder) now new → AreCutsTold (failed_at file ∷ calls) new (now ∷ past)
   told_failed_at file change = told_step (failed_at file)
       (λ other image left. chosen (is_file file other) (could other image ⊎ (image ≡ [])) (could other image)
       (λ is. inl (subst (λ (f : FileName). could f image) (one_file file other is) (told.now_told file image (own_after file (MayLeave (disk_of now file).folder) change other image is left))))
@@ -203,12 +203,12 @@ module _ (calls : List Call) (now new : DiskSet) (past : List DiskSet) (told : A
     away_inside other image not left =
         told.now_told other image ((untouched (disk_of now other)).inside image (subst (λ (disk : DiskValue). IsFileLeftSince disk (moment_of (disk_of now other)) image) (others other not) left))
 
-    pub told_opened : AreTold (opened file ∷ calls) new (now ∷ past)
+    pub told_opened : AreCutsTold (opened file ∷ calls) new (now ∷ past)
     told_opened = told_step (opened file)
         (λ other image left. chosen (is_file file other) ⊤ (could other image) (λ is. tt) (λ not. away_after other image not left))
         (λ other image left. chosen (is_file file other) ⊤ (could other image) (λ is. tt) (λ not. away_inside other image not left))
 
-    pub told_opened_existing : AreTold (opened_existing file ∷ calls) new (now ∷ past)
+    pub told_opened_existing : AreCutsTold (opened_existing file ∷ calls) new (now ∷ past)
     told_opened_existing = told_step (opened_existing file)
         (λ other image left. chosen (is_file file other) ⊤ (could other image) (λ is. tt) (λ not. away_after other image not left))
         (λ other image left. chosen (is_file file other) ⊤ (could other image) (λ is. tt) (λ not. away_inside other image not left))

@@ -25,24 +25,24 @@ OfFile true on other = on
 OfFile false on other = other
 
 -- the bytes that a call was given; a file that it was to open may have been made, without bytes
-abbrev pub IsGiven : Option (List ℕ) → List ℕ → Type 0
-IsGiven None image = image ≡ []
-IsGiven (Some bytes) image = image ≡ bytes
+abbrev pub WasGiven : Option (List ℕ) → List ℕ → Type 0
+WasGiven None image = image ≡ []
+WasGiven (Some bytes) image = image ≡ bytes
 
 -- An image after a call, by what it could be before: a file that was replaced has the new bytes
 -- alone, one whose replacement failed these or those from before. Of a file that was opened as a
 -- tape the tape says from then on.
-abbrev pub IsLeftBy : Deed → Option (List ℕ) → FileName → (List ℕ → Type 0) → List ℕ → Type 0
-IsLeftBy (deeds.Replaces named) bytes file before image = OfFile (is_file named file) (IsGiven bytes image) (before image)
-IsLeftBy (deeds.FailsAt named) bytes file before image = OfFile (is_file named file) (before image ⊎ IsGiven bytes image) (before image)
-IsLeftBy (deeds.Opens named) bytes file before image = OfFile (is_file named file) ⊤ (before image)
-IsLeftBy (deeds.OpensExisting named) bytes file before image = OfFile (is_file named file) ⊤ (before image)
-IsLeftBy deed bytes file before image = before image
+abbrev pub IsCutAfter : Deed → Option (List ℕ) → FileName → (List ℕ → Type 0) → List ℕ → Type 0
+IsCutAfter (deeds.Replaces named) bytes file before image = OfFile (is_file named file) (WasGiven bytes image) (before image)
+IsCutAfter (deeds.FailsAt named) bytes file before image = OfFile (is_file named file) (before image ⊎ WasGiven bytes image) (before image)
+IsCutAfter (deeds.Opens named) bytes file before image = OfFile (is_file named file) ⊤ (before image)
+IsCutAfter (deeds.OpensExisting named) bytes file before image = OfFile (is_file named file) ⊤ (before image)
+IsCutAfter deed bytes file before image = before image
 
 -- inside a call: a file that is replaced has the bytes from before or the new ones
 abbrev pub IsLeftIn : Deed → Option (List ℕ) → FileName → (List ℕ → Type 0) → List ℕ → Type 0
-IsLeftIn (deeds.Replaces named) bytes file before image = OfFile (is_file named file) (before image ⊎ IsGiven bytes image) (before image)
-IsLeftIn (deeds.FailsAt named) bytes file before image = OfFile (is_file named file) (before image ⊎ IsGiven bytes image) (before image)
+IsLeftIn (deeds.Replaces named) bytes file before image = OfFile (is_file named file) (before image ⊎ WasGiven bytes image) (before image)
+IsLeftIn (deeds.FailsAt named) bytes file before image = OfFile (is_file named file) (before image ⊎ WasGiven bytes image) (before image)
 IsLeftIn (deeds.Opens named) bytes file before image = OfFile (is_file named file) ⊤ (before image)
 IsLeftIn (deeds.OpensExisting named) bytes file before image = OfFile (is_file named file) ⊤ (before image)
 IsLeftIn deed bytes file before image = before image
@@ -53,7 +53,7 @@ IsLeftIn deed bytes file before image = before image
 -- what a cut after these calls may leave of a file
 unfoldable pub MayLeaveNow : List Call → FileName → List ℕ → Type 0
 MayLeaveNow [] file image = image ≡ []
-MayLeaveNow (call ∷ earlier) file image = IsLeftBy call.deed call.bytes file (MayLeaveNow earlier file) image
+MayLeaveNow (call ∷ earlier) file image = IsCutAfter call.deed call.bytes file (MayLeaveNow earlier file) image
 
 -- what a cut at one moment, between these calls or inside one of them, could have left of all files
 unfoldable pub CouldLeave : List Call → (FileName → List ℕ) → Type 0

@@ -46,7 +46,7 @@ with_disk disks ReplicaTape disk = record disks { replica_tape = disk }
 -- ---- one call on one of them
 
 -- what a cut may leave of a disk after a call, and could have left inside it, is what P says
-pub record HasLeft (P : List ℕ → Type 0) (old new : DiskValue) : Type 0 where
+pub record LeavesOnDisk (P : List ℕ → Type 0) (old new : DiskValue) : Type 0 where
   pub after : (image : List ℕ) → MayLeave new.folder image → P image
   pub inside : (image : List ℕ) → IsFileLeftSince new (moment_of old) image → P image
 
@@ -55,13 +55,13 @@ abbrev pub IsOldOr : DiskSet → FileName → List ℕ → List ℕ → Type 0
 IsOldOr disks file bytes image = MayLeave (disk_of disks file).folder image ⊎ (image ≡ bytes)
 
 -- the disk of a file leaves what P says, and the others are as they were
-pub record Changes (file : FileName) (P : List ℕ → Type 0) (old new : DiskSet) : Type 0 where
-  pub own : HasLeft P (disk_of old file) (disk_of new file)
+pub record ChangesDisk (file : FileName) (P : List ℕ → Type 0) (old new : DiskSet) : Type 0 where
+  pub own : LeavesOnDisk P (disk_of old file) (disk_of new file)
   pub others : (other : FileName) → is_file file other ≡ false → disk_of new other ≡ disk_of old other
 
 -- each disk leaves what it could before
-abbrev pub AreRead : DiskSet → DiskSet → Type 0
-AreRead old new = (file : FileName) → HasLeft (MayLeave (disk_of old file).folder) (disk_of old file) (disk_of new file)
+abbrev pub AreOnlyRead : DiskSet → DiskSet → Type 0
+AreOnlyRead old new = (file : FileName) → LeavesOnDisk (MayLeave (disk_of old file).folder) (disk_of old file) (disk_of new file)
 
 -- ---- as time goes on
 -- The disks before each call, the latest first.
@@ -70,15 +70,15 @@ AreRead old new = (file : FileName) → HasLeft (MayLeave (disk_of old file).fol
 abbrev pub empty_disks : ℕ → DiskSet
 empty_disks node = record { farm = no_files; heard = no_files; joins = no_files; replaced = no_files; node_tape = no_files; replica_tape = no_files; node = node }
 
--- what a cut at one moment so far could have left of all files: at a moment of the last call on each
--- disk, or of an earlier one
+-- what a cut at one moment so far could have left of all files: at a moment of the last call on
+-- each disk, or of an earlier one
 unfoldable pub WereLeft : DiskSet → List DiskSet → (FileName → List ℕ) → Type 0
 WereLeft now [] images = (file : FileName) → MayLeave (disk_of now file).folder (images file)
 WereLeft now (before ∷ older) images =
     ((file : FileName) → IsFileLeftSince (disk_of now file) (moment_of (disk_of before file)) (images file)) ⊎ WereLeft before older images
 
 -- A power cut leaves what the calls say, now and at each moment so far.
-pub record AreTold (calls : List Call) (now : DiskSet) (past : List DiskSet) : Type 0 where
+pub record AreCutsTold (calls : List Call) (now : DiskSet) (past : List DiskSet) : Type 0 where
   pub now_told : (file : FileName) (image : List ℕ) → MayLeave (disk_of now file).folder image → MayLeaveNow calls file image
   pub told : (images : FileName → List ℕ) → WereLeft now past images → CouldLeave calls images
 

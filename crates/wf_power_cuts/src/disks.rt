@@ -3,7 +3,7 @@ ghost use Rattle.std.specs.Prelude.{◌≡◌, ℕ, List, false, true, IfNone, I
 ghost use Rattle.wf_disk.specs.Folder.{MayLeave};
 ghost use Rattle.wf_store.specs.declared.file_name.FileName.{FileName};
 ghost use Rattle.wf_power_cuts.specs.Cut.{is_file};
-ghost use Rattle.wf_power_cuts.specs.Disks.{AreRead, Changes, IsOldOr, disk_of, empty_disks, has_disk, no_files, with_disk};
+ghost use Rattle.wf_power_cuts.specs.Disks.{AreOnlyRead, ChangesDisk, IsOldOr, disk_of, empty_disks, has_disk, no_files, with_disk};
 
 use crate::one_disk::{read_one, replace_one};
 use std::alloc::{AllocError, Global};
@@ -107,7 +107,7 @@ impl Disks {
         file: FileName,
         bytes: &[u8],
     ) -> Result<(), DiskFault>
-        ensures change { Changes file (IsOldOr self.old file bytes.now) self.old self.new }
+        ensures change { ChangesDisk file (IsOldOr self.old file bytes.now) self.old self.new }
         ensures alone { OnOk result ((image : List ℕ) →
             MayLeave (disk_of self.new file).folder image → image ≡ bytes.now) }
     {
@@ -126,7 +126,7 @@ impl Disks {
         alloc: Global,
         file: FileName,
     ) -> Result<Option<Vec<u8>>, AllocError>
-        ensures { AreRead self.old self.new }
+        ensures { AreOnlyRead self.old self.new }
     {
         let Some(mut disk) = self.take(alloc, file) else {
             return Ok(None);
@@ -150,7 +150,7 @@ impl Disks {
         ensures others { OnOk result ((other : FileName) → is_file file other ≡ false →
             disk_of self.new other ≡ disk_of self.old other) }
         ensures change { OnErr result
-            (Changes file (MayLeave (disk_of self.old file).folder) self.old self.new) }
+            (ChangesDisk file (MayLeave (disk_of self.old file).folder) self.old self.new) }
     {
         let Some(disk) = self.take(alloc, file) else {
             return Err(TapeFault::Device);

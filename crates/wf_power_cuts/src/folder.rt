@@ -1,6 +1,6 @@
 //! A folder on disks in memory.
 ghost use Rattle.std.specs.Prelude.{◌≡◌, ◌∷◌, [], None, OnErr, OnOk, false};
-ghost use Rattle.wf_power_cuts.specs.Disks.{AreTold};
+ghost use Rattle.wf_power_cuts.specs.Disks.{AreCutsTold};
 ghost use Rattle.wf_store.specs.Call.{IsAfter, OnlyReads, bytes_of, failed, failed_at, is_change, opened, opened_existing, read, replaced, unreplaced};
 
 use crate::disks::Disks;
@@ -23,13 +23,13 @@ pub struct DiskStore {
 }
 
 impl Model for DiskStore {
-    ghost use Rattle.wf_power_cuts.specs.Disks.{AreTold, DiskFolder, past_of};
+    ghost use Rattle.wf_power_cuts.specs.Disks.{AreCutsTold, DiskFolder, past_of};
 
     ghost Value = { DiskFolder };
 
     ghost view = { λ s. record { disks = s.disks; past = past_of s.past.items; calls = s.calls } };
 
-    ghost invariant = { λ s. AreTold s.calls s.disks (past_of s.past.items) };
+    ghost invariant = { λ s. AreCutsTold s.calls s.disks (past_of s.past.items) };
 }
 
 impl DiskStore {
@@ -48,10 +48,10 @@ impl DiskStore {
         }
     }
 
-    /// What a power cut leaves is what the calls say: now, and at each moment so far. A theorem: the
-    /// call does nothing.
+    /// What a power cut leaves is what the calls say: now, and at each moment so far. A theorem:
+    /// the call does nothing.
     pub fn cuts_leave_what_calls_say(&self)
-        ensures { AreTold self.now.calls self.now.disks self.now.past }
+        ensures { AreCutsTold self.now.calls self.now.disks self.now.past }
     {
         let _ = self.disks.node();
     }

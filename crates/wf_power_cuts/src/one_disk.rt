@@ -1,7 +1,7 @@
 //! One call on a disk in memory.
 ghost use Rattle.std.specs.Prelude.{◌≡◌, ◌⊎◌, ℕ, List, OnOk};
 ghost use Rattle.wf_disk.specs.Folder.{MayLeave};
-ghost use Rattle.wf_power_cuts.specs.Disks.{HasLeft};
+ghost use Rattle.wf_power_cuts.specs.Disks.{LeavesOnDisk};
 
 use std::alloc::Global;
 use wf_disk::{Disk, DiskFault, MemoryDisk};
@@ -12,7 +12,7 @@ use wf_store::replace_on;
 pub(crate) fn replace_one(disk: &mut MemoryDisk, bytes: &[u8]) -> Result<(), DiskFault>
     ensures alone { OnOk result
         ((image : List ℕ) → MayLeave disk.new.folder image → image ≡ bytes.now) }
-    ensures left { HasLeft (λ image. MayLeave disk.old.folder image ⊎ (image ≡ bytes.now))
+    ensures left { LeavesOnDisk (λ image. MayLeave disk.old.folder image ⊎ (image ≡ bytes.now))
         disk.old disk.new }
 {
     replace_on(disk, bytes)
@@ -21,7 +21,7 @@ pub(crate) fn replace_one(disk: &mut MemoryDisk, bytes: &[u8]) -> Result<(), Dis
 /// Reads the file of a disk.
 #[tactic(auto, using(crate::proofs::OneDisk::left_reading))]
 pub(crate) fn read_one(disk: &mut MemoryDisk, alloc: Global) -> Result<Vec<u8>, DiskFault>
-    ensures { HasLeft (MayLeave disk.old.folder) disk.old disk.new }
+    ensures { LeavesOnDisk (MayLeave disk.old.folder) disk.old disk.new }
 {
     disk.read(alloc)
 }
