@@ -96,17 +96,49 @@ impl<N: Network> Visitors<N> {
         ensures { responses_of self.new ≡ responses_of self.old }
     {
         for _ in 0..MOST_ACCEPTED {
-            if !self.has_room() {
-                return;
-            }
             let Some(index) = slot_index(self.slots.as_slice()) else {
                 return;
             };
-            let Some(connection) = self.accept_one(context.network) else {
+            if !self.accept_into(context, index) {
                 return;
-            };
-            self.admit(context, connection, index);
+            }
         }
+    }
+
+    /// Accepts one connection, if there is one, a free slot for it, and room in the budget. Returns
+    /// whether one came.
+    pub fn accept_next<R: Clock + Eprint + AllocGlobal>(
+        &mut self,
+        context: &Context<'_, '_, R, N>,
+    ) -> bool
+        ensures { responses_of self.new ≡ responses_of self.old }
+    {
+        if self.taken_slots() == self.slots.len() {
+            return false;
+        }
+        match slot_index(self.slots.as_slice()) {
+            Some(index) => self.accept_into(context, index),
+            None => false,
+        }
+    }
+
+    /// Accepts one connection into a slot, in the place of the client there, if there is one, and
+    /// room in the budget. Returns whether one came.
+    fn accept_into<R: Clock + Eprint + AllocGlobal>(
+        &mut self,
+        context: &Context<'_, '_, R, N>,
+        index: usize,
+    ) -> bool
+        ensures { responses_of self.new ≡ responses_of self.old }
+    {
+        if !self.has_room() {
+            return false;
+        }
+        let Some(connection) = self.accept_one(context.network) else {
+            return false;
+        };
+        self.admit(context, connection, index);
+        true
     }
 
     /// Closes the port: nobody is accepted any more, and whoever is there is closed, answered or
