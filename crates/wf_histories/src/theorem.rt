@@ -36,6 +36,9 @@ pub fn processes_show_what_came<T: Tape>()
 /// Of messages that came on connections from peers, where all bytes that had come are a beginning
 /// of what was sent on connections, into which only what had been returned by then was put: each of
 /// them had been returned by then.
+///
+/// The first premise is met by [`processes_show_what_came`]; the second is TCP's promise, of which
+/// no call speaks.
 pub fn sent_messages_are_carried()
     ensures { SentAreCarried }
 {
@@ -45,6 +48,10 @@ pub fn sent_messages_are_carried()
 /// Processes of `wfarm node`, each node's one after the other on its folder, are a farm of
 /// `wf_career`, whether they returned, were killed or lost their power, and however often they
 /// opened their tapes anew.
+///
+/// What a process has of `HasServed` [`wf_node_command::run`] returns; from there
+/// [`node_processes_go_on`] leads to `AreNodeProcesses`, and `a_farm_goes_on` of `wf_career` to
+/// `IsFarm` of what was before.
 pub fn nodes_are_one_farm<T: Tape>()
     ensures { NodesAreOneFarm T.Tape }
 {
@@ -60,6 +67,8 @@ pub fn nodes_are_one_farm<T: Tape>()
 /// The headline of `wfarm node`: there is one history, of which each list that a node ever
 /// published is a beginning; no two differ under one sequence, none goes back, and equal requests
 /// get equal responses.
+///
+/// The premises are met as those of [`nodes_are_one_farm`] are.
 pub fn nodes_agree<T: Tape>()
     ensures { NodesAgree T.Tape }
 {
@@ -71,6 +80,8 @@ pub fn nodes_agree<T: Tape>()
 
 /// Each client of a process of the farm that ended by itself was answered by one of the values that
 /// its node had.
+///
+/// `HasMadeAll` holds of whatever [`wf_node_command::run`] returned.
 pub fn answers_are_of_nodes<T: Tape>()
     ensures { AnswersAreOfNodes T.Tape }
 {}
@@ -79,6 +90,9 @@ pub fn answers_are_of_nodes<T: Tape>()
 /// that it made was answered by one of the values that its node had: so where one client was
 /// answered within them, each client before it was, too. A process that made all its acts is within
 /// them itself.
+///
+/// `IsWithinActs` is met by the last clause where the process wasn't killed; of one that was it is
+/// said, as its acts are.
 pub fn killed_answers_are_of_nodes<T: Tape>()
     ensures moment { AnswersByThenAreOfNodes T.Tape }
     ensures earlier { EarlierAnswersAreOfNodes T.Tape }
@@ -88,6 +102,8 @@ pub fn killed_answers_are_of_nodes<T: Tape>()
 /// Two clients of processes of the farm, each answered by a moment within the acts that its process
 /// made, that ask the map service the same get equal bytes, a 503 for a failed allocation aside:
 /// as [`nodes_agree`] has it, but nothing is presupposed of the values by which they were answered.
+///
+/// `WasAnsweredByThen` is met by what [`wf_node_command::run`] returns of its clients.
 pub fn clients_get_equally<T: Tape>()
     ensures { ClientsGetEqually T.Tape }
 {
@@ -107,6 +123,9 @@ pub fn node_processes_go_on<T: Tape>()
 /// What replicas of such a farm have learned, at any moments, are beginnings of its one history,
 /// and replicas answer alike, with one another and with the nodes, if all that they ever heard was
 /// told by lists of nodes and of replicas of the farm.
+///
+/// `AreFarm` is met by [`nodes_are_one_farm`], `HasServed` by `run` of `wf_replica_command`, and
+/// `AreReported` by [`wf_replica::what_is_heard_is_reported`].
 pub fn replicas_are_of_the_farm<N: Tape, R: Tape>()
     ensures { ReplicasAgree N.Tape R.Tape }
 {
@@ -118,6 +137,8 @@ pub fn replicas_are_of_the_farm<N: Tape, R: Tape>()
 
 /// The processes of a folder that joins have learned what the next one on it reads of its tape:
 /// they were given nothing but what says what is published, and returned nothing but questions.
+///
+/// `HaveJoined` is met by [`joiners_go_on`].
 pub fn joiners_have_learned<T: Tape>()
     ensures { JoinersHaveLearned T.Tape }
 {
@@ -130,6 +151,9 @@ pub fn joiners_have_learned<T: Tape>()
 
 /// Where the file `joins` was emptied its folder may vote, with whatever the next process on it
 /// read of the tape, if what the file `farm` says of it is no less by then.
+///
+/// `HasEmptied` is met by the calls that [`wf_node_command::run`] made ([`joiners_go_on`]); of
+/// `IsFarmKept` no clause speaks.
 pub fn joined_folders_may_vote<T: Tape>()
     ensures { JoinedFoldersMayVote T.Tape }
 {
@@ -139,6 +163,8 @@ pub fn joined_folders_may_vote<T: Tape>()
 
 /// So a folder has joined by learning, as `wf_rejoin_guard` wants it of each process that is
 /// replaced, if its answers are true.
+///
+/// Both records are met as those of [`joiners_have_learned`] and [`joined_folders_may_vote`] are.
 pub fn folders_join_by_learning<T: Tape>()
     ensures { FoldersJoinByLearning T.Tape }
 {
@@ -164,6 +190,8 @@ pub fn joiners_go_on<T: Tape>()
 /// Processes of nodes, of which some lost their disks and folders joined in the place of these, are
 /// a timeline of `wf_replacement`, in which each folder that took another's place had joined by
 /// learning; and what a node lived as it held there, in the same order.
+///
+/// `AreLifetimes` is met by [`lifetimes_go_on`].
 pub fn replaced_nodes_are_a_timeline<T: Tape>()
     ensures { LifetimesAreTimeline T.Tape }
 {
@@ -177,6 +205,8 @@ pub fn replaced_nodes_are_a_timeline<T: Tape>()
 /// The headline of `wfarm node` where disks are lost: there is one history, of which each list that
 /// a node ever published is a beginning, on whichever folder; no two have different definitions
 /// under one sequence, none goes back, and equal queries have equal answers.
+///
+/// `AreLifetimes` is met by [`lifetimes_go_on`].
 pub fn replaced_nodes_agree<T: Tape>()
     ensures history { LifetimesShareHistory T.Tape }
     ensures definition { LifetimesNeverDiffer T.Tape }
