@@ -1,8 +1,7 @@
 //! What was heard of the peers, and the digests of this node's history.
-ghost use Rattle.std.specs.Prelude.{◌≡◌, ◌↔◌, IfOk, IfSome, IsTrue, OnOk};
+ghost use Rattle.std.specs.Prelude.{◌≡◌, ◌↔◌, IfSome, IsTrue, OnOk};
 ghost use Rattle.wf_codec.specs.Message.{view};
 ghost use Rattle.wf_peer.specs.Admission.{IsNodesFolder};
-ghost use Rattle.wf_peer.specs.PeerProgressText.{peer_progress_text};
 ghost use Rattle.wf_peer.specs.Sender.{IsFrom};
 ghost use Rattle.wf_peer.specs.Told.{HearAll};
 
@@ -75,19 +74,11 @@ impl Notes {
         self.known
     }
 
-    /// The text of what was heard, if more was heard than the file `heard` has.
-    pub fn unsaved(&self, alloc: Global) -> Result<Option<Vec<u8>>, AllocError>
-        ensures { IfOk result (λ unsaved. IfSome unsaved (λ text.
-            text.items ≡ peer_progress_text self.now.known)) }
+    /// What was heard, if that is more than the file `heard` has.
+    pub fn unsaved(&self) -> Option<PeerProgress>
+        ensures { IfSome result (λ unsaved. unsaved ≡ self.now.known) }
     {
-        if self.is_new {
-            match self.known.text(alloc) {
-                Ok(text) => Ok(Some(text)),
-                Err(error) => Err(error),
-            }
-        } else {
-            Ok(None)
-        }
+        if self.is_new { Some(self.known) } else { None }
     }
 
     /// The file has all that was heard.

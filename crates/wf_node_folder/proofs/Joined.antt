@@ -1,5 +1,5 @@
 -- What may be put in the place of the file `joins`.
-use Rattle.std.proofs.Common.{◌≡◌, ◌∙◌, inl, inr, ℕ, List, [], ◌∷◌, ap, refl}
+use Rattle.std.proofs.Common.{◌≡◌, ◌∙◌, inl, inr, ℕ, List, [], ◌∷◌, ap, refl, subst}
 use Rattle.std.specs.Prelude.{Option, Some, None, Result, Ok, Err, IfOk}
 use Rattle.wf_folder.specs.declared.node_admission.NodeFound.{NodeFound}
 use Rattle.wf_folder.specs.declared.node_admission.NodeFound.TheVariants as finds
@@ -46,5 +46,6 @@ module _ (calls : List Call) (joining : Joining) (says : SaysJoining joining cal
   pub may_be_emptied : (published : ℕ) → SaysPublished published calls → MayVote joining published → text ≡ [] → MayBePutAt Joins text calls
   may_be_emptied published farm may empty = inl (empty, record { joining = joining; says = says; published = published; farm = farm; may_vote = may })
 
-  pub may_be_told : (step : JoinStep) (next : Joining) → StepCounts step joining → next ≡ stepped step joining → text ≡ joins_text next → MayBePutAt Joins text calls
-  may_be_told step next counts same is = inr (record { joining = joining; says = says; step = step; counts = counts; is = is ∙ ap joins_text same })
+  pub may_be_told : (step : JoinStep) (next : Joining) → StepCounts step joining → next ≡ stepped step joining → IsJoins next → text ≡ joins_text next → MayBePutAt Joins text calls
+  may_be_told step next counts same joins is =
+      inr (record { joining = joining; says = says; step = step; counts = counts; joins = subst IsJoins same joins; is = is ∙ ap joins_text same })

@@ -9,7 +9,7 @@ use Rattle.wf_folder.specs.declared.node_file.NodeFile.{NodeFile}
 use Rattle.wf_line.specs.declared.node_line.InitLine.{InitLine}
 use Rattle.wf_node_folder.specs.Fault.{IsFromSystem}
 use Rattle.wf_node_folder.specs.From.{MayBeFrom}
-use Rattle.wf_node_folder.specs.Made.{IsFirstFileTried, IsFolderMade, IsFirstFile, IsFirstTape, IsHalfFilled, IsInitCause, IsInitDone, IsInitFault, IsUnfilled, IsWhyNotEmpty, first_joining, made_empty, with_joins, with_tape}
+use Rattle.wf_node_folder.specs.Made.{IsFirstFileTried, IsFirstJoinsTried, IsFolderMade, IsFirstFile, IsFirstTape, IsHalfFilled, IsInitCause, IsInitDone, IsInitFault, IsUnfilled, IsWhyNotEmpty, first_joining, made_empty, with_joins, with_tape}
 use Rattle.wf_rejoin.specs.JoiningText.{joins_text}
 use Rattle.wf_node_folder.specs.declared.fault.CommandFault.{CommandFault}
 use Rattle.wf_node_folder.specs.declared.fault.CommandFault.TheVariants as faults
@@ -75,12 +75,12 @@ module _ (line : InitLine) (tape : List ℕ) (old a : List Call) (mark : List �
   after_tape : (b : List Call) → b ≡ replaced (NodeTape line.id) tape ∷ a → b ≡ replaced (NodeTape line.id) tape ∷ drawn mark ∷ old
   after_tape b is = is ∙ ap (λ (calls : List Call). replaced (NodeTape line.id) tape ∷ calls) first
 
-  pub tape_alone : (b new : List Call) → b ≡ replaced (NodeTape line.id) tape ∷ a → (new ≡ b) ⊎ (new ≡ unreplaced Joins (joins_text (first_joining line mark)) ∷ b) → IsUnfilled line tape old new
+  pub tape_alone : (b new : List Call) → b ≡ replaced (NodeTape line.id) tape ∷ a → (new ≡ b) ⊎ IsFirstJoinsTried line mark b new → IsUnfilled line tape old new
   tape_alone b new second is = inr (record {
     mark = mark;
     calls = elim is [
       | inl same ↦ inr (inl (same ∙ after_tape b second))
-      | inr at ↦ inr (inr (inl (at ∙ ap (λ (calls : List Call). unreplaced Joins (joins_text (first_joining line mark)) ∷ calls) (after_tape b second))))
+      | inr at ↦ inr (inr (inl (at.0, at.1 ∙ ap (λ (calls : List Call). unreplaced Joins (joins_text (first_joining line mark)) ∷ calls) (after_tape b second))))
     ];
   })
 
@@ -91,15 +91,15 @@ module _ (line : InitLine) (tape : List ℕ) (old a : List Call) (mark : List �
       → IsUnfilled line tape old new
   no_farm b c new file second third is same first_file = inr (record {
     mark = mark;
-    calls = elim is [
-      | inl same ↦ inr (inr (inr (inl (same ∙ after_joins b c second third))))
-      | inr at ↦ inr (inr (inr (inr (record {
-        file = file;
-        is_first = first_file;
-        marked = same;
-        calls = at ∙ ap (λ (calls : List Call). unreplaced Farm (node_text file) ∷ calls) (after_joins b c second third);
-      }))))
-    ];
+    calls = inr (inr (inr (record {
+      file = file;
+      is_first = first_file;
+      marked = same;
+      calls = elim is [
+        | inl none ↦ inl (none ∙ after_joins b c second third)
+        | inr at ↦ inr (at ∙ ap (λ (calls : List Call). unreplaced Farm (node_text file) ∷ calls) (after_joins b c second third))
+      ];
+    })));
   })
 
   pub filled : (b c new : List Call) (file : NodeFile) → b ≡ replaced (NodeTape line.id) tape ∷ a → c ≡ with_joins line mark b → new ≡ replaced Farm (node_text file) ∷ c → file.mark ≡ mark → IsFirstFile line file

@@ -1,138 +1,253 @@
--- What a power cut leaves of the file `farm`.
-use Rattle.std.proofs.Common.{◌≡◌, ◌⊎◌, ◌∙◌, ℕ, Bool, true, false, List, [], ◌∷◌, ◌++◌, ap, inl, inr, refl, subst, sym, nat_eq}
+-- What a power cut leaves of a folder.
+use Rattle.std.proofs.Common.{arith, ◌≡◌, ◌⊎◌, ◌∙◌, ◌<◌, ℕ, zero, suc, Bool, true, false, List, [], ◌∷◌, ◌++◌, ap, inl, inr, refl, subst, sym, nat_eq}
 use Rattle.std.proofs.lemmas.Bool.{eq-eqb, false≢true}
-use Rattle.std.specs.Prelude.{⊤, Option, Some, None, if◌then◌else◌}
-use Rattle.wf_folder.specs.NodeFile.{node_text}
+use Rattle.std.specs.Prelude.{⊤, Option, Some, None, if◌then◌else◌, length, replicate}
+use Rattle.wf_def.specs.Definition.{Definition}
+use Rattle.wf_folder.specs.FarmFile.{IsNumberOfNodes}
+use Rattle.wf_folder.specs.NodeFile.{IsNodeFile, IsTextOf, node_text}
 use Rattle.wf_folder.specs.declared.node_file.NodeFile.{NodeFile}
 use Rattle.wf_line.specs.declared.node_line.InitLine.{InitLine}
-use Rattle.wf_node_folder.specs.Folder.{StaysFrom}
-use Rattle.wf_node_folder.specs.Joined.{AreJoinedSoundly, IsFarmText, IsJoinedSoundly}
+use Rattle.wf_line.specs.declared.node_line.NodeLine.{NodeLine}
+use Rattle.wf_model.specs.DurableState.{DurableState}
+use Rattle.wf_node_folder.specs.Cleared.{HasReadFarmFile, IsUnwritten, nothing_heard, without_suspension}
+use Rattle.wf_node_folder.specs.Folder.{IsHeardIn, StaysFrom}
+use Rattle.wf_node.specs.Images.{StandsFor}
+use Rattle.wf_node.specs.Node.{stored_of}
+use Rattle.wf_node_folder.specs.Held.{HasHeld, HoldsAll}
+use Rattle.wf_node_folder.specs.Joined.{AreJoinedSoundly, IsJoinedSoundly, IsPutSoundly, MayBePut, MayBePutAt}
 use Rattle.wf_node_folder.specs.Made.{HasMade, IsFirstFile, IsFirstTape, IsHalfFilled, IsHalfMade, first_joining, made_empty, with_joins, with_tape}
-use Rattle.wf_node_folder.specs.PowerCut.{AreFarmCalls, FarmsAreWhole, InitsAreWhole, InitsWriteFarms, IsFarmCall, IsMadeWhole, NodesWriteFarms}
+use Rattle.wf_node_folder.specs.PowerCut.{AreReadBack, AreSoundCalls, ClearsAreSound, CutsAreReadBack, FilesAreWhole, InitsAreSound, InitsAreWhole, IsMadeWhole, IsSoundCall, IsSoundGiven, NodesAreSound, StartsAgain, StartsAreSound}
+use Rattle.wf_node_folder.specs.ReplacementFiles.{IsJoinsIn, IsReplacedIn}
+use Rattle.wf_node_folder.specs.Sound.{IsJoinsText, IsSoundText}
+use Rattle.wf_node_folder.specs.Start.{IsCountedOn, IsStartAdmitted}
 use Rattle.wf_node_folder.specs.Texts.{is_tape}
+use Rattle.wf_peer.specs.PeerProgressText.{ArePeerProgress}
+use Rattle.wf_peer.specs.declared.heard.Heard.{Heard as HeardOfNode}
+use Rattle.wf_power_cuts.proofs.DiskLemmas.{one_file}
 use Rattle.wf_power_cuts.specs.Cut.{CouldLeave, WasGiven, IsCutAfter, IsLeftIn, MayLeaveNow, OfFile, is_file}
-use Rattle.wf_rejoin.specs.JoiningText.{joins_text}
-use Rattle.wf_store.specs.Call.{Call, drawn, replaced, unreplaced}
+use Rattle.wf_rejoin.specs.JoinStep.{stepped}
+use Rattle.wf_rejoin.specs.JoiningText.{IsJoins, IsStage, joins_text}
+use Rattle.wf_rejoin.specs.Lines.{AreAll}
+use Rattle.wf_rejoin.specs.declared.joining.Joining.{Joining}
+use Rattle.wf_rejoin.specs.declared.joining.Stage.TheVariants.{Unasked}
+use Rattle.wf_rejoin.specs.declared.replacement.Replacement.{Replacement}
+use Rattle.wf_store.specs.Call.{Call, drawn, locked, replaced, unreplaced}
 use Rattle.wf_store.specs.declared.deed.Deed.{Deed}
 use Rattle.wf_store.specs.declared.deed.Deed.TheVariants as deeds
 use Rattle.wf_store.specs.declared.file_name.FileName.{FileName}
 use Rattle.wf_store.specs.declared.file_name.FileName.TheVariants.{Farm, Heard, Joins, NodeTape, Replaced, ReplicaTape}
+use Rattle.wf_tape.specs.declared.tape.Tape.{Ghosts as Tape}
 
 -- ---- one call
 
--- what there may be of the file
-abbrev IsFarmLeft : List ℕ → Type 0
-IsFarmLeft image = (image ≡ []) ⊎ IsFarmText image
+-- what there may be of a file
+abbrev IsLeft : FileName → List ℕ → Type 0
+IsLeft file image = (image ≡ []) ⊎ IsSoundText file image
 
-given_text : (bytes : Option (List ℕ)) (text image : List ℕ) → bytes ≡ Some text → IsFarmText text → WasGiven bytes image → IsFarmLeft image
-given_text bytes text image is sound given = inr (subst IsFarmText (sym (subst (λ (b : Option (List ℕ)). WasGiven b image → image ≡ text) (sym is) (λ (e : image ≡ text). e) given)) sound)
+tape_beside : (named file : FileName) → is_tape named ≡ true → is_tape file ≡ false → named ≡ file → ⊥
+tape_beside named file tape none same = false≢true (sym none ∙ ap is_tape (sym same) ∙ tape)
 
-beside : (is : Bool) (own other : Type 0) → is ≡ false → OfFile is own other → other
-beside true own other not left = absurd (false≢true (sym not))
-beside false own other not left = left
+-- what is left is of this file, by what was put there, or was there before
+by_file : (is : Bool) (on other : Type 0) → OfFile is on other → ((is ≡ true) × on) ⊎ other
+by_file true on other left = inl (refl, left)
+by_file false on other left = inr left
 
-module _ (before : List ℕ → Type 0) (sound : (image : List ℕ) → before image → IsFarmLeft image) where
-  left_in : (deed : Deed) (bytes : Option (List ℕ)) (image : List ℕ) → IsFarmCall deed bytes → IsLeftIn deed bytes Farm before image → IsFarmLeft image
-  left_in (deeds.Replaces Farm) bytes image call left = elim left [ inl was ↦ sound image was | inr given ↦ given_text bytes call.0 image call.1 call.2 given ]
-  left_in (deeds.Replaces Heard) bytes image call left = sound image left
-  left_in (deeds.Replaces Joins) bytes image call left = sound image left
-  left_in (deeds.Replaces Replaced) bytes image call left = sound image left
-  left_in (deeds.Replaces (NodeTape node)) bytes image call left = sound image left
-  left_in (deeds.Replaces ReplicaTape) bytes image call left = sound image left
-  left_in (deeds.FailsAt Farm) bytes image call left = elim left [ inl was ↦ sound image was | inr given ↦ given_text bytes call.0 image call.1 call.2 given ]
-  left_in (deeds.FailsAt Heard) bytes image call left = sound image left
-  left_in (deeds.FailsAt Joins) bytes image call left = sound image left
-  left_in (deeds.FailsAt Replaced) bytes image call left = sound image left
-  left_in (deeds.FailsAt (NodeTape node)) bytes image call left = sound image left
-  left_in (deeds.FailsAt ReplicaTape) bytes image call left = sound image left
-  left_in (deeds.Opens file) bytes image call left = sound image (beside (is_file file Farm) ⊤ (before image) call left)
-  left_in (deeds.OpensExisting file) bytes image call left = sound image (beside (is_file file Farm) ⊤ (before image) call left)
+given_sound : (named file : FileName) (bytes : Option (List ℕ)) (image : List ℕ) → named ≡ file → is_tape file ≡ false → IsSoundGiven named bytes → WasGiven bytes image → IsLeft file image
+given_sound named file None image same none given was = inl was
+given_sound named file (Some text) image same none given was = inr (subst (IsSoundText file) (sym was) (subst (λ (f : FileName). IsSoundText f text) same given))
+
+module _ (file : FileName) (none : is_tape file ≡ false) (before : List ℕ → Type 0) (sound : (image : List ℕ) → before image → IsLeft file image) where
+  -- a file was put in the place of another, or may have been
+  put_sound : (named : FileName) (bytes : Option (List ℕ)) (image : List ℕ) → IsSoundGiven named bytes → OfFile (is_file named file) (before image ⊎ WasGiven bytes image) (before image)
+      → IsLeft file image
+  put_sound named bytes image given left = elim (by_file (is_file named file) (before image ⊎ WasGiven bytes image) (before image) left) [
+    | inl (is, inl was) ↦ sound image was
+    | inl (is, inr put) ↦ given_sound named file bytes image (one_file named file is) none given put
+    | inr was ↦ sound image was
+  ]
+
+  -- it was
+  put_whole : (named : FileName) (bytes : Option (List ℕ)) (image : List ℕ) → IsSoundGiven named bytes → OfFile (is_file named file) (WasGiven bytes image) (before image) → IsLeft file image
+  put_whole named bytes image given left = elim (by_file (is_file named file) (WasGiven bytes image) (before image) left) [
+    | inl (is, put) ↦ given_sound named file bytes image (one_file named file is) none given put
+    | inr was ↦ sound image was
+  ]
+
+  -- a tape was opened
+  opened_sound : (named : FileName) (image : List ℕ) → is_tape named ≡ true → OfFile (is_file named file) ⊤ (before image) → IsLeft file image
+  opened_sound named image tape left = elim (by_file (is_file named file) ⊤ (before image) left) [
+    | inl (is, any) ↦ absurd (tape_beside named file tape none (one_file named file is))
+    | inr was ↦ sound image was
+  ]
+
+  left_in : (deed : Deed) (bytes : Option (List ℕ)) (image : List ℕ) → IsSoundCall deed bytes → IsLeftIn deed bytes file before image → IsLeft file image
+  left_in (deeds.Replaces named) bytes image call left = put_sound named bytes image call left
+  left_in (deeds.FailsAt named) bytes image call left = put_sound named bytes image call left
+  left_in (deeds.Opens named) bytes image call left = opened_sound named image call left
+  left_in (deeds.OpensExisting named) bytes image call left = opened_sound named image call left
   left_in deeds.Makes bytes image call left = sound image left
   left_in deeds.Locks bytes image call left = sound image left
   left_in (deeds.Compares same) bytes image call left = sound image left
   left_in (deeds.Counts count) bytes image call left = sound image left
   left_in (deeds.Draws bits) bytes image call left = sound image left
-  left_in (deeds.Sees file there) bytes image call left = sound image left
-  left_in (deeds.Measures file length) bytes image call left = sound image left
-  left_in (deeds.Reads file) bytes image call left = sound image left
+  left_in (deeds.Sees named there) bytes image call left = sound image left
+  left_in (deeds.Measures named length) bytes image call left = sound image left
+  left_in (deeds.Reads named) bytes image call left = sound image left
   left_in deeds.Fails bytes image call left = sound image left
 
-  left_by : (deed : Deed) (bytes : Option (List ℕ)) (image : List ℕ) → IsFarmCall deed bytes → IsCutAfter deed bytes Farm before image → IsFarmLeft image
-  left_by (deeds.Replaces Farm) bytes image call left = given_text bytes call.0 image call.1 call.2 left
-  left_by (deeds.Replaces Heard) bytes image call left = sound image left
-  left_by (deeds.Replaces Joins) bytes image call left = sound image left
-  left_by (deeds.Replaces Replaced) bytes image call left = sound image left
-  left_by (deeds.Replaces (NodeTape node)) bytes image call left = sound image left
-  left_by (deeds.Replaces ReplicaTape) bytes image call left = sound image left
-  left_by (deeds.FailsAt file) bytes image call left = left_in (deeds.FailsAt file) bytes image call left
-  left_by (deeds.Opens file) bytes image call left = left_in (deeds.Opens file) bytes image call left
-  left_by (deeds.OpensExisting file) bytes image call left = left_in (deeds.OpensExisting file) bytes image call left
+  left_by : (deed : Deed) (bytes : Option (List ℕ)) (image : List ℕ) → IsSoundCall deed bytes → IsCutAfter deed bytes file before image → IsLeft file image
+  left_by (deeds.Replaces named) bytes image call left = put_whole named bytes image call left
+  left_by (deeds.FailsAt named) bytes image call left = put_sound named bytes image call left
+  left_by (deeds.Opens named) bytes image call left = opened_sound named image call left
+  left_by (deeds.OpensExisting named) bytes image call left = opened_sound named image call left
   left_by deeds.Makes bytes image call left = sound image left
   left_by deeds.Locks bytes image call left = sound image left
   left_by (deeds.Compares same) bytes image call left = sound image left
   left_by (deeds.Counts count) bytes image call left = sound image left
   left_by (deeds.Draws bits) bytes image call left = sound image left
-  left_by (deeds.Sees file there) bytes image call left = sound image left
-  left_by (deeds.Measures file length) bytes image call left = sound image left
-  left_by (deeds.Reads file) bytes image call left = sound image left
+  left_by (deeds.Sees named there) bytes image call left = sound image left
+  left_by (deeds.Measures named length) bytes image call left = sound image left
+  left_by (deeds.Reads named) bytes image call left = sound image left
   left_by deeds.Fails bytes image call left = sound image left
 
 -- ---- all calls
 
-may_leave : (calls : List Call) → AreFarmCalls calls → (image : List ℕ) → MayLeaveNow calls Farm image → IsFarmLeft image
+may_leave : (file : FileName) → is_tape file ≡ false → (calls : List Call) → AreSoundCalls calls → (image : List ℕ) → MayLeaveNow calls file image → IsLeft file image
 unfolding MayLeaveNow
-may_leave [] are image left = inl left
-may_leave (call ∷ earlier) are image left = left_by (MayLeaveNow earlier Farm) (may_leave earlier are.1) call.deed call.bytes image are.0 left
+may_leave file none [] are image left = inl left
+may_leave file none (call ∷ earlier) are image left = left_by file none (MayLeaveNow earlier file) (may_leave file none earlier are.1) call.deed call.bytes image are.0 left
 
-pub farms_are_whole : FarmsAreWhole
+pub files_are_whole : FilesAreWhole
 unfolding CouldLeave
-farms_are_whole [] are images left = inl (left Farm)
-farms_are_whole (call ∷ earlier) are images left = elim left [
-  | inl here ↦ left_in (MayLeaveNow earlier Farm) (may_leave earlier are.1) call.deed call.bytes (images Farm) are.0 (here Farm)
-  | inr before ↦ farms_are_whole earlier are.1 images before
+files_are_whole [] are images left file none = inl (left file)
+files_are_whole (call ∷ earlier) are images left file none = elim left [
+  | inl here ↦ left_in file none (MayLeaveNow earlier file) (may_leave file none earlier are.1) call.deed call.bytes (images file) are.0 (here file)
+  | inr before ↦ files_are_whole earlier are.1 images before file none
 ]
 
--- ---- a node that runs
+-- ---- what the next start reads
 
-no_farm_tape : (file : FileName) → is_tape file ≡ true → is_file file Farm ≡ false
-no_farm_tape Farm tape = absurd (false≢true tape)
-no_farm_tape Heard tape = absurd (false≢true tape)
-no_farm_tape Joins tape = absurd (false≢true tape)
-no_farm_tape Replaced tape = absurd (false≢true tape)
-no_farm_tape (NodeTape node) tape = refl
-no_farm_tape ReplicaTape tape = refl
+farm_back : (image : List ℕ) → IsLeft Farm image → (image ≡ []) ⊎ ((file : NodeFile) × IsNodeFile file × IsTextOf image file)
+farm_back image (inl none) = inl none
+farm_back image (inr text) = inr (text.0, text.1, inl text.2)
 
-is_farm_call : (deed : Deed) (bytes : Option (List ℕ)) (calls : List Call) → IsJoinedSoundly deed bytes calls → IsFarmCall deed bytes
-is_farm_call (deeds.Replaces Farm) bytes calls sound = (sound.text, sound.is, sound.may)
-is_farm_call (deeds.Replaces Heard) bytes calls sound = tt
-is_farm_call (deeds.Replaces Joins) bytes calls sound = tt
-is_farm_call (deeds.Replaces Replaced) bytes calls sound = tt
-is_farm_call (deeds.Replaces (NodeTape node)) bytes calls sound = tt
-is_farm_call (deeds.Replaces ReplicaTape) bytes calls sound = tt
-is_farm_call (deeds.FailsAt Farm) bytes calls sound = (sound.text, sound.is, sound.may)
-is_farm_call (deeds.FailsAt Heard) bytes calls sound = tt
-is_farm_call (deeds.FailsAt Joins) bytes calls sound = tt
-is_farm_call (deeds.FailsAt Replaced) bytes calls sound = tt
-is_farm_call (deeds.FailsAt (NodeTape node)) bytes calls sound = tt
-is_farm_call (deeds.FailsAt ReplicaTape) bytes calls sound = tt
-is_farm_call (deeds.Opens file) bytes calls sound = no_farm_tape file sound
-is_farm_call (deeds.OpensExisting file) bytes calls sound = no_farm_tape file sound
-is_farm_call deeds.Makes bytes calls sound = tt
-is_farm_call deeds.Locks bytes calls sound = tt
-is_farm_call (deeds.Compares same) bytes calls sound = tt
-is_farm_call (deeds.Counts count) bytes calls sound = tt
-is_farm_call (deeds.Draws bits) bytes calls sound = tt
-is_farm_call (deeds.Sees file there) bytes calls sound = tt
-is_farm_call (deeds.Measures file length) bytes calls sound = tt
-is_farm_call (deeds.Reads file) bytes calls sound = tt
-is_farm_call deeds.Fails bytes calls sound = tt
+heard_back : (image : List ℕ) → IsLeft Heard image → (image ≡ []) ⊎ ((known : List (Option HeardOfNode)) × IsHeardIn (Some image) known)
+heard_back image (inl none) = inl none
+heard_back image (inr text) = inr (text.0, (text.1, text.2, inl text.3))
 
-later_calls : (later begun : List Call) → AreJoinedSoundly later begun → AreFarmCalls begun → AreFarmCalls (later ++ begun)
+replaced_back : (image : List ℕ) → IsLeft Replaced image → (image ≡ []) ⊎ ((known : List (Option Replacement)) × IsReplacedIn (Some image) known)
+replaced_back image (inl none) = inl none
+replaced_back image (inr text) = inr (text.0, (text.1, text.2, text.3))
+
+joins_back : (image : List ℕ) → IsLeft Joins image → (joining : Option Joining) × IsJoinsIn (Some image) joining
+joins_back image (inl none) = (None, none)
+joins_back image (inr (inl empty)) = (None, empty)
+joins_back image (inr (inr text)) = (Some text.0, (text.1, text.2))
+
+pub cuts_are_read_back : CutsAreReadBack
+cuts_are_read_back calls are images left = record {
+  farm = farm_back (images Farm) (files_are_whole calls are images left Farm refl);
+  heard = heard_back (images Heard) (files_are_whole calls are images left Heard refl);
+  replaced = replaced_back (images Replaced) (files_are_whole calls are images left Replaced refl);
+  joins = joins_back (images Joins) (files_are_whole calls are images left Joins refl);
+}
+
+-- ---- a node that is served
+
+-- an empty text, or that of a step more, is one of the file `joins`
+joins_sound : (text : List ℕ) (calls : List Call) → MayBePut text calls → IsJoinsText text
+joins_sound text calls (inl emptied) = inl emptied.0
+joins_sound text calls (inr told) = inr (stepped told.step told.joining, told.joins, told.is)
+
+text_sound : (file : FileName) (text : List ℕ) (calls : List Call) → MayBePutAt file text calls → IsSoundText file text
+text_sound Farm text calls may = may
+text_sound Heard text calls may = may
+text_sound Joins text calls may = joins_sound text calls may
+text_sound Replaced text calls may = may
+text_sound (NodeTape node) text calls may = tt
+text_sound ReplicaTape text calls may = tt
+
+put_soundly : (file : FileName) (bytes : Option (List ℕ)) (calls : List Call) → IsPutSoundly file bytes calls → IsSoundGiven file bytes
+put_soundly file bytes calls put = subst (IsSoundGiven file) (sym put.is) (text_sound file put.text calls put.may)
+
+is_sound_call : (deed : Deed) (bytes : Option (List ℕ)) (calls : List Call) → IsJoinedSoundly deed bytes calls → IsSoundCall deed bytes
+is_sound_call (deeds.Replaces file) bytes calls sound = put_soundly file bytes calls sound
+is_sound_call (deeds.FailsAt file) bytes calls sound = put_soundly file bytes calls sound
+is_sound_call (deeds.Opens file) bytes calls sound = sound
+is_sound_call (deeds.OpensExisting file) bytes calls sound = sound
+is_sound_call deeds.Makes bytes calls sound = tt
+is_sound_call deeds.Locks bytes calls sound = tt
+is_sound_call (deeds.Compares same) bytes calls sound = tt
+is_sound_call (deeds.Counts count) bytes calls sound = tt
+is_sound_call (deeds.Draws bits) bytes calls sound = tt
+is_sound_call (deeds.Sees file there) bytes calls sound = tt
+is_sound_call (deeds.Measures file length) bytes calls sound = tt
+is_sound_call (deeds.Reads file) bytes calls sound = tt
+is_sound_call deeds.Fails bytes calls sound = tt
+
+later_calls : (later begun : List Call) → AreJoinedSoundly later begun → AreSoundCalls begun → AreSoundCalls (later ++ begun)
 later_calls [] begun sound are = are
-later_calls (call ∷ later) begun sound are = (is_farm_call call.deed call.bytes (later ++ begun) sound.0, later_calls later begun sound.1 are)
+later_calls (call ∷ later) begun sound are = (is_sound_call call.deed call.bytes (later ++ begun) sound.0, later_calls later begun sound.1 are)
 
-pub nodes_write_farms : NodesWriteFarms
-nodes_write_farms begun calls stays are = subst AreFarmCalls (sym stays.after.is) (later_calls stays.after.later begun stays.joined are)
+pub nodes_are_sound : NodesAreSound
+nodes_are_sound begun calls stays are = subst AreSoundCalls (sym stays.after.is) (later_calls stays.after.later begun stays.joined are)
+
+-- ---- a start
+
+admitted_sound : (line : NodeLine) (file : NodeFile) (old calls : List Call) → AreSoundCalls old → IsStartAdmitted line file old calls → AreSoundCalls calls
+admitted_sound line file old calls are is = subst AreSoundCalls (sym is.calls) (tt, (tt, subst AreSoundCalls (sym is.is_file.looked.calls) (tt, (tt, are))))
+
+counted_sound : (file written : NodeFile) (heard : List (Option HeardOfNode)) (old calls : List Call) → AreSoundCalls old → IsNodeFile written → IsCountedOn file written heard old calls
+    → AreSoundCalls calls
+counted_sound file written heard old calls are sound is = subst AreSoundCalls (sym is.is_counted.calls)
+    ((written, sound, refl), (tt, (tt, subst AreSoundCalls (sym is.is_on_tape.calls) (refl, subst AreSoundCalls (sym is.is_on_tape.is_compared.calls) (tt, are)))))
+
+pub starts_are_sound : StartsAreSound
+starts_are_sound line file written heard old calls are sound is =
+    counted_sound file written heard is.admitted calls (admitted_sound line file (locked ∷ old) is.admitted (tt, are) is.is_admitted) sound is.is_counted
+
+-- what a power cut leaves of its tape
+held_by : (file : NodeFile) (stored : DurableState Definition) (image : List ℕ) → StandsFor stored image → HoldsAll file.known stored → HasHeld file image
+held_by file stored image stands holds = record { stored = stored; stands = stands; holds = holds }
+
+pub starts_again : {T : Type 0} (tapes : Tape T) → StartsAgain tapes
+starts_again tapes file ready old new is durable image left =
+    let stored : DurableState Definition = stored_of ready.process.actor.node in
+    let stands : StandsFor stored image = is.is_started.opened.stands durable image left in
+    let raised : HoldsAll ready.file.known stored = subst (λ (f : NodeFile). HoldsAll f.known stored) (sym is.is_raised.value) is.is_raised.is_known.held in
+    (held_by file stored image stands is.is_started.holds, held_by ready.file stored image stands raised)
+
+-- ---- `clear`
+
+nothing_is_progress : (n : ℕ) → ArePeerProgress (replicate n None)
+unfolding ArePeerProgress
+nothing_is_progress zero = tt
+nothing_is_progress (suc n) = (tt, nothing_is_progress n)
+
+nothing_given : IsSoundGiven Heard (Some nothing_heard)
+nothing_given = (replicate 64 None, refl, nothing_is_progress 64, refl)
+
+cleared_file : (file : NodeFile) → IsNodeFile file → IsNodeFile (without_suspension file)
+cleared_file file is = record { nodes = is.nodes; node = is.node; starts = is.starts; reached = is.reached; suspended = tt; farm = is.farm; bytes = is.bytes; size = is.size }
+
+cleared_given : (file : NodeFile) → IsNodeFile file → IsSoundGiven Farm (Some (node_text (without_suspension file)))
+cleared_given file is = (without_suspension file, cleared_file file is, refl)
+
+found_sound : (file : NodeFile) (old found : List Call) → AreSoundCalls old → HasReadFarmFile file (locked ∷ old) found → AreSoundCalls found
+found_sound file old found are is = subst AreSoundCalls (sym is.calls) (tt, (tt, are))
+
+unwritten_sound : (file : NodeFile) (found calls : List Call) → IsNodeFile file → AreSoundCalls found → IsUnwritten file found calls → AreSoundCalls calls
+unwritten_sound file found calls is are left = elim left [
+  | inl same ↦ subst AreSoundCalls (sym same) are
+  | inr (inl tried) ↦ subst AreSoundCalls (sym tried) (nothing_given, are)
+  | inr (inr (inl alone)) ↦ subst AreSoundCalls (sym alone) (nothing_given, are)
+  | inr (inr (inr both)) ↦ subst AreSoundCalls (sym both) (cleared_given file is, (nothing_given, are))
+]
+
+pub clears_are_sound : ClearsAreSound
+clears_are_sound old calls are (inl is) =
+    subst AreSoundCalls (sym is.written) (cleared_given is.file is.is_found.sound, (nothing_given, found_sound is.file old is.found are is.is_found))
+clears_are_sound old calls are (inr is) = unwritten_sound is.file is.found calls is.is_found.sound (found_sound is.file old is.found are is.is_found) is.unwritten
 
 -- ---- `init`
 
@@ -144,15 +259,8 @@ module _ (line : InitLine) (tape mark : List ℕ) where
   abbrev joined : List Call
   joined = with_joins line mark taped
 
-  taped_calls : AreFarmCalls taped
+  taped_calls : AreSoundCalls taped
   taped_calls = (tt, (tt, (tt, (tt, (tt, tt)))))
-
-  with_calls : (is : Bool) (text : List ℕ) → AreFarmCalls (if is then replaced Joins text ∷ taped else taped)
-  with_calls true text = (tt, taped_calls)
-  with_calls false text = taped_calls
-
-  joined_calls : AreFarmCalls joined
-  joined_calls = with_calls line.replaces (joins_text (first_joining line mark))
 
   -- before it is written there is none
   none_taped : (image : List ℕ) → MayLeaveNow taped Farm image → image ≡ []
@@ -245,10 +353,11 @@ half_whole : (line : InitLine) (tape : List ℕ) (calls : List Call) → IsFirst
 half_whole line tape calls begins half images left = elim half.calls [
   | inl is ↦ inl (no_tape_calls line tape half.mark images (subst (λ (c : List Call). CouldLeave c images) is left))
   | inr (inl is) ↦ inl (was_none_taped line tape half.mark images (subst (λ (c : List Call). CouldLeave c images) is left))
-  | inr (inr (inl is)) ↦ inl (no_joins_calls line tape half.mark (joins_text (first_joining line half.mark)) images (subst (λ (c : List Call). CouldLeave c images) is left))
-  | inr (inr (inr (inl is))) ↦
-      inl (was_none_joined line tape half.mark line.replaces (joins_text (first_joining line half.mark)) images (subst (λ (c : List Call). CouldLeave c images) is left))
-  | inr (inr (inr (inr tried))) ↦ tried_calls line tape half.mark tried.file tried.is_first tried.marked begins images (subst (λ (c : List Call). CouldLeave c images) tried.calls left)
+  | inr (inr (inl tried)) ↦ inl (no_joins_calls line tape half.mark (joins_text (first_joining line half.mark)) images (subst (λ (c : List Call). CouldLeave c images) tried.1 left))
+  | inr (inr (inr tried)) ↦ elim tried.calls [
+    | inl is ↦ inl (was_none_joined line tape half.mark line.replaces (joins_text (first_joining line half.mark)) images (subst (λ (c : List Call). CouldLeave c images) is left))
+    | inr is ↦ tried_calls line tape half.mark tried.file tried.is_first tried.marked begins images (subst (λ (c : List Call). CouldLeave c images) is left)
+  ]
 ]
 
 pub inits_are_whole : InitsAreWhole
@@ -256,18 +365,51 @@ inits_are_whole line calls (inl has) images left =
     whole_calls line has.tape has.filled.file.mark has.filled.file has.filled.is_first refl has.begins images (subst (λ (c : List Call). CouldLeave c images) has.filled.calls left)
 inits_are_whole line calls (inr half) images left = half_whole line half.tape calls half.begins half.half images left
 
-farm_call : (line : InitLine) (file : NodeFile) → IsFirstFile line file → IsFarmCall (deeds.Replaces Farm) (Some (node_text file))
-farm_call line file first = (node_text file, refl, (file, first.is, refl))
+-- ---- the calls of `init` are sound
 
-half_writes : (line : InitLine) (tape : List ℕ) (calls : List Call) → IsHalfFilled line tape (made_empty []) calls → AreFarmCalls calls
-half_writes line tape calls half = elim half.calls [
-  | inl is ↦ subst AreFarmCalls (sym is) (tt, (tt, (tt, (tt, (tt, tt)))))
-  | inr (inl is) ↦ subst AreFarmCalls (sym is) (taped_calls line tape half.mark)
-  | inr (inr (inl is)) ↦ subst AreFarmCalls (sym is) (tt, taped_calls line tape half.mark)
-  | inr (inr (inr (inl is))) ↦ subst AreFarmCalls (sym is) (joined_calls line tape half.mark)
-  | inr (inr (inr (inr tried))) ↦ subst AreFarmCalls (sym tried.calls) (farm_call line tried.file tried.is_first, joined_calls line tape half.mark)
+no_stages : (n : ℕ) → AreAll IsStage (replicate n Unasked)
+unfolding AreAll
+no_stages zero = tt
+no_stages (suc n) = (tt, no_stages n)
+
+-- what a folder that joins is told first, by the file `farm` that it gets
+first_joins : (line : InitLine) (file : NodeFile) → IsFirstFile line file → IsJoins (first_joining line file.mark)
+first_joins line file first = record {
+  joins = record {
+    of_farm = subst IsNumberOfNodes first.nodes first.is.nodes;
+    member = subst (λ (n : ℕ). n < line.nodes) first.node (subst (λ (n : ℕ). file.node < n) first.nodes first.is.node);
+    stages = refl;
+  };
+  replacement = record { fits = omega arith; bytes = first.is.bytes; size = first.is.size };
+  each = no_stages 64;
+}
+
+module _ (line : InitLine) (tape mark : List ℕ) where
+  farm_given : (file : NodeFile) → IsFirstFile line file → IsSoundGiven Farm (Some (node_text file))
+  farm_given file first = (file, first.is, refl)
+
+  joins_given : IsJoins (first_joining line mark) → IsSoundGiven Joins (Some (joins_text (first_joining line mark)))
+  joins_given is = inr (first_joining line mark, is, refl)
+
+  with_sound : (is : Bool) → IsJoins (first_joining line mark) → AreSoundCalls (if is then replaced Joins (joins_text (first_joining line mark)) ∷ taped line tape mark else taped line tape mark)
+  with_sound true joins = (joins_given joins, taped_calls line tape mark)
+  with_sound false joins = taped_calls line tape mark
+
+  joined_sound : (file : NodeFile) → IsFirstFile line file → file.mark ≡ mark → AreSoundCalls (joined line tape mark)
+  joined_sound file first marked = with_sound line.replaces (subst (λ (m : List ℕ). IsJoins (first_joining line m)) marked (first_joins line file first))
+
+half_sound : (line : InitLine) (tape : List ℕ) (calls : List Call) → IsHalfFilled line tape (made_empty []) calls → AreSoundCalls calls
+half_sound line tape calls half = elim half.calls [
+  | inl is ↦ subst AreSoundCalls (sym is) (tt, (tt, (tt, (tt, (tt, tt)))))
+  | inr (inl is) ↦ subst AreSoundCalls (sym is) (taped_calls line tape half.mark)
+  | inr (inr (inl tried)) ↦ subst AreSoundCalls (sym tried.1) (joins_given line tape half.mark tried.0, taped_calls line tape half.mark)
+  | inr (inr (inr tried)) ↦ elim tried.calls [
+    | inl is ↦ subst AreSoundCalls (sym is) (joined_sound line tape half.mark tried.file tried.is_first tried.marked)
+    | inr is ↦ subst AreSoundCalls (sym is) (farm_given line tape half.mark tried.file tried.is_first, joined_sound line tape half.mark tried.file tried.is_first tried.marked)
+  ]
 ]
 
-pub inits_write_farms : InitsWriteFarms
-inits_write_farms line calls (inl has) = subst AreFarmCalls (sym has.filled.calls) (farm_call line has.filled.file has.filled.is_first, joined_calls line has.tape has.filled.file.mark)
-inits_write_farms line calls (inr half) = half_writes line half.tape calls half.half
+pub inits_are_sound : InitsAreSound
+inits_are_sound line calls (inl has) = subst AreSoundCalls (sym has.filled.calls)
+    (farm_given line has.tape has.filled.file.mark has.filled.file has.filled.is_first, joined_sound line has.tape has.filled.file.mark has.filled.file has.filled.is_first refl)
+inits_are_sound line calls (inr half) = half_sound line half.tape calls half.half

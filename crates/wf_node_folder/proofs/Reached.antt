@@ -11,6 +11,7 @@ use Rattle.wf_folder.specs.declared.reach.Reach.{Reach}
 use Rattle.wf_voter.specs.Reach.{IsReachOf}
 use Rattle.wf_model.specs.DurableState.{DurableState}
 use Rattle.wf_node.specs.Node.{Node, stored_of}
+use Rattle.wf_node_folder.proofs.Raised.{raised_held}
 use Rattle.wf_node_folder.specs.Held.{HasReached, HoldsAll, HoldsLess, IsKnownOf, digest_up_to}
 
 pub reached : {T : Type 0} (node : Node T) (reach : Reach) → IsReachOf node reach → HasReached (stored_of node) reach
@@ -32,6 +33,11 @@ module _ (known : Known) (stored : DurableState Definition) (reach : Reach) (dig
   pub holds_less : (why : NodeRejection) → IsTapeRejection known reach digest why → HoldsLess known stored why
   holds_less why rejected = record { reach = reach; is_reach = has; rejected = subst (λ (d : Option (List ℕ)). IsTapeRejection known reach d why) is rejected }
 
-pub known_of : (stored : DurableState Definition) (reach : Reach) (digest : List ℕ) → HasReached stored reach → digest ≡ digest_at stored.history (length stored.history)
-    → IsKnownOf stored (record { reach = reach; digest = digest })
-known_of stored reach digest has is = record { is_reach = has; is_digest = is }
+pub known_of : (before : Known) (stored : DurableState Definition) (reach : Reach) (last : List ℕ) (digest : Option (List ℕ)) → HasReached stored reach
+    → last ≡ digest_at stored.history (length stored.history) → digest ≡ digest_up_to stored.history before.reach.published → IsTapeAdmitted before reach digest
+    → IsKnownOf before stored (record { reach = reach; digest = last })
+known_of before stored reach last digest has is_last is admitted = record {
+  is_reach = has;
+  is_digest = is_last;
+  held = raised_held before stored reach last has is_last (subst (λ (d : Option (List ℕ)). IsTapeAdmitted before reach d) is admitted);
+}

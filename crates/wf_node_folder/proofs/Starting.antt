@@ -69,7 +69,7 @@ unwritten_by heard raised old mid new found reads sound is = elim is [
   | inr at ↦ inr (record { bytes = found.bytes; file = raised; sound = sound; calls = at ∙ ap (λ (calls : List Call). unreplaced Farm (node_text raised) ∷ calls) found.calls })
 ]
 
-pub raised_by : (stored : DurableState Definition) (file written : NodeFile) (known : Known) → IsKnownOf stored known → written ≡ record file { known = raised_known file.known known.reach known.digest }
+pub raised_by : (stored : DurableState Definition) (file written : NodeFile) (known : Known) → IsKnownOf file.known stored known → written ≡ record file { known = raised_known file.known known.reach known.digest }
     → IsRaisedTo stored file written
 raised_by stored file written known is value = record { known = known; is_known = is; value = value }
 

@@ -91,19 +91,21 @@ pub record ReadAlike (old new : List ℕ) : Type 0 where
 
 -- ---- what a start writes
 
--- This is how far the stored state goes, with the digest of its whole history.
-pub record IsKnownOf (stored : DurableState Definition) (known : Known) : Type 0 where
+-- This is how far the stored state goes, with the digest of its whole history. The state holds what
+-- was known before, also once that is raised to this.
+pub record IsKnownOf (before : Known) (stored : DurableState Definition) (known : Known) : Type 0 where
   pub is_reach : HasReached stored known.reach
   pub is_digest : known.digest ≡ digest_at stored.history (length stored.history)
+  pub held : HoldsAll (raised_known before known.reach known.digest) stored
 
 -- The second file is the first one, in which what is known is raised to all that is stored.
 pub record IsRaisedTo (stored : DurableState Definition) (file written : NodeFile) : Type 0 where
   pub known : Known
-  pub is_known : IsKnownOf stored known
+  pub is_known : IsKnownOf file.known stored known
   pub value : written ≡ record file { known = raised_known file.known known.reach known.digest }
 
 -- The node of this file was opened, holds all that is known of it, and goes so far.
 pub record IsExamined {T : Type 0} (file : NodeFile) (node : Node T) (known : Known) : Type 0 where
   pub opened : IsOpenedFor file node
   pub holds : HoldsAll file.known (stored_of node)
-  pub is_known : IsKnownOf (stored_of node) known
+  pub is_known : IsKnownOf file.known (stored_of node) known

@@ -1,9 +1,10 @@
 -- What is written to the file `joins` of a folder that joins.
 use Rattle.std.specs.Prelude.{◌≡◌, ◌⊎◌, ℕ, ⊤, true, List, [], ◌∷◌, ◌++◌, Option, Some}
-use Rattle.wf_folder.specs.NodeFile.{IsNodeFile, IsTextOf, node_text}
+use Rattle.wf_folder.specs.NodeFile.{IsTextOf}
 use Rattle.wf_folder.specs.declared.node_admission.NodeFound.{NodeFound}
 use Rattle.wf_folder.specs.declared.node_admission.NodeFound.TheVariants as finds
 use Rattle.wf_folder.specs.declared.node_file.NodeFile.{NodeFile}
+use Rattle.wf_node_folder.specs.Sound.{IsSoundText}
 use Rattle.wf_node_folder.specs.Texts.{is_farm, is_joins, is_tape, text_in}
 use Rattle.wf_rejoin.specs.JoinStep.{StepCounts, stepped}
 use Rattle.wf_rejoin.specs.Joining.{MayVote}
@@ -51,6 +52,7 @@ pub record IsToldNext (text : List ℕ) (calls : List Call) : Type 0 where
   pub says : SaysJoining joining calls
   pub step : JoinStep
   pub counts : StepCounts step joining
+  pub joins : IsJoins (stepped step joining)
   pub is : text ≡ joins_text (stepped step joining)
 
 -- ---- what is put in its place
@@ -60,18 +62,10 @@ pub record IsToldNext (text : List ℕ) (calls : List Call) : Type 0 where
 abbrev pub MayBePut : List ℕ → List Call → Type 0
 MayBePut text calls = ((text ≡ []) × MayVoteBy calls) ⊎ IsToldNext text calls
 
--- the text is that of a node's file `farm`
-abbrev pub IsFarmText : List ℕ → Type 0
-IsFarmText text = (file : NodeFile) × IsNodeFile file × (text ≡ node_text file)
-
--- what may be put in the place of each file; of those of peers and replacements any text
+-- what may be put in the place of each file: a sound text
 abbrev pub MayBePutAt : FileName → List ℕ → List Call → Type 0
 MayBePutAt names.Joins text calls = MayBePut text calls
-MayBePutAt names.Farm text calls = IsFarmText text
-MayBePutAt names.Heard text calls = ⊤
-MayBePutAt names.Replaced text calls = ⊤
-MayBePutAt (names.NodeTape node) text calls = ⊤
-MayBePutAt names.ReplicaTape text calls = ⊤
+MayBePutAt file text calls = IsSoundText file text
 
 -- The text that a call put there, or tried to, may be: `bytes` are those that the call shows.
 pub record IsPutSoundly (file : FileName) (bytes : Option (List ℕ)) (calls : List Call) : Type 0 where

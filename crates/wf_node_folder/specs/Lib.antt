@@ -10,5 +10,6 @@ pub mod Made
 pub mod PowerCut
 pub mod Ready
 pub mod ReplacementFiles
+pub mod Sound
 pub mod Start
 pub mod Texts

@@ -10,7 +10,7 @@ use Rattle.wf_node_folder.specs.From.{HasBadBytes, MayBeFrom, IsNotFrom}
 use Rattle.wf_node_folder.specs.declared.fault.CommandFault.{CommandFault}
 use Rattle.wf_node_folder.specs.declared.fault.CommandFault.TheVariants as faults
 use Rattle.wf_node_folder.specs.declared.from_rejection.FromRejection.{FromRejection}
-use Rattle.wf_rejoin.specs.JoiningText.{joins_text}
+use Rattle.wf_rejoin.specs.JoiningText.{IsJoins, joins_text}
 use Rattle.wf_rejoin.specs.declared.joining.Joining.{Joining}
 use Rattle.wf_rejoin.specs.declared.joining.Stage.TheVariants.{Unasked}
 use Rattle.wf_store.specs.Call.{Call, OnlyReads, counted, drawn, locked, made, replaced, unreplaced}
@@ -49,20 +49,24 @@ pub record IsFolderMade (line : InitLine) (tape : List ℕ) (old new : List Call
   pub is_first : IsFirstFile line file
   pub calls : new ≡ replaced Farm (node_text file) ∷ with_joins line file.mark (with_tape line tape file.mark old)
 
--- The file `farm` that is to be the folder's was tried to be written after these calls.
+-- The file `farm` that is to be the folder's was tried to be written after these calls, or its text
+-- wasn't made.
 pub record IsFirstFileTried (line : InitLine) (mark : List ℕ) (old new : List Call) : Type 0 where
   pub file : NodeFile
   pub is_first : IsFirstFile line file
   pub marked : file.mark ≡ mark
-  pub calls : new ≡ unreplaced Farm (node_text file) ∷ old
+  pub calls : (new ≡ old) ⊎ (new ≡ unreplaced Farm (node_text file) ∷ old)
+
+-- the file `joins` was tried to be written after these calls
+abbrev pub IsFirstJoinsTried : InitLine → List ℕ → List Call → List Call → Type 0
+IsFirstJoinsTried line mark old new = IsJoins (first_joining line mark) × (new ≡ unreplaced Joins (joins_text (first_joining line mark)) ∷ old)
 
 -- They weren't all written: the file `farm` is the last one, and a file whose writing failed may be
 -- there or not.
 pub record IsHalfFilled (line : InitLine) (tape : List ℕ) (old new : List Call) : Type 0 where
   pub mark : List ℕ
   pub calls : (new ≡ unreplaced (NodeTape line.id) tape ∷ drawn mark ∷ old) ⊎ ((new ≡ with_tape line tape mark old)
-      ⊎ ((new ≡ unreplaced Joins (joins_text (first_joining line mark)) ∷ with_tape line tape mark old) ⊎ ((new ≡ with_joins line mark (with_tape line tape mark old))
-      ⊎ IsFirstFileTried line mark (with_joins line mark (with_tape line tape mark old)) new)))
+      ⊎ (IsFirstJoinsTried line mark (with_tape line tape mark old) new ⊎ IsFirstFileTried line mark (with_joins line mark (with_tape line tape mark old)) new))
 
 abbrev pub IsUnfilled : InitLine → List ℕ → List Call → List Call → Type 0
 IsUnfilled line tape old new = OnlyReads old new ⊎ IsHalfFilled line tape old new

@@ -1,18 +1,30 @@
--- What a power cut leaves of the file `farm` of a node's folder, by the folder's calls.
-use Rattle.std.specs.Prelude.{◌≡◌, ◌⊎◌, ℕ, ⊤, true, false, List, [], ◌∷◌, Option, Some}
-use Rattle.wf_folder.specs.NodeFile.{node_text}
+-- What a power cut leaves of a node's folder, by the folder's calls.
+use Rattle.std.specs.Prelude.{◌≡◌, ◌⊎◌, ℕ, ⊤, true, false, List, [], ◌∷◌, Option, Some, None}
+use Rattle.wf_folder.specs.NodeFile.{IsNodeFile, IsTextOf, node_text}
 use Rattle.wf_folder.specs.declared.node_file.NodeFile.{NodeFile}
 use Rattle.wf_line.specs.declared.node_line.InitLine.{InitLine}
-use Rattle.wf_node_folder.specs.Folder.{StaysFrom}
-use Rattle.wf_node_folder.specs.Joined.{IsFarmText}
+use Rattle.wf_line.specs.declared.node_line.NodeLine.{NodeLine}
+use Rattle.wf_node_folder.specs.Cleared.{IsCleared, IsHalfCleared}
+use Rattle.wf_node_folder.specs.Folder.{IsHeardIn, StaysFrom}
 use Rattle.wf_node_folder.specs.Made.{HasMade, IsFirstFile, IsFirstTape, IsHalfMade, first_joining}
-use Rattle.wf_power_cuts.specs.Cut.{CouldLeave, is_file}
+use Rattle.wf_node_folder.specs.Held.{HasHeld}
+use Rattle.wf_node_folder.specs.Ready.{IsReadyAs}
+use Rattle.wf_node_folder.specs.ReplacementFiles.{IsJoinsIn, IsReplacedIn}
+use Rattle.wf_node_folder.specs.Sound.{IsSoundText}
+use Rattle.wf_node_folder.specs.Start.{IsStartOn}
+use Rattle.wf_node_folder.specs.Texts.{is_tape}
+use Rattle.wf_node_folder.specs.declared.ready.ReadyNode.{ReadyNode}
+use Rattle.wf_peer.specs.declared.heard.Heard.{Heard as HeardOfNode}
+use Rattle.wf_power_cuts.specs.Cut.{CouldLeave}
 use Rattle.wf_rejoin.specs.JoiningText.{joins_text}
-use Rattle.wf_store.specs.Call.{Call}
+use Rattle.wf_rejoin.specs.declared.joining.Joining.{Joining}
+use Rattle.wf_rejoin.specs.declared.replacement.Replacement.{Replacement}
+use Rattle.wf_store.specs.Call.{Call, locked}
 use Rattle.wf_store.specs.declared.deed.Deed.{Deed}
 use Rattle.wf_store.specs.declared.deed.Deed.TheVariants as deeds
 use Rattle.wf_store.specs.declared.file_name.FileName.{FileName}
-use Rattle.wf_store.specs.declared.file_name.FileName.TheVariants.{Farm, Joins, NodeTape}
+use Rattle.wf_store.specs.declared.file_name.FileName.TheVariants.{Farm, Heard, Joins, NodeTape, Replaced}
+use Rattle.wf_tape.specs.declared.tape.Tape.{Ghosts as Tape}
 
 -- ---- a folder that is made
 
@@ -33,26 +45,65 @@ InitsAreWhole = (line : InitLine) (calls : List Call) → HasMade line [] calls 
 
 -- ---- a folder that is written to
 
--- a call that wrote a file `farm`, or was to, wrote that of a node, and none opened it as a tape
-abbrev pub IsFarmCall : Deed → Option (List ℕ) → Type 0
-IsFarmCall (deeds.Replaces Farm) bytes = (text : List ℕ) × (bytes ≡ Some text) × IsFarmText text
-IsFarmCall (deeds.FailsAt Farm) bytes = (text : List ℕ) × (bytes ≡ Some text) × IsFarmText text
-IsFarmCall (deeds.Opens file) bytes = is_file file Farm ≡ false
-IsFarmCall (deeds.OpensExisting file) bytes = is_file file Farm ≡ false
-IsFarmCall deed bytes = ⊤
+-- what a call put in the place of a file, or tried to, is a sound text; a tape that wasn't opened
+-- may have been made
+abbrev pub IsSoundGiven : FileName → Option (List ℕ) → Type 0
+IsSoundGiven file None = is_tape file ≡ true
+IsSoundGiven file (Some text) = IsSoundText file text
 
-abbrev pub AreFarmCalls : List Call → Type 0
-AreFarmCalls [] = ⊤
-AreFarmCalls (call ∷ earlier) = IsFarmCall call.deed call.bytes × AreFarmCalls earlier
+-- so of a call; what was opened is a tape
+abbrev pub IsSoundCall : Deed → Option (List ℕ) → Type 0
+IsSoundCall (deeds.Replaces file) bytes = IsSoundGiven file bytes
+IsSoundCall (deeds.FailsAt file) bytes = IsSoundGiven file bytes
+IsSoundCall (deeds.Opens file) bytes = is_tape file ≡ true
+IsSoundCall (deeds.OpensExisting file) bytes = is_tape file ≡ true
+IsSoundCall deed bytes = ⊤
 
--- Wherever the power is cut between or inside such calls, there is no file `farm`, or the whole one
--- of a node.
-abbrev pub FarmsAreWhole : Type 0
-FarmsAreWhole = (calls : List Call) → AreFarmCalls calls → (images : FileName → List ℕ) → CouldLeave calls images → (images Farm ≡ []) ⊎ IsFarmText (images Farm)
+abbrev pub AreSoundCalls : List Call → Type 0
+AreSoundCalls [] = ⊤
+AreSoundCalls (call ∷ earlier) = IsSoundCall call.deed call.bytes × AreSoundCalls earlier
 
--- The calls of `init` are such, and so are, after such, those of a node that runs.
-abbrev pub InitsWriteFarms : Type 0
-InitsWriteFarms = (line : InitLine) (calls : List Call) → HasMade line [] calls ⊎ IsHalfMade line [] calls → AreFarmCalls calls
+-- Wherever the power is cut between or inside such calls, a file that is no tape isn't there, or is
+-- there with a sound text, whole.
+abbrev pub FilesAreWhole : Type 0
+FilesAreWhole = (calls : List Call) → AreSoundCalls calls → (images : FileName → List ℕ) → CouldLeave calls images → (file : FileName) → is_tape file ≡ false
+    → (images file ≡ []) ⊎ IsSoundText file (images file)
 
-abbrev pub NodesWriteFarms : Type 0
-NodesWriteFarms = (begun calls : List Call) → StaysFrom begun calls → AreFarmCalls begun → AreFarmCalls calls
+-- ---- which calls are such
+
+-- Those of `init`, and, after such, those of `clear`, those of a start that comes to serve, from
+-- the lock on, and those of a node that is served.
+abbrev pub InitsAreSound : Type 0
+InitsAreSound = (line : InitLine) (calls : List Call) → HasMade line [] calls ⊎ IsHalfMade line [] calls → AreSoundCalls calls
+
+abbrev pub ClearsAreSound : Type 0
+ClearsAreSound = (old calls : List Call) → AreSoundCalls old → IsCleared (locked ∷ old) calls ⊎ IsHalfCleared (locked ∷ old) calls → AreSoundCalls calls
+
+abbrev pub StartsAreSound : Type 0
+StartsAreSound = (line : NodeLine) (file written : NodeFile) (heard : List (Option HeardOfNode)) (old calls : List Call) → AreSoundCalls old → IsNodeFile written
+    → IsStartOn line file written heard (locked ∷ old) calls → AreSoundCalls calls
+
+abbrev pub NodesAreSound : Type 0
+NodesAreSound = (begun calls : List Call) → StaysFrom begun calls → AreSoundCalls begun → AreSoundCalls calls
+
+-- ---- what the next start reads of them
+
+-- Each file isn't there, or the next start reads it back, and rejects none as bad.
+pub record AreReadBack (images : FileName → List ℕ) : Type 0 where
+  pub farm : (images Farm ≡ []) ⊎ ((file : NodeFile) × IsNodeFile file × IsTextOf (images Farm) file)
+  pub heard : (images Heard ≡ []) ⊎ ((known : List (Option HeardOfNode)) × IsHeardIn (Some (images Heard)) known)
+  pub replaced : (images Replaced ≡ []) ⊎ ((known : List (Option Replacement)) × IsReplacedIn (Some (images Replaced)) known)
+  pub joins : (joining : Option Joining) × IsJoinsIn (Some (images Joins)) joining
+
+-- so wherever the power is cut
+abbrev pub CutsAreReadBack : Type 0
+CutsAreReadBack = (calls : List Call) → AreSoundCalls calls → (images : FileName → List ℕ) → CouldLeave calls images → AreReadBack images
+
+-- ---- the tape of a start
+
+-- A start that comes to serve moved its node to the tape. Whatever a power cut leaves then of a
+-- tape that is durable holds all that the file `farm` says, the one from before and the one that
+-- counts the start: so the next start's node isn't one that went back.
+abbrev pub StartsAgain : {T : Type 0} → Tape T → Type 0
+StartsAgain {T} tapes = (file : NodeFile) (ready : ReadyNode T tapes) (old new : List Call) → IsReadyAs tapes file ready old new → tapes.durable → (image : List ℕ)
+    → tapes.images ready.process.actor.node.tape image → HasHeld file image × HasHeld ready.file image

@@ -10,7 +10,8 @@ use std::alloc::Global;
 use std::io::ErrorKind;
 use wf_folder::{NodeFile, NodeFound, Reach, Suspension};
 use wf_membership::FolderError;
-use wf_rejoin::JoinStep;
+use wf_peer::PeerProgress;
+use wf_rejoin::{JoinStep, Replacements};
 use wf_store::{FileName, FolderFault, Store};
 use wf_voter::{NodeFolder, NotReopened};
 
@@ -206,21 +207,25 @@ impl<S: Store> NodeFolder<S::Tape> for HeldFolder<S> {
         self.write(&next)
     }
 
-    fn keep_heard(&mut self, text: Vec<u8>) -> Result<(), FolderError> {
+    fn keep_heard(&mut self, heard: &PeerProgress) -> Result<(), FolderError> {
         if let Err(error) = self.running.examine() {
-            drop(text);
             return Err(error);
         }
-        self.running.replace(FileName::Heard, text)
+        match heard.text(self.alloc) {
+            Ok(text) => self.running.replace(FileName::Heard, text),
+            Err(_) => Err(FolderError::Store(FolderFault::Memory)),
+        }
     }
 
     #[tactic(auto, using(crate::proofs::Stays::nothing_heard))]
-    fn keep_replaced(&mut self, text: Vec<u8>) -> Result<(), FolderError> {
+    fn keep_replaced(&mut self, known: &Replacements) -> Result<(), FolderError> {
         if let Err(error) = self.running.examine() {
-            drop(text);
             return Err(error);
         }
-        self.running.replace(FileName::Replaced, text)
+        match known.text(self.alloc) {
+            Ok(text) => self.running.replace(FileName::Replaced, text),
+            Err(_) => Err(FolderError::Store(FolderFault::Memory)),
+        }
     }
 
     fn keep_joining(&mut self, step: &JoinStep) -> Result<(), FolderError> {

@@ -22,7 +22,7 @@ pub(crate) fn examine_node<T: Tape>(
     node: &Node<T>,
 ) -> Result<Known, CommandFault>
     ensures holds { IfOk result (λ _. HoldsAll known.now (stored_of node.now)) }
-    ensures known { IfOk result (IsKnownOf (stored_of node.now)) }
+    ensures known { IfOk result (IsKnownOf known.now (stored_of node.now)) }
     ensures fault { IfErr result (IsWhyNotHeld known.now (stored_of node.now)) }
 {
     let reach = reach(node);

@@ -2,8 +2,7 @@
 ghost use Rattle.std.specs.Prelude.{◌≡◌, ◌<◌, ◌⊎◌, ◌↔◌, ◌∷◌, IfErr, IfOk, IsSome, IsTrue, OnErr, OnOk, true};
 ghost use Rattle.wf_folder.specs.Name.{pad};
 ghost use Rattle.wf_line.specs.NodeLine.{IsInitInRange};
-ghost use Rattle.wf_node_folder.specs.Made.{IsFolderMade, IsFirstTape, IsInitCause, IsInitDone, IsUnfilled, IsWhyNotEmpty, first_joining, made_empty, with_joins};
-ghost use Rattle.wf_rejoin.specs.JoiningText.{joins_text};
+ghost use Rattle.wf_node_folder.specs.Made.{IsFirstJoinsTried, IsFolderMade, IsFirstTape, IsInitCause, IsInitDone, IsUnfilled, IsWhyNotEmpty, made_empty, with_joins};
 ghost use Rattle.wf_node_folder.specs.Fault.{IsFromSystem};
 ghost use Rattle.wf_store.specs.Call.{OnlyReads, unreplaced};
 ghost use Rattle.wf_store.specs.Fault.{IsWhyUnwritten};
@@ -189,8 +188,7 @@ fn write_joins<S: Store>(
     ensures written { OnOk result (S.calls store.new ≡
         with_joins line.now mark (S.calls store.old)) }
     ensures unwritten { OnErr result ((S.calls store.new ≡ S.calls store.old)
-        ⊎ (S.calls store.new ≡ unreplaced names.Joins
-        (joins_text (first_joining line.now mark)) ∷ S.calls store.old)) }
+        ⊎ IsFirstJoinsTried line.now mark (S.calls store.old) (S.calls store.new)) }
     ensures cause { IfErr result (IsWhyUnwritten names.Joins) }
 {
     if !line.replaces {

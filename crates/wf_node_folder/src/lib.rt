@@ -34,9 +34,12 @@
 //! - `clear` locks the folder, forgets what was heard, and then writes the file that it read
 //!   without its suspension.
 //! - Wherever the power is cut while `init` makes a folder, there is no file `farm`, or all is
-//!   there ([`made_folders_are_whole`]); and of a folder whose calls wrote files of nodes there, as
-//!   those of `init` and of a node that runs do, a cut leaves none or a whole one
-//!   ([`farm_files_are_whole`], `specs/PowerCut.antt`; `wf_power_cuts` has what a cut leaves).
+//!   there ([`made_folders_are_whole`]). Wherever it is cut then, in `clear`, in a start that would
+//!   come to serve, or while a node is served, each of the files `farm`, `heard`, `replaced` and
+//!   `joins` is absent or whole, and the next start reads it back ([`cut_folders_are_read_back`],
+//!   `specs/PowerCut.antt`; `wf_power_cuts` has what a cut leaves). What it leaves of the tape of a
+//!   start, if that is durable, holds all that either file `farm` says
+//!   ([`started_folders_start_again`]).
 //! - Each error has its cause, and its status: 2 where the command line is bad, else 1.
 //!
 //! **Doesn't.** What the system does with files has no model: that its lock holds, and that what is
@@ -49,7 +52,6 @@
 
 mod addresses;
 mod clear;
-mod event;
 mod fault;
 mod folder;
 mod from;
@@ -75,5 +77,5 @@ pub use init::init_folder;
 pub use node::start_node;
 pub use ready::ReadyNode;
 pub use replacement_fault::ReplacementFault;
-pub use theorem::{farm_files_are_whole, made_folders_are_whole};
+pub use theorem::{cut_folders_are_read_back, made_folders_are_whole, started_folders_start_again};
 pub use wf_address::AddressOption;

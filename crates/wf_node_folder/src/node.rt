@@ -13,7 +13,6 @@ ghost use Rattle.wf_node_folder.specs.Start.{IsFileAdmitted, IsFileCause, IsRead
 ghost use Rattle.wf_store.specs.Call.{OnlyReads, locked};
 
 use crate::addresses::{NodeAddresses, addresses_of};
-use crate::event::NodeStarts;
 use crate::fault::CommandFault;
 use crate::folder::{find_in, read_peer_progress, write_farm};
 use crate::ready::ReadyNode;
@@ -25,6 +24,7 @@ use std::rt::Files;
 use std::time::Clock;
 use wf_ballot::NodeId;
 use wf_folder::{Known, NodeFile, NodeFound, Reach, admit_node};
+use wf_folder_log::FolderEvent;
 use wf_line::NodeLine;
 use wf_mesh::NodePlan;
 use wf_peer::{Own, PeerProgress, Progress};
@@ -214,14 +214,15 @@ fn open_node<R: Files + Clock + Eprint + AllocGlobal, S: Store>(
     ensures started { IfOk result (λ opened. IsProcessStarted S.Tape.Tape file.now opened.0) }
     ensures read { IfOk result (λ opened.
         StandsForRead (stored_of opened.0.actor.node) (tape_in (S.calls store.new))) }
-    ensures known { IfOk result (λ opened. IsKnownOf (stored_of opened.0.actor.node) opened.1) }
+    ensures known { IfOk result (λ opened.
+        IsKnownOf file.now.known (stored_of opened.0.actor.node) opened.1) }
     ensures calls { OnOk result (IsTapeOpened file.now (S.calls store.old) (S.calls store.new)) }
     ensures left { OnErr result (IsUnopened file.now (S.calls store.old) (S.calls store.new)) }
     ensures fault { IfErr result
         (IsWhyNotCompared file.now (S.calls store.old) (S.calls store.new)) }
 {
     let log = Log::new(rt, line.log);
-    log.write(&NodeStarts {
+    log.write(&FolderEvent::NodeStarts {
         node: file.node,
         folder: line.state,
     });
@@ -335,7 +336,7 @@ fn make_ready<S: Store>(
     known: &Known,
 ) -> Result<ReadyNode<S::Tape>, CommandFault>
     requires file { IsNodeFile file.now }
-    requires known { IsKnownOf (stored_of process.actor.node) known.now }
+    requires known { IsKnownOf file.now.known (stored_of process.actor.node) known.now }
     ensures process { IfOk result (λ ready. ready.process ≡ process) }
     ensures plan { IfOk result (λ ready. ready.plan ≡ plan) }
     ensures counted { IfOk result (λ ready. IsReadyCounted plan.replacements ready.heard ready.file

@@ -11,7 +11,6 @@ ghost use Rattle.wf_node_folder.specs.Held.{HasHeld, IsExamined, IsKnownOf, IsOp
 ghost use Rattle.wf_node_folder.specs.Start.{IsCompared, IsProcessStarted, IsWhyNotCompared};
 ghost use Rattle.wf_store.specs.Call.{OnlyReads};
 
-use crate::event::TapeZeros;
 use crate::fault::CommandFault;
 use crate::held_state::examine_node;
 use crate::read_node::ReadNode;
@@ -23,6 +22,7 @@ use std::rt::Files;
 use std::time::Clock;
 use wf_ballot::NodeId;
 use wf_folder::{Known, NodeFile};
+use wf_folder_log::FolderEvent;
 use wf_journal::OpenFault;
 use wf_node::{Node, NodeFault};
 use wf_store::{FileName, FolderFault, ProbeFault, Store, probe_file};
@@ -178,7 +178,8 @@ pub(crate) fn open_process<R: Files + Clock + Eprint + AllocGlobal, T: Tape + Dr
     requires most { pictures ≤ 64 }
     ensures started { IfOk result (λ opened. IsProcessStarted T.Tape file.now opened.0) }
     ensures same { IfOk result (λ opened. stored_of opened.0.actor.node ≡ stored_of copy.node) }
-    ensures known { IfOk result (λ opened. IsKnownOf (stored_of opened.0.actor.node) opened.1) }
+    ensures known { IfOk result (λ opened.
+        IsKnownOf file.now.known (stored_of opened.0.actor.node) opened.1) }
     ensures fault { IfErr result IsFromSystem }
 {
     let ReadNode {
@@ -189,7 +190,7 @@ pub(crate) fn open_process<R: Files + Clock + Eprint + AllocGlobal, T: Tape + Dr
     match node.move_to(rt.alloc(), tape) {
         Ok(node) => {
             if dropped != 0 {
-                log.write(&TapeZeros { dropped });
+                log.write(&FolderEvent::ZerosDropped(dropped));
             }
             match Process::of(rt.alloc(), node, pictures as usize) {
                 Ok(process) => Ok((process, known)),

@@ -1,8 +1,9 @@
 //! Theorems about folders. Each call does nothing.
 ghost use Rattle.wf_node_folder.specs.Damage.{AreBadNowhere};
-ghost use Rattle.wf_node_folder.specs.PowerCut.{FarmsAreWhole, InitsAreWhole, InitsWriteFarms, NodesWriteFarms};
+ghost use Rattle.wf_node_folder.specs.PowerCut.{ClearsAreSound, CutsAreReadBack, FilesAreWhole, InitsAreSound, InitsAreWhole, NodesAreSound, StartsAgain, StartsAreSound};
 
 use wf_canon::one_text_one_map;
+use wf_tape::Tape;
 
 /// Whole records are bad nowhere. A theorem: the call does nothing.
 #[tactic(auto, using(crate::proofs::Damage::bad_nowhere))]
@@ -14,13 +15,18 @@ pub(crate) fn whole_records_are_bad_nowhere()
 }
 
 /// Wherever the power is cut between calls of a folder, or inside one, of which each that writes a
-/// file `farm` writes that of a node, there is no such file, or the whole one of a node. Those of
-/// `init`, and after such those of a node that runs, are such. A theorem.
-#[tactic(auto, using(crate::proofs::PowerCut::farms_are_whole, crate::proofs::PowerCut::nodes_write_farms, crate::proofs::PowerCut::inits_write_farms))]
-pub fn farm_files_are_whole()
-    ensures whole { FarmsAreWhole }
-    ensures init { InitsWriteFarms }
-    ensures nodes { NodesWriteFarms }
+/// file other than a tape writes one that is read back (`specs/Sound.antt`): each such file isn't
+/// there, or is there whole, and the next start reads it back. Those of `init` are such calls, and
+/// after such those of `clear`, of a start that comes to serve, and of a node that is served. A
+/// theorem.
+#[tactic(auto, using(crate::proofs::PowerCut::files_are_whole, crate::proofs::PowerCut::cuts_are_read_back, crate::proofs::PowerCut::starts_are_sound))]
+pub fn cut_folders_are_read_back()
+    ensures whole { FilesAreWhole }
+    ensures read { CutsAreReadBack }
+    ensures init { InitsAreSound }
+    ensures clear { ClearsAreSound }
+    ensures start { StartsAreSound }
+    ensures nodes { NodesAreSound }
 {}
 
 /// Wherever the power is cut while `init` makes a folder, there is no file `farm`, or all is there:
@@ -28,4 +34,12 @@ pub fn farm_files_are_whole()
 #[tactic(auto, using(crate::proofs::PowerCut::inits_are_whole))]
 pub fn made_folders_are_whole()
     ensures { InitsAreWhole }
+{}
+
+/// Whatever a power cut leaves of the tape of a node that was started, if the tape is durable,
+/// holds all that the file `farm` says, the one from before the start and the one that counts it:
+/// the next start takes it. A theorem.
+#[tactic(auto, using(crate::proofs::PowerCut::starts_again))]
+pub fn started_folders_start_again<T: Tape>()
+    ensures { StartsAgain T.Tape }
 {}

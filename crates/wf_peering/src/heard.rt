@@ -1,12 +1,11 @@
 //! What was heard of the peers, in the folder of a node.
 ghost use Rattle.wf_voter.specs.Continuation.{ContinuesIn};
 
-use std::alloc::Global;
 use std::time::Clock;
 use wf_membership::{FolderError, Gate};
 use wf_mesh::{Mesh, Notes};
 use wf_sockets::Network;
-use wf_store::{FileName, FolderFault};
+use wf_store::FileName;
 use wf_tape::Tape;
 use wf_visitors::Context;
 use wf_voter::{NodeFolder, Voter};
@@ -23,7 +22,7 @@ pub fn save<R: Clock + Eprint + AllocGlobal, T: Tape + Drop, F: NodeFolder<T>, N
     ensures on { ContinuesIn T.Tape (F.stands folder.old) voter.old
         (F.stands folder.new) voter.new }
 {
-    match keep_heard(context.alloc(), &mut mesh.notes, voter, folder) {
+    match keep_heard(&mut mesh.notes, voter, folder) {
         Ok(()) => {
             mesh.note_written(FileName::Heard);
             true
@@ -39,7 +38,6 @@ pub fn save<R: Clock + Eprint + AllocGlobal, T: Tape + Drop, F: NodeFolder<T>, N
 /// Writes what was heard of the peers to the node's folder, if more was heard than it has.
 #[tactic(auto, using(wf_voter::proofs::Continuation::still_in))]
 fn keep_heard<T: Tape + Drop, F: NodeFolder<T>>(
-    alloc: Global,
     notes: &mut Notes,
     voter: &mut Voter<T>,
     folder: &mut F,
@@ -48,15 +46,12 @@ fn keep_heard<T: Tape + Drop, F: NodeFolder<T>>(
         (F.stands folder.new) voter.new }
 {
     notes.hold(&voter.kept);
-    let Ok(unsaved) = notes.unsaved(alloc) else {
-        return Err(FolderError::Store(FolderFault::Memory));
-    };
-    let Some(text) = unsaved else {
+    let Some(heard) = notes.unsaved() else {
         return Ok(());
     };
-    match folder.keep_heard(text) {
+    match folder.keep_heard(&heard) {
         Ok(()) => {
-            voter.kept = notes.known();
+            voter.kept = heard;
             notes.note_saved();
             Ok(())
         }

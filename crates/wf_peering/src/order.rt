@@ -2,7 +2,6 @@
 ghost use Rattle.std.specs.Prelude.{◌≡◌};
 ghost use Rattle.wf_voter.specs.Continuation.{ContinuesIn};
 
-use std::alloc::Global;
 use std::time::Clock;
 use wf_membership::{FolderError, Gate};
 use wf_mesh::{Mesh, Notes, Order};
@@ -31,13 +30,7 @@ pub fn obey<R: Clock + Eprint + AllocGlobal, T: Tape + Drop, F: NodeFolder<T>, N
     let Some(order) = mesh.order else {
         return;
     };
-    match keep_order(
-        context.alloc(),
-        &voter.process,
-        &mut mesh.notes,
-        folder,
-        &order,
-    ) {
+    match keep_order(&voter.process, &mut mesh.notes, folder, &order) {
         Ok(()) => {
             mesh.take_order(context, &voter.membership, published, &order);
             if mesh.is_over {
@@ -53,7 +46,6 @@ pub fn obey<R: Clock + Eprint + AllocGlobal, T: Tape + Drop, F: NodeFolder<T>, N
 
 /// Writes to the folder what is to be written about replacements, synced.
 fn keep_order<T: Tape + Drop, F: NodeFolder<T>>(
-    alloc: Global,
     process: &Process<T>,
     notes: &mut Notes,
     folder: &mut F,
@@ -62,23 +54,9 @@ fn keep_order<T: Tape + Drop, F: NodeFolder<T>>(
     ensures stands { F.stands folder.new ≡ F.stands folder.old }
 {
     match order {
-        Order::Note(latest) => keep_replaced::<T, F>(alloc, folder, latest),
+        Order::Note(latest) => folder.keep_replaced(latest),
         Order::Join(step) => folder.keep_joining(step),
         Order::Joined => keep_joined(process, notes, folder),
-    }
-}
-
-/// Writes what is known of replacements.
-fn keep_replaced<T: Tape, F: NodeFolder<T>>(
-    alloc: Global,
-    folder: &mut F,
-    latest: &Replacements,
-) -> Result<(), FolderError>
-    ensures stands { F.stands folder.new ≡ F.stands folder.old }
-{
-    match latest.text(alloc) {
-        Ok(text) => folder.keep_replaced(text),
-        Err(_) => Err(FolderError::Store(FolderFault::Memory)),
     }
 }
 

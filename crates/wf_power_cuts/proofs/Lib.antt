@@ -1,4 +1,4 @@
-mod DiskLemmas
+pub mod DiskLemmas
 mod Noting
 mod OneDisk
 mod Told

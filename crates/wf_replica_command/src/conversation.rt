@@ -16,6 +16,7 @@ use std::net::{Net, SocketAddr};
 use std::time::Clock;
 use wf_ballot::Seq;
 use wf_folder::FarmName;
+use wf_folder_log::FolderEvent;
 use wf_past::Past;
 use wf_reader::{Answerer, MOST_DISTANCE, Question, QuestionRejection, ReaderAnswer, Reply};
 use wf_replica::{AnswerFault, Asking, Follower, Misfit, Refusals};
@@ -371,7 +372,7 @@ fn log_learned<R: Clock + Eprint, T: Tape + Drop, N>(
         });
     }
     if had_tape && !follower.has_tape() {
-        context.log.write(&ReplicaEvent::TapeFailed);
+        context.log.write(&FolderEvent::TapeFailed);
     }
 }
 

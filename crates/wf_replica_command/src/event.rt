@@ -1,4 +1,4 @@
-//! The events of a replica, and their lines in its log.
+//! The events of a replica, and their lines in its log. Those of its folder are a `FolderEvent`.
 
 use std::fmt;
 use std::net::SocketAddr;
@@ -45,12 +45,6 @@ pub(crate) enum ReplicaEvent {
     Listening { http: SocketAddr },
     /// The replica has begun with what its tape has.
     Opened { published: u16 },
-    /// The tape was missing, and begins empty.
-    Missing,
-    /// The tape was damaged, and begins anew.
-    Damaged,
-    /// The tape has failed: the replica goes on in memory.
-    TapeFailed,
     /// Maps were learned, up to this sequence.
     Learned { published: u16 },
     /// A source is asked.
@@ -62,11 +56,9 @@ pub(crate) enum ReplicaEvent {
 impl LogEntry for ReplicaEvent {
     fn level(&self) -> Level {
         match self {
-            ReplicaEvent::TapeFailed => Level::Error,
-            ReplicaEvent::Damaged | ReplicaEvent::Lost { .. } => Level::Warn,
+            ReplicaEvent::Lost { .. } => Level::Warn,
             ReplicaEvent::Listening { .. }
             | ReplicaEvent::Opened { .. }
-            | ReplicaEvent::Missing
             | ReplicaEvent::Learned { .. }
             | ReplicaEvent::Asking { .. } => Level::Info,
         }
@@ -78,9 +70,6 @@ impl fmt::Display for ReplicaEvent {
         match self {
             ReplicaEvent::Listening { http } => write!(f, "listening http={http}"),
             ReplicaEvent::Opened { published } => write!(f, "opened published={published}"),
-            ReplicaEvent::Missing => f.write_str("tape-missing begun=anew"),
-            ReplicaEvent::Damaged => f.write_str("tape-damaged begun=anew"),
-            ReplicaEvent::TapeFailed => f.write_str("tape-failed goes-on=in-memory"),
             ReplicaEvent::Learned { published } => write!(f, "learned published={published}"),
             ReplicaEvent::Asking { source, address } => {
                 write!(f, "asking source={source} address={address}")

@@ -13,6 +13,7 @@ use crate::folder::claim;
 use crate::plan::{ReplicaPlan, plan_of};
 use crate::ready::ReadyReplica;
 use std::time::Clock;
+use wf_folder_log::FolderEvent;
 use wf_line::ReplicaLine;
 use wf_replica::{Follower, FoundTape};
 use wf_store::{FileName, Store, path_in};
@@ -170,7 +171,7 @@ fn look_for_tape<R: Clock + Eprint, S: Store>(store: &mut S, log: &Log<'_, R>)
         Err(_) => false,
     };
     if !is_there {
-        log.write(&ReplicaEvent::Missing);
+        log.write(&FolderEvent::TapeMissing);
     }
 }
 
@@ -178,8 +179,8 @@ fn look_for_tape<R: Clock + Eprint, S: Store>(store: &mut S, log: &Log<'_, R>)
 fn log_opened<R: Clock + Eprint>(log: &Log<'_, R>, found: FoundTape, published: u16) {
     match found {
         FoundTape::Published => {}
-        FoundTape::Damaged => log.write(&ReplicaEvent::Damaged),
-        FoundTape::Failed => log.write(&ReplicaEvent::TapeFailed),
+        FoundTape::Damaged => log.write(&FolderEvent::TapeDamaged),
+        FoundTape::Failed => log.write(&FolderEvent::TapeFailed),
     }
     log.write(&ReplicaEvent::Opened { published });
 }

@@ -18,4 +18,5 @@ mod NodeResponse
 mod Surveyed
 mod Checked
 mod Taken
+mod Causes
 mod Started

@@ -16,4 +16,5 @@ pub mod TapeCheck
 pub mod LongestTape
 pub mod TapesTaken
 pub mod StartCause
+pub mod FailedCall
 pub mod Start

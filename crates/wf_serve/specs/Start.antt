@@ -1,5 +1,5 @@
 -- A start of a farm on the folder of its tapes, by the calls of the folder, the latest first.
-use Rattle.std.specs.Prelude.{◌≡◌, ◌≢◌, ◌≤◌, ◌<◌, ◌⊎◌, ℕ, zero, suc, Bool, true, false, List, ◌∷◌, Option, Some, None, length, slice_index_or}
+use Rattle.std.specs.Prelude.{◌≡◌, ◌≢◌, ◌≤◌, ◌<◌, ◌⊎◌, ℕ, zero, suc, true, false, List, ◌∷◌, Option, Some, None, length, slice_index_or}
 use Rattle.wf_folder.specs.Admission.{IsStart}
 use Rattle.wf_folder.specs.FarmFile.{IsFarmFile, farm_text}
 use Rattle.wf_folder.specs.declared.admission.FoundFile.{FoundFile}
@@ -11,11 +11,13 @@ use Rattle.wf_folder.specs.declared.farm_file.Beginning.TheVariants as beginning
 use Rattle.wf_folder.specs.declared.farm_file.FarmFile.{FarmFile}
 use Rattle.wf_folder.specs.declared.presence.Presence.{Presence}
 use Rattle.wf_folder.specs.declared.presence.Presence.TheVariants.{Absent}
+use Rattle.wf_serve.specs.FailedCall.{IsCallCause, IsWhyStopped, is_early}
 use Rattle.wf_serve.specs.TapeCheck.{AreTapesChecked}
 use Rattle.wf_serve.specs.declared.event.Cause.{Cause}
-use Rattle.wf_serve.specs.declared.event.Cause.TheVariants.{FileUnwritten, Memory, TapeFailed}
+use Rattle.wf_serve.specs.declared.event.Cause.TheVariants as causes
 use Rattle.wf_serve.specs.declared.survey.Survey.{Survey}
 use Rattle.wf_store.specs.Call.{Call, IsAfter, changes, drawn, failed_at, locked, opened, read, replaced, seen, unreplaced}
+use Rattle.wf_store.specs.Fault.{IsWhyUnwritten}
 use Rattle.wf_store.specs.declared.file_name.FileName.TheVariants.{Farm, NodeTape}
 
 -- ---- what is in the folder
@@ -104,13 +106,6 @@ pub record IsFarmStarted (n : ℕ) (held new : List Call) : Type 0 where
 
 -- ---- what is left where it doesn't start
 
--- the cause is one that comes before any tape is opened
-abbrev pub is_early : Cause → Bool
-is_early (TapeFailed tape) = false
-is_early FileUnwritten = false
-is_early Memory = false
-is_early cause = true
-
 -- a file `farm` of such a farm was tried to be written
 abbrev pub IsFarmTried : List Call → List Call → Type 0
 IsFarmTried old new = (file : FarmFile) × IsFarmFile file × (new ≡ unreplaced Farm (farm_text file) ∷ old)
@@ -121,13 +116,14 @@ abbrev pub IsStoppedAt : ℕ → ℕ → List Call → List Call → Type 0
 IsStoppedAt n count before after = (after ≡ tape_opens count before) ⊎ ((count < n) × (after ≡ failed_at (NodeTape count) ∷ tape_opens count before)) ⊎ IsFarmTried (tape_opens n before) after
 
 -- The farm didn't start: the first of its tapes were opened, or none was; and none was for an early
--- cause.
+-- cause. If a call failed, it was the last one.
 pub record IsFarmRejected (n : ℕ) (cause : Cause) (old new : List Call) : Type 0 where
   pub after : IsAfter old new
   pub count : ℕ
   pub most : count ≤ n
   pub stopped : IsStoppedAt n count (changes old) (changes new)
   pub early : is_early cause ≡ true → changes new ≡ changes old
+  pub why : IsCallCause n cause old new
 
 -- no connection was served: the farm started, but its port wasn't printed; or it didn't start
 abbrev pub HasNotServed : ℕ → List Call → List Call → Type 0
@@ -146,8 +142,10 @@ pub record IsTapeStopped (number : ℕ) (cause : Cause) (old new : List Call) : 
   pub after : IsAfter old new
   pub changed : (changes new ≡ changes old) ⊎ (changes new ≡ failed_at (NodeTape number) ∷ changes old) ⊎ (changes new ≡ opened (NodeTape number) ∷ changes old)
   pub late : is_early cause ≡ false
+  pub why : IsWhyStopped number cause old new
 
 -- The file `farm` isn't written: its text wasn't made, or to write it failed.
-pub record IsFarmUnwritten (cause : Cause) (old new : List Call) : Type 0 where
-  pub left : (new ≡ old) ⊎ IsFarmTried old new
-  pub late : is_early cause ≡ false
+abbrev pub IsFarmUnwritten : Cause → List Call → List Call → Type 0
+IsFarmUnwritten (causes.Folder why) old new = IsWhyUnwritten Farm why × IsFarmTried old new
+IsFarmUnwritten causes.Memory old new = new ≡ old
+IsFarmUnwritten cause old new = ⊥

@@ -5,6 +5,7 @@ ghost use Rattle.wf_folder.specs.Admission.{IsStart};
 ghost use Rattle.wf_node.specs.Node.{stored_of};
 ghost use Rattle.wf_node.specs.OpenedNode.{IsFoldOf};
 ghost use Rattle.wf_serve.specs.Difference.{Agree, AgreeAt, DifferAt};
+ghost use Rattle.wf_serve.specs.FailedCall.{IsCallCause, IsWhyTapeUnread};
 ghost use Rattle.wf_serve.specs.TapeCheck.{AreTapesChecked, IsTapeRead};
 ghost use Rattle.wf_serve.specs.LongestTape.{IsKeptOrNext, IsLongerOf, IsNextChecked, IsNextLongest, IsOneOfTwo, IsWhyDifferent, IsWhyNoNode, IsWhyNotNext, cause_of};
 ghost use Rattle.wf_serve.specs.StartCause.{IsStartCause, start_cause};
@@ -21,7 +22,7 @@ use wf_journal::OpenFault;
 use wf_learner::History;
 use wf_listing::MOST_TAPE_BYTES;
 use wf_node::Node;
-use wf_store::{FileName, FolderFault, Store};
+use wf_store::{FileName, Store};
 use wf_tape::MemoryTape;
 
 /// The node that has published most so far, and its number.
@@ -46,6 +47,8 @@ pub fn check_tapes<S: Store>(
     ensures checked { OnOk result
         (AreTapesChecked n tapes.now (S.calls store.old) (S.calls store.new)) }
     ensures reads { OnlyReads (S.calls store.old) (S.calls store.new) }
+    ensures cause { IfErr result
+        (λ cause. IsCallCause n cause (S.calls store.old) (S.calls store.new)) }
 {
     let mut longest = None;
     for number in 0..n {
@@ -114,6 +117,7 @@ pub(crate) fn cause_of_rejection(why: StartRejection) -> Cause
 }
 
 /// Reads the next tape. Returns the node that has published most by then.
+#[tactic(auto, using(crate::proofs::Causes::unread_tape))]
 fn check_next<S: Store>(
     alloc: Global,
     store: &mut S,
@@ -127,6 +131,8 @@ fn check_next<S: Store>(
     ensures next { IfOk result (λ longer.
         IsNextChecked presence number longest longer (S.calls store.old) (S.calls store.new)) }
     ensures reads { OnlyReads (S.calls store.old) (S.calls store.new) }
+    ensures cause { IfErr result
+        (λ cause. IsCallCause n cause (S.calls store.old) (S.calls store.new)) }
 {
     match tape_bytes(alloc, store, number, presence) {
         Ok(bytes) => with_next(alloc, longest, bytes, number, n),
@@ -147,6 +153,8 @@ fn tape_bytes<S: Store>(
     ensures read { IfOk result (λ bytes.
         IsTapeRead presence number bytes.items (S.calls store.old) (S.calls store.new)) }
     ensures reads { OnlyReads (S.calls store.old) (S.calls store.new) }
+    ensures cause { IfErr result
+        (λ cause. IsWhyTapeUnread number cause (S.calls store.old) (S.calls store.new)) }
 {
     match presence {
         Presence::Written => read_tape(store, number),
@@ -154,20 +162,23 @@ fn tape_bytes<S: Store>(
     }
 }
 
-/// The bytes of a tape that is there.
+/// The bytes of a tape that was there.
+#[tactic(auto, using(crate::proofs::Causes::too_long))]
 fn read_tape<S: Store>(store: &mut S, number: u8) -> Result<Vec<u8>, Cause>
     ensures read { IfOk result (λ bytes.
         S.calls store.new ≡ read (NodeTape number) (Some bytes.items) ∷ S.calls store.old) }
     ensures reads { OnlyReads (S.calls store.old) (S.calls store.new) }
+    ensures cause { IfErr result
+        (λ cause. IsWhyTapeUnread number cause (S.calls store.old) (S.calls store.new)) }
 {
     match store.read(FileName::NodeTape(number), MOST_TAPE_BYTES + 1) {
         Ok(Some(bytes)) if bytes.len() <= MOST_TAPE_BYTES => Ok(bytes),
-        Ok(found) => {
-            drop(found);
-            Err(Cause::TapeUnreadable(number as usize))
+        Ok(Some(bytes)) => {
+            drop(bytes);
+            Err(Cause::TapeTooLong(number as usize))
         }
-        Err(FolderFault::Memory) => Err(Cause::Memory),
-        Err(_) => Err(Cause::TapeUnreadable(number as usize)),
+        Ok(None) => Err(Cause::TapeVanished(number as usize)),
+        Err(fault) => Err(Cause::Folder(fault)),
     }
 }
 

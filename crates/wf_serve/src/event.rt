@@ -1,7 +1,8 @@
-//! The events of a farm that is served, and their lines in its log.
+//! The events of a farm that is served, and their lines in its log. Those of its folder are a
+//! `FolderEvent`.
 
 use std::fmt;
-use wf_folder::Beginning;
+use wf_store::{FileName, FolderFault};
 use wf_visitors::{Level, LogEntry};
 
 /// An event. Nodes are named by their numbers.
@@ -10,20 +11,6 @@ pub enum ServeEvent<'a> {
     /// The port is bound.
     Port {
         port: u16,
-    },
-    /// The folder is the farm's.
-    Folder {
-        folder: &'a str,
-        nodes: u8,
-        beginning: Beginning,
-    },
-    /// A tape has opened: its bytes before that and now, if the system says, and whether it was
-    /// shortened.
-    Tape {
-        path: &'a str,
-        before: Option<u64>,
-        after: Option<u64>,
-        is_short: bool,
     },
     /// A node has caught up.
     CaughtUp {
@@ -75,10 +62,8 @@ pub struct StartFault<'a> {
 pub enum Cause {
     /// The port is taken, or not permitted.
     Port(u16),
-    /// The folder isn't there, or can't be opened.
-    NoFolder,
-    /// Another program has the folder.
-    FolderHeld,
+    /// A call of the folder failed.
+    Folder(FolderFault),
     /// The file `farm` isn't one of this program and version.
     BadFile(wf_folder::FileFault),
     /// The folder is that of a farm of another number of nodes.
@@ -98,16 +83,12 @@ pub enum Cause {
         tape: usize,
         other: usize,
     },
-    /// A tape can't be read.
-    TapeUnreadable(usize),
-    /// A tape can't be opened, or failed then.
+    /// A tape that was seen isn't there when it is read.
+    TapeVanished(usize),
+    /// A tape has more bytes than the longest one.
+    TapeTooLong(usize),
+    /// No node opens on a tape: the tape failed, or an allocation.
     TapeFailed(usize),
-    /// The file `farm` can't be read.
-    FileUnreadable,
-    /// The file `farm` can't be written.
-    FileUnwritten,
-    /// The system gives no random bits.
-    NoRandomBits,
     /// An allocation failed.
     Memory,
 }
@@ -118,8 +99,6 @@ impl LogEntry for ServeEvent<'_> {
             ServeEvent::Fault(_) | ServeEvent::Halted { .. } => Level::Error,
             ServeEvent::Rejected { .. } | ServeEvent::Overtaken { .. } => Level::Warn,
             ServeEvent::Port { .. }
-            | ServeEvent::Folder { .. }
-            | ServeEvent::Tape { .. }
             | ServeEvent::CaughtUp { .. }
             | ServeEvent::Proposed { .. }
             | ServeEvent::Published { .. }
@@ -132,28 +111,6 @@ impl fmt::Display for ServeEvent<'_> {
     fn fmt<W: fmt::Write>(&self, f: &mut fmt::Formatter<W>) -> fmt::Result {
         match self {
             ServeEvent::Port { port } => write!(f, "listening port={port}"),
-            ServeEvent::Folder {
-                folder,
-                nodes,
-                beginning,
-            } => {
-                let began = match beginning {
-                    Beginning::Empty => "empty",
-                    Beginning::Found => "found",
-                };
-                write!(f, "folder path={folder:?} nodes={nodes} began={began}")
-            }
-            ServeEvent::Tape {
-                path,
-                before,
-                after,
-                is_short,
-            } => {
-                write!(f, "tape file={path:?}")?;
-                write_count(f, "before", *before)?;
-                write_count(f, "after", *after)?;
-                write!(f, " shortened={is_short}")
-            }
             ServeEvent::CaughtUp { node, published } => {
                 write!(f, "caught-up node={node} published={published}")
             }
@@ -179,18 +136,6 @@ impl fmt::Display for ServeEvent<'_> {
     }
 }
 
-/// Writes a count of bytes, if it is known.
-fn write_count<W: fmt::Write>(
-    f: &mut fmt::Formatter<W>,
-    key: &str,
-    count: Option<u64>,
-) -> fmt::Result {
-    match count {
-        Some(count) => write!(f, " {key}={count}"),
-        None => Ok(()),
-    }
-}
-
 impl fmt::Display for StartFault<'_> {
     fn fmt<W: fmt::Write>(&self, f: &mut fmt::Formatter<W>) -> fmt::Result {
         write!(f, "cause=\"{}\"", self.cause)?;
@@ -205,9 +150,11 @@ impl StartFault<'_> {
     /// Writes the file that the fault is about, or the folder.
     fn write_place<W: fmt::Write>(&self, f: &mut fmt::Formatter<W>, folder: &str) -> fmt::Result {
         match self.cause {
+            Cause::Folder(fault) => write_failed(f, folder, fault),
             Cause::TapeMissing(tape)
             | Cause::TapeSurplus(tape)
-            | Cause::TapeUnreadable(tape)
+            | Cause::TapeVanished(tape)
+            | Cause::TapeTooLong(tape)
             | Cause::TapeFailed(tape) => write_tape(f, "file", folder, tape),
             Cause::TapeBad { tape, offset } => {
                 write_tape(f, "file", folder, tape)?;
@@ -222,16 +169,30 @@ impl StartFault<'_> {
                 write_tape(f, "other", folder, other)?;
                 write!(f, " sequence={sequence}")
             }
-            Cause::BadFile(_) | Cause::FileUnreadable | Cause::FileUnwritten => {
-                write!(f, " file=\"{folder}/farm\"")
+            Cause::BadFile(_) => write!(f, " file=\"{folder}/farm\""),
+            Cause::Port(_) | Cause::OtherNodes(_) | Cause::Memory => {
+                write!(f, " folder={folder:?}")
             }
-            Cause::Port(_)
-            | Cause::NoFolder
-            | Cause::FolderHeld
-            | Cause::OtherNodes(_)
-            | Cause::NoRandomBits
-            | Cause::Memory => write!(f, " folder={folder:?}"),
         }
+    }
+}
+
+/// Writes the file that a failed call is about, or the folder.
+fn write_failed<W: fmt::Write>(
+    f: &mut fmt::Formatter<W>,
+    folder: &str,
+    fault: FolderFault,
+) -> fmt::Result {
+    match fault {
+        FolderFault::Unread(file, _)
+        | FolderFault::Unopened(file)
+        | FolderFault::Unwritten(file, _) => write!(f, " file=\"{folder}/{file}\""),
+        FolderFault::NoFolder(_)
+        | FolderFault::Held
+        | FolderFault::Unmade(_)
+        | FolderFault::Unlisted(_)
+        | FolderFault::NoRandomBits(_)
+        | FolderFault::Memory => write!(f, " folder={folder:?}"),
     }
 }
 
@@ -249,8 +210,7 @@ impl fmt::Display for Cause {
     fn fmt<W: fmt::Write>(&self, f: &mut fmt::Formatter<W>) -> fmt::Result {
         match self {
             Cause::Port(port) => write!(f, "port {port} taken or not permitted"),
-            Cause::NoFolder => f.write_str("folder missing"),
-            Cause::FolderHeld => f.write_str("folder held by another program"),
+            Cause::Folder(fault) => write_call(f, *fault),
             Cause::BadFile(fault) => write!(f, "{fault}"),
             Cause::OtherNodes(nodes) => write!(
                 f,
@@ -260,12 +220,25 @@ impl fmt::Display for Cause {
             Cause::TapeSurplus(_) => f.write_str("a tape too many"),
             Cause::TapeBad { .. } => f.write_str("tape bad"),
             Cause::TapesDiffer { .. } => f.write_str("tapes differ"),
-            Cause::TapeUnreadable(_) => f.write_str("tape unreadable"),
+            Cause::TapeVanished(_) | Cause::TapeTooLong(_) => f.write_str("tape unreadable"),
             Cause::TapeFailed(_) => f.write_str("tape failed"),
-            Cause::FileUnreadable => f.write_str("file unreadable"),
-            Cause::FileUnwritten => f.write_str("file can't be written"),
-            Cause::NoRandomBits => f.write_str("no random bits"),
             Cause::Memory => f.write_str("allocation failed"),
         }
+    }
+}
+
+/// Writes which call of the folder failed; the system's cause is left out.
+fn write_call<W: fmt::Write>(f: &mut fmt::Formatter<W>, fault: FolderFault) -> fmt::Result {
+    match fault {
+        FolderFault::Unread(FileName::NodeTape(_), _) => f.write_str("tape unreadable"),
+        FolderFault::Unread(_, _) => f.write_str("file unreadable"),
+        FolderFault::Unopened(_) => f.write_str("tape failed"),
+        FolderFault::Unwritten(_, _) => f.write_str("file can't be written"),
+        FolderFault::Memory => f.write_str("allocation failed"),
+        FolderFault::NoFolder(_)
+        | FolderFault::Held
+        | FolderFault::Unmade(_)
+        | FolderFault::Unlisted(_)
+        | FolderFault::NoRandomBits(_) => write!(f, "{fault}"),
     }
 }

@@ -13,7 +13,8 @@
 //! [`inspect`] looks what is in a folder, [`check_tapes`] reads its tapes, [`examine`] says whether
 //! the nodes of its farm would start on it, a [`TapeCheck`] whether tapes that others read are
 //! sound, and no two contradict each other (`specs/TapesTaken.antt`). A [`Log`] writes each
-//! [`ServeEvent`] on standard error, a [`StartFault`] with its [`Cause`].
+//! [`ServeEvent`] and each `FolderEvent` of `wf_folder_log` on standard error, a [`StartFault`]
+//! with its [`Cause`].
 //!
 //! **Promises.**
 //! - A connection is served by the farm's node at the given index with its cache, as by `wf_edge`'s
@@ -39,7 +40,8 @@
 //!   are read, their records fold, and no two contradict each other (`specs/TapeCheck.antt`); only
 //!   then each is opened, node i's as `node-i.tape`; and a folder without a file `farm` gets it
 //!   last, with a mark that was drawn. A start that is rejected before a tape is opened changed no
-//!   file; of a later one it is known which tapes were opened.
+//!   file; of a later one it is known which tapes were opened. If it is rejected for a call of the
+//!   folder that failed, that was the last one, and the cause says which (`specs/FailedCall.antt`).
 //! - [`first_difference`] of two histories: the sequence under which they have different
 //!   definitions, none only if they have no different ones (`specs/Difference.antt`).
 //! - The port: the line that is written names it, and it is the requested one unless that is 0. An

@@ -1,22 +1,25 @@
 //! Opening the nodes.
-ghost use Rattle.std.specs.Prelude.{◌≡◌, ◌<◌, ◌≤◌, ◌+◌, ◌∷◌, length, IfErr, IfOk, OnOk};
+ghost use Rattle.std.specs.Prelude.{◌≡◌, ◌<◌, ◌≤◌, ◌+◌, ◌∷◌, length, IfErr, IfOk, OnErr, OnOk};
 ghost use Rattle.wf_farm.specs.Farm.{size};
 ghost use Rattle.wf_farm.specs.Nodes.{AllRun, nodes_in};
 ghost use Rattle.wf_folder.specs.Admission.{IsStart};
 ghost use Rattle.wf_folder.specs.FarmFile.{IsFarmFile, farm_text};
+ghost use Rattle.wf_serve.specs.FailedCall.{unopened_cause};
 ghost use Rattle.wf_serve.specs.OpenedNodes.{AreOpened, WasRead, WereRead};
 ghost use Rattle.wf_serve.specs.Start.{HaveOpened, IsMarkDrawn, IsFarmAdmitted, IsFarmBegun, IsFarmRejected, IsFarmStarted, IsFiled, IsNodeTapeOpened, IsTapeStopped, IsFarmUnwritten, IsFarmWritten};
-ghost use Rattle.wf_store.specs.Call.{OnlyReads, locked, replaced};
+ghost use Rattle.wf_store.specs.Call.{OnlyReads, failed, locked, replaced};
+ghost use Rattle.wf_store.specs.Fault.{IsWhyUndrawn};
 
 use crate::check::{cause_of_rejection, check_tapes};
 use crate::compaction::open_shortened;
-use crate::event::{Cause, ServeEvent};
+use crate::event::Cause;
 use crate::survey::{Survey, inspect};
 use std::alloc::{AllocError, Global};
 use std::time::Clock;
 use wf_ballot::NodeId;
 use wf_farm::{Farm, NodeHost};
 use wf_folder::{Beginning, FarmFile, Start, admit};
+use wf_folder_log::FolderEvent;
 use wf_node::Node;
 use wf_store::{FileName, FolderFault, Store, path_in};
 use wf_tape::Tape;
@@ -27,7 +30,7 @@ use wf_visitors::Log;
 /// read, and its tapes are read before any is opened: if another program has locked it, it isn't
 /// the farm's, a tape is bad or two differ, nothing in it changes. The path is for the log alone.
 /// The folder's tapes are of a kind that isn't known to be durable, as a file isn't (`Farm::open`).
-#[tactic(auto, using(crate::proofs::Started::only_read))]
+#[tactic(auto, using(crate::proofs::Started::unlocked))]
 pub fn open_folder<R: Eprint + Clock, S: Store>(
     alloc: Global,
     log: &Log<'_, R>,
@@ -48,13 +51,12 @@ pub fn open_folder<R: Eprint + Clock, S: Store>(
 {
     match store.lock() {
         Ok(()) => open_locked(alloc, log, store, n, folder),
-        Err(FolderFault::Held) => Err(Cause::FolderHeld),
-        Err(_) => Err(Cause::NoFolder),
+        Err(fault) => Err(Cause::Folder(fault)),
     }
 }
 
 /// The farm of n nodes on their tapes in a locked folder.
-#[tactic(auto, using(crate::proofs::Started::only_read))]
+#[tactic(auto, using(crate::proofs::Started::unsurveyed))]
 fn open_locked<R: Eprint + Clock, S: Store>(
     alloc: Global,
     log: &Log<'_, R>,
@@ -77,7 +79,7 @@ fn open_locked<R: Eprint + Clock, S: Store>(
             Ok(start) => open_admitted(alloc, log, store, n, folder, &survey, start),
             Err(why) => Err(cause_of_rejection(why)),
         },
-        Err(cause) => Err(cause),
+        Err(fault) => Err(Cause::Folder(fault)),
     }
 }
 
@@ -141,7 +143,7 @@ fn open_started<R: Eprint + Clock, S: Store>(
 }
 
 /// The farm on a folder that has no file: it gets one once the tapes are open.
-#[tactic(auto, using(crate::proofs::Started::only_read))]
+#[tactic(auto, using(crate::proofs::Started::undrawn))]
 fn open_new<R: Eprint + Clock, S: Store>(
     alloc: Global,
     log: &Log<'_, R>,
@@ -162,21 +164,23 @@ fn open_new<R: Eprint + Clock, S: Store>(
 {
     match draw_file(store, n, beginning) {
         Ok(file) => open_with(alloc, log, store, n, folder, &file),
-        Err(cause) => Err(cause),
+        Err(fault) => Err(Cause::Folder(fault)),
     }
 }
 
 /// A file `farm` with a new mark.
-fn draw_file<S: Store>(store: &mut S, n: u8, beginning: Beginning) -> Result<FarmFile, Cause>
+fn draw_file<S: Store>(store: &mut S, n: u8, beginning: Beginning) -> Result<FarmFile, FolderFault>
     requires some { 1 ≤ n }
     requires most { n ≤ 64 }
     ensures drawn { IfOk result
         (λ file. IsMarkDrawn n beginning file (S.calls store.old) (S.calls store.new)) }
     ensures reads { OnlyReads (S.calls store.old) (S.calls store.new) }
+    ensures last { OnErr result (S.calls store.new ≡ failed ∷ S.calls store.old) }
+    ensures cause { IfErr result IsWhyUndrawn }
 {
     match store.draw() {
         Ok(mark) => Ok(FarmFile::new(n, beginning, mark)),
-        Err(_) => Err(Cause::NoRandomBits),
+        Err(fault) => Err(fault),
     }
 }
 
@@ -217,7 +221,7 @@ fn open_with<R: Eprint + Clock, S: Store>(
 
 /// Writes to the log whose the folder is.
 fn write_folder<R: Eprint + Clock>(log: &Log<'_, R>, folder: &str, file: &FarmFile) {
-    log.write(&ServeEvent::Folder {
+    log.write(&FolderEvent::Farm {
         folder,
         nodes: file.nodes,
         beginning: file.beginning,
@@ -225,7 +229,7 @@ fn write_folder<R: Eprint + Clock>(log: &Log<'_, R>, folder: &str, file: &FarmFi
 }
 
 /// Writes the file `farm`.
-#[tactic(auto, using(crate::proofs::Started::no_text, crate::proofs::Started::not_written))]
+#[tactic(auto, using(crate::proofs::Started::not_written))]
 fn write_file<S: Store>(alloc: Global, store: &mut S, file: &FarmFile) -> Result<(), Cause>
     requires { IsFarmFile file.now }
     ensures written { OnOk result
@@ -238,8 +242,7 @@ fn write_file<S: Store>(alloc: Global, store: &mut S, file: &FarmFile) -> Result
     };
     match store.replace(FileName::Farm, text) {
         Ok(()) => Ok(()),
-        Err(FolderFault::Memory) => Err(Cause::Memory),
-        Err(_) => Err(Cause::FileUnwritten),
+        Err(fault) => Err(Cause::Folder(fault)),
     }
 }
 
@@ -325,13 +328,14 @@ fn add_node<R: Eprint + Clock, S: Store>(
         (λ cause. IsTapeStopped number cause (S.calls store.old) (S.calls store.new)) }
 {
     let before = store.length(FileName::NodeTape(number));
-    let Ok(tape) = store.open(FileName::NodeTape(number)) else {
-        return Err(Cause::TapeFailed(number as usize));
+    let tape = match store.open(FileName::NodeTape(number)) {
+        Ok(tape) => tape,
+        Err(fault) => return Err(unopened(number, fault)),
     };
     match open_shortened(alloc, tape, id_of(number), n) {
         Ok((node, is_short)) => {
             let after = store.length(FileName::NodeTape(number));
-            log.write(&ServeEvent::Tape {
+            log.write(&FolderEvent::TapeOpened {
                 path,
                 before,
                 after,
@@ -346,6 +350,17 @@ fn add_node<R: Eprint + Clock, S: Store>(
             drop(tape);
             Err(Cause::TapeFailed(number as usize))
         }
+    }
+}
+
+/// The cause of a tape that isn't opened: an allocation that fails there counts as the tape's, and
+/// the line in the log names that.
+fn unopened(number: u8, fault: FolderFault) -> Cause
+    ensures { result ≡ unopened_cause number fault }
+{
+    match fault {
+        FolderFault::Memory => Cause::TapeFailed(number as usize),
+        _ => Cause::Folder(fault),
     }
 }
 

@@ -1,11 +1,10 @@
 //! What is in a farm's folder: its file `farm`, and its tapes.
-ghost use Rattle.std.specs.Prelude.{◌≡◌, ◌∷◌, Some, length, IfOk};
+ghost use Rattle.std.specs.Prelude.{◌≡◌, Some, length, IfErr, IfOk};
 ghost use Rattle.wf_folder.specs.declared.presence.Presence.TheVariants.{Absent};
+ghost use Rattle.wf_serve.specs.FailedCall.{IsWhyUnsurveyed};
 ghost use Rattle.wf_serve.specs.Start.{HasFound, IsFarmFileFound, IsSurveyed, looks};
-ghost use Rattle.wf_store.specs.Call.{OnlyReads, read, seen};
-ghost use Rattle.wf_store.specs.declared.file_name.FileName.TheVariants.{Farm, NodeTape};
+ghost use Rattle.wf_store.specs.Call.{OnlyReads};
 
-use crate::event::Cause;
 use wf_ballot::NODES;
 use wf_folder::{FarmFile, FoundFile, Presence};
 use wf_store::{FileName, FolderFault, Store};
@@ -25,57 +24,50 @@ pub struct Survey {
 /// Looks what is in a folder, and changes nothing. Err: the system doesn't say, or an allocation
 /// fails.
 #[tactic(auto, using(crate::proofs::Surveyed::surveyed, wf_store::specs::CallTheorems::reads_both))]
-pub fn inspect<S: Store>(store: &mut S) -> Result<Survey, Cause>
+pub fn inspect<S: Store>(store: &mut S) -> Result<Survey, FolderFault>
     ensures surveyed { IfOk result
         (λ survey. IsSurveyed survey (S.calls store.old) (S.calls store.new)) }
     ensures size { IfOk result (λ survey. length survey.tapes ≡ 64) }
     ensures reads { OnlyReads (S.calls store.old) (S.calls store.new) }
+    ensures cause { IfErr result
+        (λ why. IsWhyUnsurveyed why (S.calls store.old) (S.calls store.new)) }
 {
     match find_farm(store) {
         Ok(found) => match look_for_tapes(store) {
             Ok(tapes) => Ok(Survey { found, tapes }),
-            Err(cause) => Err(cause),
+            Err(fault) => Err(fault),
         },
-        Err(cause) => Err(cause),
+        Err(fault) => Err(fault),
     }
 }
 
 /// Whether each tape that a farm may have is there.
 #[tactic(auto, using(wf_store::specs::CallTheorems::reads_both))]
-fn look_for_tapes<S: Store>(store: &mut S) -> Result<[Presence; 64], Cause>
+fn look_for_tapes<S: Store>(store: &mut S) -> Result<[Presence; 64], FolderFault>
     ensures seen { IfOk result
         (λ tapes. S.calls store.new ≡ looks tapes 64 (S.calls store.old)) }
     ensures size { IfOk result (λ tapes. length tapes ≡ 64) }
     ensures reads { OnlyReads (S.calls store.old) (S.calls store.new) }
+    ensures cause { IfErr result
+        (λ why. IsWhyUnsurveyed why (S.calls store.old) (S.calls store.new)) }
 {
     let mut tapes = [Presence::Absent; 64];
     for number in 0..NODES {
-        match look_for_tape(store, number) {
+        match store.presence(FileName::NodeTape(number)) {
             Ok(there) => tapes[number as usize] = there,
-            Err(cause) => return Err(cause),
+            Err(fault) => return Err(fault),
         }
     }
     Ok(tapes)
 }
 
-/// Whether the tape of a node is there.
-fn look_for_tape<S: Store>(store: &mut S, number: u8) -> Result<Presence, Cause>
-    ensures seen { IfOk result
-        (λ there. S.calls store.new ≡ seen (NodeTape number) there ∷ S.calls store.old) }
-    ensures reads { OnlyReads (S.calls store.old) (S.calls store.new) }
-{
-    match store.presence(FileName::NodeTape(number)) {
-        Ok(presence) => Ok(presence),
-        Err(FolderFault::Memory) => Err(Cause::Memory),
-        Err(_) => Err(Cause::TapeUnreadable(number as usize)),
-    }
-}
-
 /// What the file `farm` says, if it is there.
-#[tactic(auto, using(crate::proofs::Surveyed::none_found, crate::proofs::Surveyed::one_found))]
-fn find_farm<S: Store>(store: &mut S) -> Result<FoundFile, Cause>
+#[tactic(auto, using(crate::proofs::Surveyed::none_found, crate::proofs::Surveyed::one_found, crate::proofs::Surveyed::unread))]
+fn find_farm<S: Store>(store: &mut S) -> Result<FoundFile, FolderFault>
     ensures found { IfOk result (λ found. HasFound found (S.calls store.old) (S.calls store.new)) }
     ensures reads { OnlyReads (S.calls store.old) (S.calls store.new) }
+    ensures cause { IfErr result
+        (λ why. IsWhyUnsurveyed why (S.calls store.old) (S.calls store.new)) }
 {
     match store.read(FileName::Farm, MOST_FILE_BYTES) {
         Ok(None) => Ok(FoundFile::Nothing),
@@ -84,8 +76,7 @@ fn find_farm<S: Store>(store: &mut S) -> Result<FoundFile, Cause>
             drop(bytes);
             Ok(found)
         }
-        Err(FolderFault::Memory) => Err(Cause::Memory),
-        Err(_) => Err(Cause::FileUnreadable),
+        Err(fault) => Err(fault),
     }
 }
 

@@ -1,5 +1,6 @@
 //! A node whose tape has failed opens it again, as the node that it was.
 ghost use Rattle.std.specs.Prelude.{◌≡◌, ◌+◌, IfOk, OnErr, OnOk};
+ghost use Rattle.wf_peer.specs.PeerProgressText.{peer_progress_text};
 ghost use Rattle.wf_voter.specs.Folder.{IsHeardPut, Stand, counted};
 
 use std::fmt;
@@ -9,7 +10,8 @@ use wf_actor::{Process, ReopenFault};
 use wf_digest::Digests;
 use wf_folder::{Reach, Suspension};
 use wf_membership::FolderError;
-use wf_rejoin::JoinStep;
+use wf_peer::PeerProgress;
+use wf_rejoin::{JoinStep, Replacements};
 use wf_store::FileName;
 use wf_tape::Tape;
 use wf_visitors::{Level, LogEntry};
@@ -87,16 +89,17 @@ pub trait NodeFolder<T> {
     fn suspend(&mut self, suspension: Suspension) -> Result<(), FolderError>
         ensures { stands self.new ≡ stands self.old };
 
-    /// Puts a text in the place of the file `heard`, what was heard of the peers: synced, with the
-    /// folder, if the folder at its path is the one that is locked. After an error the text from
-    /// before or this one is there.
-    fn keep_heard(&mut self, text: Vec<u8>) -> Result<(), FolderError>
-        ensures { IsHeardPut result text.items (stands self.old) (stands self.new) };
+    /// Puts what was heard of the peers in the place of the file `heard`: synced, with the folder,
+    /// if the folder at its path is the one that is locked. After an error the file has what it had
+    /// or this.
+    fn keep_heard(&mut self, heard: &PeerProgress) -> Result<(), FolderError>
+        ensures { IsHeardPut result (peer_progress_text heard.now)
+            (stands self.old) (stands self.new) };
 
-    /// Puts a text in the place of the file `replaced`, what is known of replacements: synced, with
-    /// the folder, if the folder at its path is the one that is locked. After an error the text
-    /// from before or this one is there.
-    fn keep_replaced(&mut self, text: Vec<u8>) -> Result<(), FolderError>
+    /// Puts what is known of replacements in the place of the file `replaced`: synced, with the
+    /// folder, if the folder at its path is the one that is locked. After an error the file has
+    /// what it had or this.
+    fn keep_replaced(&mut self, known: &Replacements) -> Result<(), FolderError>
         ensures { stands self.new ≡ stands self.old };
 
     /// Puts in the place of the file `joins` what it says once the folder, which joins, was told

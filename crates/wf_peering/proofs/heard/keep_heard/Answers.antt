@@ -7,13 +7,14 @@ use Rattle.wf_peer.specs.PeerProgressText.{peer_progress_text}
 use Rattle.wf_peer.specs.Told.{HearAll}
 use Rattle.wf_peer.specs.declared.heard.Heard.{Heard}
 
-pub returns-in-Ok-keep_heard : goal.returns-in-Ok-keep_heard
-returns-in-Ok-keep_heard g c =
-    let all = subst (λ (known : List (Option Heard)). HearAll c.args.voter.now.kept known) (sym c.known-voter.ensures) c.hold.ensures in
-    let text = (rw c.in-Some.is at c.in-Ok.ensures) ∙ ap peer_progress_text (sym c.known-voter.ensures) in
-    record { on = wrote g.T.Tape c.known-voter.result c.in-Some.text.items _ _ c.args.voter.now _ all text c.in-Ok-keep_heard.ensures refl }
+pub returns-in-Ok : goal.returns-in-Ok
+returns-in-Ok g c =
+    let same = rw c.in-Some.is at c.unsaved.ensures in
+    let all = subst (λ (known : List (Option Heard)). HearAll c.args.voter.now.kept known) (sym same) c.hold.ensures in
+    record { on = wrote g.T.Tape c.in-Some.heard (peer_progress_text c.in-Some.heard) _ _ c.args.voter.now _ all refl c.in-Ok.ensures refl }
 
 pub returns-in-Err : goal.returns-in-Err
 returns-in-Err g c =
-    let text = rw c.in-Some.is at c.in-Ok.ensures in
-    record { on = wrote_or_not g.T.Tape c.hold.new.self.known c.in-Some.text.items _ _ c.args.voter.now c.hold.ensures text c.in-Err.ensures }
+    let same = rw c.in-Some.is at c.unsaved.ensures in
+    let all = subst (λ (known : List (Option Heard)). HearAll c.args.voter.now.kept known) (sym same) c.hold.ensures in
+    record { on = wrote_or_not g.T.Tape c.in-Some.heard (peer_progress_text c.in-Some.heard) _ _ c.args.voter.now all refl c.in-Err.ensures }

@@ -1,5 +1,6 @@
 -- One tape more is read.
 use Rattle.std.proofs.Common.{◌≡◌, arith, refl}
+use Rattle.wf_serve.proofs.Causes.{cause_later}
 use Rattle.wf_serve.proofs.Checked.{all_checked, none_checked, one_more_checked}
 use Rattle.wf_serve.proofs.check.check_tapes.Goals as goal
 use Rattle.wf_store.specs.CallTheorems.{reads_both, reads_none}
@@ -20,3 +21,6 @@ returns-clause-checked g c =
 
 pub returns-in-Err-clause-reads : goal.returns-in-Err-clause-reads
 returns-in-Err-clause-reads g c = reads_both _ _ _ c.loop-number.invariant.reads c.check_next.ensures.reads
+
+pub returns-in-Err-clause-cause : goal.returns-in-Err-clause-cause
+returns-in-Err-clause-cause g c = cause_later c.args.n c.in-Err.cause _ _ _ c.loop-number.invariant.reads.after c.in-Err.ensures.cause
