@@ -19,6 +19,7 @@ It needs Debian's python3-mapscript and python3-shapely.
 """
 
 import contextlib
+import itertools
 import os
 import sys
 from dataclasses import replace
@@ -29,11 +30,10 @@ from maps.account import Teller, drop_block
 from maps.cutting import cut
 from maps.errors import MapError, Notes, library, saying
 from maps.geometry import DIGITS, checked, on_grid, whole_extent
-from maps.model import EXTENT_DIGITS, MOST_CLASSES, MOST_PIXELS, Feature, Layer, Map
-from maps.preview import MapServer, Painter
+from maps.model import EXTENT_DIGITS, LEAST_POINTS, MOST_CLASSES, MOST_PIXELS, Feature, Layer, Map
+from maps.preview import MapServer, Painter, picture_query, size_of
 from maps.preview import write as write_preview
-from maps.query import picture_query, size_of
-from maps.symbology import Symbology
+from maps.symbology import Symbology, has_scale
 
 OWN = {"4326": "init=epsg:4326", "3857": "init=epsg:3857"}
 OFFERED = {"4326": {"CRS:84", "EPSG:4326"}, "3857": {"EPSG:3857"}}  # the systems in which a farm answers
@@ -47,26 +47,20 @@ READ_BY_LIBRARY = ("ITEMS=", "NATIVE_FILTER=", "CLOSE_CONNECTION=")  # of PROCES
 
 def arguments():
     parser = options.parser_of(__doc__)
-    parser.add_argument("mapfile", help="the mapfile, beside which its data are")
-    parser.add_argument("--crs", choices=OWN,
-                        help="degrees (4326), or metres of the Mercator projection (3857)")
-    parser.add_argument("--source", metavar="EPSG:N", help="the system of a map or layer that names none")
-    parser.add_argument("--scale", type=options.whole(1, 999_999_999), metavar="N",
-                        help="draw it as at 1:N (the whole extent on 1,024 pixels)")
-    parser.add_argument("--extent", type=options.extent, metavar="MINX,MINY,MAXX,MAXY",
-                        help="in the units of --crs (that of the map); a negative one as "
-                             "--extent=-3,51,-2,52")
-    parser.add_argument("--layers", type=lambda text: text.split(","), metavar="NAME,..",
-                        help="these layers alone")
-    parser.add_argument("--keep", type=lambda text: text.split(","), default=[], metavar="ITEM,..",
-                        help="attributes to keep (none)")
-    parser.add_argument("--address", metavar="URL",
-                        help="the address that clients will use (the map's wms_onlineresource, with a "
-                             "warning)")
-    parser.add_argument("--report", type=Path, metavar="FILE",
-                        help="where to write, too, what was changed and left out")
-    parser.add_argument("--strict", action="store_true",
-                        help="status 1, and no map, if anything was changed or left out")
+    add = parser.add_argument
+    add("mapfile", help="the mapfile, beside which its data are")
+    add("--crs", choices=OWN, help="degrees (4326), or metres of the Mercator projection (3857)")
+    add("--source", metavar="EPSG:N", help="the system of a map or layer that names none")
+    add("--scale", type=options.whole(1, 999_999_999), metavar="N",
+        help="draw it as at 1:N (the whole extent on 1,024 pixels)")
+    add("--extent", type=options.extent, metavar="MINX,MINY,MAXX,MAXY",
+        help="in the units of --crs (that of the map); a negative one as --extent=-3,51,-2,52")
+    add("--layers", type=options.names, metavar="NAME,..", help="these layers alone")
+    add("--keep", type=options.names, default=[], metavar="ITEM,..", help="attributes to keep (none)")
+    add("--address", metavar="URL",
+        help="the address that clients will use (the map's wms_onlineresource, with a warning)")
+    add("--report", type=Path, metavar="FILE", help="where to write, too, what was changed and left out")
+    add("--strict", action="store_true", help="status 1, and no map, if anything was changed or left out")
     options.add_common(parser)
     return parser.parse_args()
 
@@ -79,36 +73,33 @@ class Importer:
         self.script = library("mapscript", "python3-mapscript")
         self.errors = (OSError, EOFError, TypeError, MemoryError, self.script.MapServerError,
                        self.script.MapServerChildError)
-        self.map = self.opened(asked.mapfile)
+        with saying(f"{asked.mapfile}: MapServer can't read it: @", *self.errors):
+            self.map = self.script.mapObj(asked.mapfile)
+            self.map.applyDefaultSubstitutions()
         self.written = mapfile.written(asked.mapfile)
         self.teller = Teller(notes, "map")
         self.shapes_read = self.shapes_drawn = 0
         self.own = self.map.getProjection()
-        self.crs = asked.crs or self.own_crs()
+        self.crs = asked.crs or crs_of(self.own)
+        if self.crs is None:
+            raise self.wrong(f"its system is {self.own or 'not named'}: write --crs 3857 or --crs 4326")
         self.target = self.script.projectionObj(OWN[self.crs])
         self.digits = DIGITS[self.crs] if asked.digits is None else asked.digits
         self.extent = self.sides()
         self.width, self.scale = self.width_and_scale()
         self.map.scaledenom = self.scale
         self.kept = {}  # the attributes that a layer keeps, by its name
+        self.kinds = {getattr(self.script, f"MS_LAYER_{kind}"): kind for kind in LEAST_POINTS}
 
-    def opened(self, path):
-        with saying(f"{path}: MapServer can't read it: @", *self.errors):
-            the_map = self.script.mapObj(path)
-            the_map.applyDefaultSubstitutions()
-            return the_map
+    def wrong(self, what):
+        return MapError(f"{self.asked.mapfile}: {what}")
 
     # ---- systems and extent
 
-    def own_crs(self):
-        for crs in OWN:
-            if self.own.lower().lstrip("+") == OWN[crs]:
-                return crs
-        raise MapError(f"{self.asked.mapfile}: its system is {self.own or 'not named'}: "
-                       f"write --crs 3857 or --crs 4326")
-
     def system(self, text, what):
-        """The system of a map or layer, that of --source if it names none."""
+        """The system of a map or layer, that of --source if it names none; None where it is the map's own."""
+        if crs_of(text) == self.crs:
+            return None
         text = text or (f"init={self.asked.source.lower()}" if self.asked.source else "")
         if not text:
             raise MapError(f"{what}: it has no PROJECTION, and the map has none: write --source EPSG: and "
@@ -116,41 +107,34 @@ class Importer:
         with saying(f"{what}: the system {text} isn't known: @", *self.errors):
             return self.script.projectionObj(text)
 
-    def is_target(self, text):
-        return text.lower().lstrip("+") == OWN[self.crs]
-
     def sides(self):
         """The extent of the map that is written, in its units."""
         if self.asked.extent:
             return self.asked.extent
         box = self.map.extent
         if box.minx >= box.maxx or box.miny >= box.maxy:
-            raise MapError(f"{self.asked.mapfile}: it has no EXTENT: write --extent")
-        box = self.script.rectObj(box.minx, box.miny, box.maxx, box.maxy)
-        if not self.is_target(self.own):
-            self.reproject(box, self.system(self.own, self.asked.mapfile), self.target)
-        checked([(box.minx, box.miny), (box.maxx, box.maxy)], self.crs, "POINT",
-                f"{self.asked.mapfile}: EXTENT")
-        return box.minx, box.miny, box.maxx, box.maxy
+            raise self.wrong("it has no EXTENT: write --extent")
+        system = self.system(self.own, self.asked.mapfile)
+        box = self.reprojected((box.minx, box.miny, box.maxx, box.maxy), system, self.target)
+        sides = box.minx, box.miny, box.maxx, box.maxy
+        checked([sides[:2], sides[2:]], self.crs, "POINT", f"{self.asked.mapfile}: EXTENT")
+        return sides
 
-    def box_in(self, system, is_target):
-        """The extent in another system."""
-        box = self.script.rectObj(*self.extent)
-        if not is_target:
-            self.reproject(box, self.target, system)
+    def reprojected(self, sides, source, target):
+        """The box with these sides in another system, or as it is where either is None."""
+        box = self.script.rectObj(*sides)
+        if source is not None and target is not None:
+            with saying(f"{self.asked.mapfile}: its extent can't be reprojected: @: write --extent",
+                        *self.errors):
+                box.project(source, target)
         return box
-
-    def reproject(self, box, source, target):
-        with saying(f"{self.asked.mapfile}: its extent can't be reprojected: @: write --extent",
-                    *self.errors):
-            box.project(source, target)
 
     def width_and_scale(self):
         """The width of the extent in the map's own units, and the scale: --scale, or that of the whole."""
         system = self.system(self.own, self.asked.mapfile)
-        box = self.box_in(system, self.is_target(self.own))
+        box = self.reprojected(self.extent, self.target, system)
         width, height = box.maxx - box.minx, box.maxy - box.miny
-        self.map.units = system.getUnits()
+        self.map.units = (system or self.target).getUnits()
         self.map.setSize(*(max(2, round(MOST_PIXELS * it / max(width, height))) for it in (width, height)))
         self.map.setExtent(box.minx, box.miny, box.maxx, box.maxy)
         return width, self.asked.scale or self.map.scaledenom
@@ -164,40 +148,34 @@ class Importer:
             layers += self.layers_of(layer, block, name)
         if not layers:
             why = [line for line in self.notes.lines() if line.startswith("layer ")]
-            raise MapError(f"{self.asked.mapfile}: nothing is drawn: {'; '.join(why) or 'it has no layers'}")
+            raise self.wrong(f"nothing is drawn: {'; '.join(why) or 'it has no layers'}")
         for item in self.asked.keep:
             if not any(item in items for items in self.kept.values()):
-                raise MapError(f"{self.asked.mapfile}: no layer has the attribute {item!r} of --keep")
-        own_texts = [texts.plain(text, self.teller, "the map's texts") for text in self.map_texts()]
+                raise self.wrong(f"no layer has the attribute {item!r} of --keep")
+        name, metadata = self.map.name or "map", self.map.web.metadata
+        title, abstract, address = (first_of(metadata, keys) for keys in (TITLES, ABSTRACTS, ADDRESSES))
+        address = self.asked.address or address or "http://localhost/wms?"
+        own_texts = [texts.plain(text, self.teller, "the map's texts")
+                     for text in (name, title or name, abstract, address)]
         whole = Map(*own_texts, self.crs, self.digits, whole_extent(self.extent, self.digits),
                     with_own_names(layers, self.notes))
-        return self.cut(whole) if self.asked.extent else whole
-
-    def cut(self, whole):
+        if not self.asked.extent:
+            return whole
         result = cut(whole, self.teller)
-        before, after = (sum(len(layer.features) for layer in each.layers) for each in (whole, result))
-        self.shapes_drawn -= before - after
+        self.shapes_drawn -= len(whole.features()) - len(result.features())
         return result
-
-    def map_texts(self):
-        metadata = self.map.web.metadata
-        name = self.map.name or "map"
-        title = first_of(metadata, TITLES) or name
-        address = self.asked.address or first_of(metadata, ADDRESSES) or "http://localhost/wms?"
-        return name, title, first_of(metadata, ABSTRACTS), address
 
     def chosen_layers(self):
         """(name, layer, its block) of the layers that are asked for; the others aren't counted."""
         layers, blocks = [self.map.getLayer(i) for i in range(self.map.numlayers)], self.written.all("LAYER")
         counts = [layer.numclasses for layer in layers]
         if counts != [len(block.all("CLASS")) for block in blocks]:
-            raise MapError(f"{self.asked.mapfile}: its LAYER and CLASS blocks aren't those that MapServer "
-                           f"reads")
+            raise self.wrong("its LAYER and CLASS blocks aren't those that MapServer reads")
         names = [layer.name or f"layer{place}" for place, layer in enumerate(layers, 1)]
         wanted = names if self.asked.layers is None else self.asked.layers
         for name in wanted:
             if name not in names:
-                raise MapError(f"{self.asked.mapfile}: it has no layer {name!r}: it has {', '.join(names)}")
+                raise self.wrong(f"it has no layer {name!r}: it has {', '.join(names)}")
         others = [block for name, block in zip(names, blocks) if name not in wanted]
         self.written.blocks = [block for block in self.written.blocks if block not in others]
         return [entry for entry in zip(names, layers, blocks) if entry[0] in wanted]
@@ -209,7 +187,7 @@ class Importer:
         color = self.map.imagecolor
         if (color.red, color.green, color.blue) not in ((255, 255, 255), (-1, -1, -1)):
             self.teller.drop(self.written.keyword("IMAGECOLOR"), ": the background is white")
-        if not self.is_target(self.own):
+        if crs_of(self.own) != self.crs:
             self.teller.change(self.written.keyword("PROJECTION"),
                                f": a farm answers in {' and '.join(sorted(OFFERED[self.crs]))}")
         metadata = {keyword.name.lower(): keyword for web in self.written.all("WEB")
@@ -235,21 +213,15 @@ class Importer:
                 self.teller.change(keyword, f": a farm doesn't answer in {', '.join(others)}")
             self.teller.told.add((keyword, None))
 
-    def kind_of(self, layer):
-        kinds = {self.script.MS_LAYER_POINT: "POINT", self.script.MS_LAYER_LINE: "LINE",
-                 self.script.MS_LAYER_POLYGON: "POLYGON"}
-        return kinds.get(layer.type)
-
     def why_not_drawn(self, layer):
         """Why nothing of the layer is imported, or None."""
-        least, most = layer.minscaledenom, layer.maxscaledenom
-        if self.kind_of(layer) is None:
+        if layer.type not in self.kinds:
             return "it isn't of points, lines or polygons (raster, chart, query or tile index)"
         if layer.transform != self.script.MS_TRUE:
             return "its coordinates are pixels (TRANSFORM)"
         if layer.connectiontype == self.script.MS_WMS:
             return "it is another server's picture"
-        if (least > 0 and self.scale < least) or (most > 0 and self.scale >= most):
+        if not has_scale(layer, self.scale):
             return f"it isn't drawn at 1:{self.scale:,.0f} (--scale)"
         if self.width < layer.mingeowidth or 0 < layer.maxgeowidth < self.width:
             return f"it isn't drawn on a picture {self.width:g} wide (GEOWIDTH)"
@@ -275,7 +247,7 @@ class Importer:
             account.mark(block.whole(), account.LEFT_OUT)
             return []
         title = first_of(layer.metadata, TITLES) or name
-        return list(self.in_sixteens(name, title, self.kind_of(layer), drawn, teller))
+        return list(self.in_sixteens(name, title, self.kinds[layer.type], drawn, teller))
 
     def tell_of_layer(self, layer, block, classes, used, teller):
         for index, group in enumerate(classes):
@@ -314,18 +286,18 @@ class Importer:
         """(index of its class, class as it is drawn, feature), in order."""
         self.open(layer, name)
         items = [] if layer.cluster.region else item_names(layer)  # a CLUSTER has those of its data later
-        own = layer.getProjection() or self.own
-        system, is_target = self.system(own, f"layer {name}"), self.is_target(own)
-        box, read = self.box_in(system, is_target), self.shapes_read
+        system = self.system(layer.getProjection() or self.own, f"layer {name}")
+        box, read = self.reprojected(self.extent, self.target, system), self.shapes_read
         count = self.count_all(layer, block, name, box)
         shapes = list(self.drawn_shapes(layer, name, box, teller))
-        if count is not None and count > self.shapes_read - read:
-            teller.lost("shapes outside of the extent", count=count - (self.shapes_read - read))
-            self.shapes_read = read + count
-        symbology = Symbology(layer, self.kind_of(layer), self.scale, classes, items or item_names(layer),
+        outside = count - (self.shapes_read - read)
+        if outside > 0:
+            teller.lost("shapes outside of the extent", count=outside)
+            self.shapes_read += outside
+        symbology = Symbology(layer, self.kinds[layer.type], self.scale, classes, items or item_names(layer),
                               teller)
         self.kept[name] = [item for item in self.asked.keep if item in symbology.items]
-        lines = self.lines_of(shapes, None if is_target else system)
+        lines = self.lines_of(shapes, system)
         result = []
         for (place, index, shape), parts in zip(shapes, lines):
             how = symbology.drawn(index, shape)
@@ -344,7 +316,8 @@ class Importer:
         for place, shape in enumerate(self.shapes(layer, name, box), 1):
             self.shapes_read += 1
             where = f"layer {name}: shape {place}"
-            index = self.class_of(layer, shape, where)
+            with saying(f"{where}: MapServer can't choose its class: @: repair the EXPRESSION", *self.errors):
+                index = layer.getClassIndex(self.map, shape, None, 0)
             if index < 0:
                 teller.lost("shapes in no CLASS, which MapServer doesn't draw", where)
             elif layer.getClass(index).status == self.script.MS_OFF:
@@ -357,37 +330,28 @@ class Importer:
                 yield where, index, shape
 
     def count_all(self, layer, block, name, box):
-        """How many shapes the layer has, None where all lie in the extent."""
+        """How many shapes the layer has, 0 where all lie in the extent."""
         if layer.cluster.region:
-            return None
+            return 0
         if layer.connectiontype == self.script.MS_INLINE:
             return sum(feature.keyword("POINTS") is not None or feature.keyword("WKT") is not None
                        for feature in block.all("FEATURE"))
-        whole = self.reach(layer)
+        whole = self.script.rectObj(-ANYWHERE, -ANYWHERE, ANYWHERE, ANYWHERE)
+        with contextlib.suppress(*self.errors):
+            if layer.connectiontype != self.script.MS_UNION:  # whose extent is made up
+                whole = layer.getExtent()
         is_within = box.minx <= whole.minx and box.miny <= whole.miny
         if is_within and whole.maxx <= box.maxx and whole.maxy <= box.maxy:
-            return None
+            return 0
         count = sum(1 for _ in self.shapes(layer, name, whole))
         layer.close()
         self.open(layer, name)
         return count
 
-    def reach(self, layer):
-        """A box that has all of the layer's data."""
-        with contextlib.suppress(*self.errors):
-            if layer.connectiontype != self.script.MS_UNION:  # whose extent is made up
-                return layer.getExtent()
-        return self.script.rectObj(-ANYWHERE, -ANYWHERE, ANYWHERE, ANYWHERE)
-
     def open(self, layer, name):
         with saying(f"layer {name}: MapServer can't open its data: @: look at DATA and CONNECTION, or choose "
                     "--layers", *self.errors):
             layer.open()
-
-    def class_of(self, layer, shape, place):
-        """The index of the shape's class, negative if it has none."""
-        with saying(f"{place}: MapServer can't choose its class: @: repair the EXPRESSION", *self.errors):
-            return layer.getClassIndex(self.map, shape, None, 0)
 
     def shapes(self, layer, name, box):
         with saying(f"layer {name}: MapServer can't read its data: @: repair them, or choose --layers",
@@ -403,20 +367,17 @@ class Importer:
         together = self.script.shapeObj(self.script.MS_SHAPE_POINT)
         for line in (line for some in lines for line in some):
             together.add(line)
-        count = together.numlines
-        if count and (together.project(system, self.target) != 0 or together.numlines != count):
-            raise MapError(f"{self.misplaced(shapes, system)}: it can't be reprojected to EPSG:{self.crs}: "
+        if together.numlines and not self.is_projected(together, system):
+            apart = (where for where, _, shape in shapes if not self.is_projected(shape, system))
+            raise MapError(f"{next(apart, shapes[0][0])}: it can't be reprojected to EPSG:{self.crs}: "
                            f"leave it out by FILTER, or write another --crs")
-        places = iter(range(count))
+        places = itertools.count()
         return [[points_of(together.get(next(places))) for _ in some] for some in lines]
 
-    def misplaced(self, shapes, system):
-        """The first shape that can't be reprojected."""
-        for place, _, shape in shapes:
-            count = shape.numlines
-            if shape.project(system, self.target) != 0 or shape.numlines != count:
-                return place
-        return shapes[0][0]
+    def is_projected(self, shape, system):
+        """Brings the shape to the map's system; whether all of it has a place there."""
+        count = shape.numlines
+        return shape.project(system, self.target) == 0 and shape.numlines == count
 
     def feature(self, symbology, index, shape, parts, kept, place):
         """The shape in the map's system, None if nothing of it can be drawn."""
@@ -441,15 +402,11 @@ class Importer:
         if len(classes) > MOST_CLASSES:
             teller.add(f"its {len(classes)} classes became layers of {MOST_CLASSES} each "
                        f"({name}, {name}_2, ..)")
-        items = [texts.plain(it, teller, "an attribute's name").replace(",", "_") for it in self.kept[name]]
+        items = [texts.name(item, teller, "an attribute's name") for item in self.kept[name]]
         for start in range(0, len(classes), MOST_CLASSES):
             some = classes[start : start + MOST_CLASSES]
             own = name if start == 0 else f"{name}_{start // MOST_CLASSES + 1}"
-            features = []
-            for _, how, feature in drawn:
-                if how in some:
-                    feature.group = some.index(how)
-                    features.append(feature)
+            features = [replace(feature, group=some.index(how)) for _, how, feature in drawn if how in some]
             named = [replace(how, name=texts.plain(how.name, teller, f"layer {name}: the name of a class"))
                      for how in some]
             yield Layer(own, title, kind, named, features, items)
@@ -463,6 +420,11 @@ class Importer:
             return painter.pixels(server.drawn(sides, *size_of(extent, self.asked.side)))
 
         write_preview(self.asked.preview, painter, the_map, written, source)
+
+
+def crs_of(system):
+    """The number of the system, where it is one of OWN."""
+    return next((crs for crs, own in OWN.items() if system.lower().lstrip("+") == own), None)
 
 
 def points_of(line):
@@ -483,11 +445,9 @@ def with_own_names(layers, notes):
     taken = set()
     for layer in layers:
         teller = Teller(notes, f"layer {layer.name}")
-        name = texts.plain(layer.name, teller, "a layer's name").replace(",", "_")
-        number = 2
-        while name in taken:
-            name = f"{layer.name}_{number}"
-            number += 1
+        name = texts.name(layer.name, teller, "a layer's name")
+        others = (f"{layer.name}_{number}" for number in itertools.count(2))
+        name = next(name for name in itertools.chain([name], others) if name not in taken)
         if name != layer.name:
             teller.add(f"its name became {name}")
         layer.name = name
@@ -518,8 +478,8 @@ def made(asked, notes):
         with asked.report.open("w", encoding="utf-8", errors="backslashreplace") as report:
             tell(written, importer, notes, report)
     if asked.strict and notes.changes:
-        raise MapError(f"{asked.mapfile}: something is changed or left out, as the notes say: no map is "
-                       f"written, by --strict")
+        raise importer.wrong("something is changed or left out, as the notes say: no map is written, by "
+                             "--strict")
     return written.text
 
 

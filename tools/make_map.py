@@ -26,26 +26,24 @@ python3-gdal and, for filled polygons and to simplify, python3-shapely.
 
 import argparse
 import contextlib
-import copy
 import json
 import math
 import re
 import sys
 from dataclasses import dataclass
+from functools import partial
 from pathlib import Path
 
 from maps import fitting, options, texts
 from maps.cutting import cut
 from maps.errors import MapError, Notes, library, saying
-from maps.geometry import DIGITS, checked, on_grid, whole_extent
-from maps.merging import bounds
+from maps.geometry import DIGITS, bounds, checked, longer_side, meet, on_grid, whole_extent, widened
 from maps.model import (LABEL_SIZES, LEAST_POINTS, MOST_CLASSES, POSITIONS, Class, Feature, Label, Layer, Map,
                         Style)
-from maps.preview import Painter
+from maps.preview import Painter, picture_query
 from maps.preview import write as write_preview
-from maps.query import picture_query
 
-KINDS = ("POINT", "LINE", "POLYGON")
+KINDS = {"POINT": "POINT", "LINESTRING": "LINE", "POLYGON": "POLYGON"}  # by their names of GDAL
 MEMBERS = {"MULTIPOINT", "MULTILINESTRING", "MULTIPOLYGON"}
 # (of the last three the colours between are mixed)
 PALETTES = {
@@ -68,14 +66,12 @@ class OfLayer(argparse.Action):
 
     def __call__(self, parser, namespace, value, option=None):
         if self.dest == "layers":
-            begun = argparse.Namespace(path=value, **copy.deepcopy(self.usual))
-            namespace.layers = [*(namespace.layers or []), begun]
-        elif not namespace.layers:
+            namespace.layers = [*(namespace.layers or []), argparse.Namespace(path=value, **self.usual)]
+            return
+        if not namespace.layers:
             parser.error(f"{option} stands before the first --layer")
-        elif self.dest == "classes":
-            namespace.layers[-1].classes.append(value)
-        else:
-            setattr(namespace.layers[-1], self.dest, value)
+        layer = namespace.layers[-1]
+        setattr(layer, self.dest, [*layer.classes, value] if self.dest == "classes" else value)
 
 
 def class_of(text):
@@ -98,20 +94,18 @@ def ranges_of(text):
 
 def arguments():
     parser = options.parser_of(__doc__)
-    parser.add_argument("--name", required=True, help="the map's name")
-    parser.add_argument("--title", help="its title (the name)")
-    parser.add_argument("--abstract", default="", help="what it shows")
-    parser.add_argument("--address", default="http://localhost/wms?",
-                        help="the address that clients will use")
-    parser.add_argument("--crs", choices=["4326", "3857"], default="4326",
-                        help="degrees, or metres of the Mercator projection")
-    parser.add_argument("--extent", type=options.extent, metavar="MINX,MINY,MAXX,MAXY",
-                        help="in the map's units (that of the data); a negative one as --extent=-3,51,-2,52")
-    parser.add_argument("--skip", action="store_true",
-                        help="leave out features that can't be drawn, and count them")
+    add = parser.add_argument
+    add("--name", required=True, help="the map's name")
+    add("--title", help="its title (the name)")
+    add("--abstract", default="", help="what it shows")
+    add("--address", default="http://localhost/wms?", help="the address that clients will use")
+    add("--crs", choices=["4326", "3857"], default="4326",
+        help="degrees, or metres of the Mercator projection")
+    add("--extent", type=options.extent, metavar="MINX,MINY,MAXX,MAXY",
+        help="in the map's units (that of the data); a negative one as --extent=-3,51,-2,52")
+    add("--skip", action="store_true", help="leave out features that can't be drawn, and count them")
     options.add_common(parser)
-    parser.add_argument("--layer", action=OfLayer, dest="layers", metavar="FILE", required=True,
-                        help="data that GDAL reads")
+    add("--layer", action=OfLayer, dest="layers", metavar="FILE", required=True, help="data that GDAL reads")
     group = parser.add_argument_group("options of a layer")
 
     def of_layer(name, said, default=None, **how):
@@ -125,8 +119,7 @@ def arguments():
     of_layer("--encoding", "of a shapefile's texts, as ISO-8859-1 or CP1252", metavar="NAME")
     of_layer("--layer-name", "its name (the table's, or the file's)", metavar="NAME")
     of_layer("--layer-title", "its title (its name)", metavar="TEXT")
-    of_layer("--items", "the attributes to keep (none)", [], type=lambda text: text.split(","),
-             metavar="NAME,..")
+    of_layer("--items", "the attributes to keep (none)", [], type=options.names, metavar="NAME,..")
     of_layer("--label", "the attribute that is written beside a feature", metavar="NAME")
     of_layer("--label-size", "(MEDIUM)", "MEDIUM", choices=LABEL_SIZES)
     of_layer("--label-position", "(CC)", "CC", choices=POSITIONS)
@@ -167,9 +160,17 @@ class Source:
         try:
             self.data = gdal.gdal.OpenEx(asked.path, gdal.gdal.OF_VECTOR, open_options=given)
         except RuntimeError as error:
-            raise MapError(f"{self.path}: {unread(gdal, asked.path, error)}") from error
+            raise self.wrong(unread(gdal, asked.path, error)) from error
         self.table = self.chosen()
-        self.fields = self.field_names()
+        definition = self.table.GetLayerDefn()
+        self.fields = [definition.GetFieldDefn(i).GetName() for i in range(definition.GetFieldCount())]
+        self.wanted = dict.fromkeys([*asked.items, *filter(None, [asked.label, asked.class_by])])
+        for wanted in self.wanted:
+            if wanted not in self.fields:
+                raise self.wrong(f"it has no attribute {wanted!r}: it has {', '.join(self.fields) or 'none'}")
+
+    def wrong(self, what):
+        return MapError(f"{self.path}: {what}")
 
     def chosen(self):
         names = [self.data.GetLayer(i).GetName() for i in range(self.data.GetLayerCount())]
@@ -178,22 +179,9 @@ class Source:
         if self.asked.table in names:
             return self.data.GetLayer(names.index(self.asked.table))
         if not names:
-            raise MapError(f"{self.path}: it has no table: is it data with geometry?")
+            raise self.wrong("it has no table: is it data with geometry?")
         wrong = "it has several tables" if self.asked.table is None else f"it has no table {self.asked.table}"
-        raise MapError(f"{self.path}: {wrong}: write --table and one of {', '.join(names)}")
-
-    def field_names(self):
-        definition = self.table.GetLayerDefn()
-        names = [definition.GetFieldDefn(i).GetName() for i in range(definition.GetFieldCount())]
-        for wanted in self.wanted():
-            if wanted not in names:
-                raise MapError(f"{self.path}: it has no attribute {wanted!r}: it has "
-                               f"{', '.join(names) or 'none'}")
-        return names
-
-    def wanted(self):
-        asked = self.asked
-        return dict.fromkeys([*asked.items, *filter(None, [asked.label, asked.class_by])])
+        raise self.wrong(f"{wrong}: write --table and one of {', '.join(names)}")
 
     def transformation(self, crs):
         """From the data's system to the map's, None where they are one."""
@@ -207,7 +195,7 @@ class Source:
                         RuntimeError):
                 source.SetFromUserInput(self.asked.source)
         if source is None:
-            raise MapError(f"{self.path}: the data name no system: write --source EPSG: and its number")
+            raise self.wrong("the data name no system: write --source EPSG: and its number")
         for system in (source, target):
             system.SetAxisMappingStrategy(osr.OAMS_TRADITIONAL_GIS_ORDER)
         return None if source.IsSame(target) else osr.CoordinateTransformation(source, target)
@@ -224,7 +212,7 @@ class Source:
                 self.notes.add("a feature that can't be drawn was left out", str(error))
                 continue
             values = {wanted: texts.plain(self.text_of(feature, wanted, name), self.notes, name)
-                      for wanted in self.wanted()}
+                      for wanted in self.wanted}
             yield Record(name, parts, values)
 
     def features(self):
@@ -236,13 +224,13 @@ class Source:
             rows = [feature for feature in self.table]
         except RuntimeError as error:
             if where and self.is_readable():
-                raise MapError(f"{self.path}: --where {where!r} isn't understood: {error}: it has "
-                               f"{', '.join(self.fields) or 'no attributes'}") from error
-            raise MapError(f"{self.path}: {unread(self.gdal, self.path, error)}") from error
+                raise self.wrong(f"--where {where!r} isn't understood: {error}: it has "
+                                 f"{', '.join(self.fields) or 'no attributes'}") from error
+            raise self.wrong(unread(self.gdal, self.path, error)) from error
         if not rows:
-            table = f"{self.path}: table {self.table.GetName()}"
-            raise MapError(f"{table}: no feature meets --where {where!r}" if where
-                           else f"{table}: it has no feature to draw: look at --table")
+            why = "it has no feature to draw: look at --table"
+            why = f"no feature meets --where {where!r}" if where else why
+            raise self.wrong(f"table {self.table.GetName()}: {why}")
         return rows
 
     def is_readable(self):
@@ -266,7 +254,9 @@ class Source:
         parts = {}
         for kind, points in raw_parts(geometry, place):
             if change is not None:
-                points = changed(change, points, place)
+                with saying(f"{place}: it can't be reprojected: @: give the data's own system (--source)",
+                            RuntimeError):
+                    points = change.TransformPoints([point[:2] for point in points])
             parts.setdefault(kind, []).append(checked(points, crs, kind, place))
         return parts
 
@@ -314,31 +304,22 @@ def reads(gdal, shape):
 def raw_parts(geometry, place):
     """The parts of a geometry, each with its kind."""
     name = geometry.GetGeometryName()
+    inner = [geometry.GetGeometryRef(i) for i in range(geometry.GetGeometryCount())]
     if name in MEMBERS:
-        for i in range(geometry.GetGeometryCount()):
-            yield from raw_parts(geometry.GetGeometryRef(i), place)
-    elif name == "POLYGON":
-        for i in range(geometry.GetGeometryCount()):
-            yield "POLYGON", long_enough("POLYGON", geometry.GetGeometryRef(i).GetPoints(), place)
-    elif name in ("POINT", "LINESTRING"):
-        kind = "POINT" if name == "POINT" else "LINE"
-        yield kind, long_enough(kind, geometry.GetPoints(), place)
-    else:
+        for member in inner:
+            yield from raw_parts(member, place)
+    elif name not in KINDS:
         raise MapError(f"{place}: it is a {name}: split it into points, lines and polygons (ogr2ogr "
                        f"-explodecollections -unsetFid)")
-
-
-def long_enough(kind, points, place):
-    least = max(1, LEAST_POINTS[kind] - (kind == "POLYGON"))
-    if len(points or ()) < least:
-        raise MapError(f"{place}: a {kind.lower()} with {len(points or ())} points, and it needs {least}: "
-                       f"repair it")
-    return points
-
-
-def changed(change, points, place):
-    with saying(f"{place}: it can't be reprojected: @: give the data's own system (--source)", RuntimeError):
-        return change.TransformPoints([point[:2] for point in points])
+    else:
+        kind = KINDS[name]
+        least = 3 if kind == "POLYGON" else LEAST_POINTS[kind]  # a ring that isn't closed is, later
+        for part in inner if kind == "POLYGON" else [geometry]:
+            points = part.GetPoints() or ()
+            if len(points) < least:
+                raise MapError(f"{place}: a {kind.lower()} with {len(points)} points, and it needs {least}: "
+                               f"repair it")
+            yield kind, points
 
 
 # ---- classes
@@ -379,63 +360,48 @@ class Classes:
 
     def __init__(self, asked, records, notes):
         self.asked = asked
-        self.names, self.colors, self.index = [], [], {}
+        values = {record.values.get(asked.class_by, "") for record in records}
+        self.names, self.colors = [], []
         if asked.class_by is None:
             if asked.classes or asked.ranges or asked.palette:
                 raise MapError(f"{asked.path}: --class, --ranges and --palette need --class-by and an "
                                f"attribute")
         elif asked.ranges:
-            self.take(range_names(asked.ranges), shades(asked.palette or "heat", len(asked.ranges) + 1))
+            self.names = range_names(asked.ranges)
+            self.colors = shades(asked.palette or "heat", len(self.names))
         elif asked.classes:
-            named = [(texts.plain(name, notes, "--class"), shade) for name, shade in asked.classes]
-            self.take([name for name, _ in named], [shade for _, shade in named])
-            self.warn_of_absent(records, notes)
+            self.names = [texts.plain(name, notes, "--class") for name, _ in asked.classes]
+            self.colors = [shade for _, shade in asked.classes]
+            for name in self.names:
+                if name not in values:
+                    notes.add(f"{asked.path}: no feature has {asked.class_by} {name!r}")
         else:
-            values = sorted({record.values[asked.class_by] for record in records} - {""})
-            if len(values) >= MOST_CLASSES:
-                raise MapError(f"{asked.path}: attribute {asked.class_by} has {len(values)} values, and a "
-                               f"layer at most {MOST_CLASSES - 1} classes by value: name the most important "
-                               "by --class, or cut numbers by --ranges")
-            self.take(values, shades(asked.palette or "soft", len(values)))
-        self.others = [record for record in records if self.of(record) is None]
+            self.names = sorted(values - {""})
+            if len(self.names) >= MOST_CLASSES:
+                raise MapError(f"{asked.path}: attribute {asked.class_by} has {len(self.names)} values, and "
+                               f"a layer at most {MOST_CLASSES - 1} classes by value: name the most "
+                               "important by --class, or cut numbers by --ranges")
+            self.colors = shades(asked.palette or "soft", len(self.names))
+        self.index = {name: i for i, name in enumerate(self.names)}
+        self.others = [record for record in records if self.of(record) == len(self.names)]
         if asked.class_by is not None and self.others:
             notes.add(f"{asked.path}: features in no class of {asked.class_by} have --color",
                       self.others[0].place, len(self.others))
 
-    def take(self, names, colors):
-        self.names, self.colors = names, colors
-        self.index = {name: i for i, name in enumerate(names)}
-
-    def warn_of_absent(self, records, notes):
-        values = {record.values[self.asked.class_by] for record in records}
-        for name in self.names:
-            if name not in values:
-                notes.add(f"{self.asked.path}: no feature has {self.asked.class_by} {name!r}")
-
     def of(self, record):
-        """The index of the record's class, None for all others."""
-        if self.asked.class_by is None:
-            return None
-        text = record.values[self.asked.class_by]
-        return range_of(text, self.asked.ranges) if self.asked.ranges else self.index.get(text)
-
-    def drawn(self, kind, layer_name):
-        shaded = [Class(name, [style_of(kind, self.asked, shade)], label_of(self.asked))
-                  for name, shade in zip(self.names, self.colors)]
-        if self.others or not shaded:
-            shaded.append(Class(OTHER if shaded else layer_name, [style_of(kind, self.asked, None)],
-                                label_of(self.asked)))
-        return shaded
-
-    def group(self, record):
-        index = self.of(record)
+        """The index of the record's class, that behind the last for all others."""
+        text = record.values.get(self.asked.class_by)
+        index = range_of(text, self.asked.ranges) if self.asked.ranges else self.index.get(text)
         return len(self.names) if index is None else index
 
-
-def label_of(asked):
-    if asked.label is None:
-        return None
-    return Label(asked.label_color, asked.label_size, asked.label_position, asked.label_priority)
+    def drawn(self, kind, layer_name):
+        asked = self.asked
+        label = None if asked.label is None else Label(asked.label_color, asked.label_size,
+                                                       asked.label_position, asked.label_priority)
+        named = list(zip(self.names, self.colors))
+        if self.others or not named:
+            named.append((OTHER if named else layer_name, None))
+        return [Class(name, [style_of(kind, asked, shade)], label) for name, shade in named]
 
 
 def style_of(kind, asked, shade):
@@ -461,18 +427,20 @@ def layers_of(gdal, asked, common, notes):
         raise MapError(f"{asked.path}: no feature is left to draw: --skip left out all of them")
     classes = Classes(asked, records, notes)
     name = asked.layer_name or (Path(asked.path).stem if asked.table is None else asked.table)
-    name = texts.plain(name, notes, "a layer's name").replace(",", "_")
-    kinds = [kind for kind in KINDS if any(kind in record.parts for record in records)]
+    name = texts.name(name, notes, "a layer's name")
+    kinds = [kind for kind in KINDS.values() if any(kind in record.parts for record in records)]
     for kind in kinds:
         own = name if len(kinds) == 1 else f"{name}_{kind.lower()}"
         title = texts.plain(asked.layer_title or own, notes, "a layer's title")
-        items = [texts.plain(item, notes, "an attribute's name").replace(",", "_") for item in asked.items]
+        items = [texts.name(item, notes, "an attribute's name") for item in asked.items]
         yield Layer(own, title, kind, classes.drawn(kind, own),
                     features_of(kind, records, classes, common, notes), items)
 
 
 def features_of(kind, records, classes, common, notes):
     asked = classes.asked
+    box = [side * 10**common.last_digit for side in common.extent or ()]
+    near = box and widened(box, longer_side(box) / 7)  # the margin, by which it is cut later, is less
     features = []
     for record in records:
         parts = record.parts.get(kind)
@@ -483,34 +451,12 @@ def features_of(kind, records, classes, common, notes):
             notes.add("a part is smaller than the last digit and was left out", record.place,
                       len(parts) - len(grid))
         if grid:
-            told = notes if is_near(grid, common) else Notes()
-            text = texts.label(record.values[asked.label], common.ascii, told,
-                               record.place) if asked.label else ""
+            told = notes if not near or meet(bounds(grid), near) else Notes()
+            text = record.values.get(asked.label, "")
+            text = texts.label(text, common.ascii, told, record.place)
             values = [texts.value(record.values[item], told, record.place) for item in asked.items]
-            features.append(Feature(grid, classes.group(record), values, text))
+            features.append(Feature(grid, classes.of(record), values, text))
     return features
-
-
-def is_near(grid, common):
-    """Whether the feature may be in --extent or its margin, which is less than the extent."""
-    if common.extent is None:
-        return True
-    minx, miny, maxx, maxy = (side * 10**common.last_digit for side in common.extent)
-    margin = max(maxx - minx, maxy - miny) / 7
-    left, low, right, high = bounds(grid)
-    return left <= maxx + margin and right >= minx - margin and low <= maxy + margin and high >= miny - margin
-
-
-def sides_of(layers, common):
-    """The sides of the map's extent, in its units."""
-    if common.extent:
-        return common.extent
-    points = [point for layer in layers for feature in layer.features for part in feature.parts
-              for point in part]
-    if not points:
-        raise MapError("nothing is left to draw: write more --digits, or look at --where")
-    xs, ys = zip(*points)
-    return tuple(side / 10**common.last_digit for side in (min(xs), min(ys), max(xs), max(ys)))
 
 
 def the_map(common, notes):
@@ -523,15 +469,12 @@ def the_map(common, notes):
     name, title, abstract, address = (
         texts.plain(text, notes, "the map's texts")
         for text in (common.name, common.title or common.name, common.abstract, common.address))
-    extent = whole_extent(sides_of(layers, common), common.last_digit)
-    made = Map(name, title, abstract, address, common.crs, common.last_digit, extent, layers)
+    made = Map(name, title, abstract, address, common.crs, common.last_digit, (), layers)
+    if common.extent is None and not made.parts():
+        raise MapError("nothing is left to draw: write more --digits, or look at --where")
+    sides = common.extent or [side / 10**common.last_digit for side in bounds(made.parts())]
+    made.extent = whole_extent(sides, common.last_digit)
     return cut(made, notes) if common.extent else made
-
-
-def preview(made, written, common):
-    painter = Painter(common.program, common.side)
-    whole = fitting.Fitting(made, argparse.Namespace(apart=True, by_class=False))
-    write_preview(common.preview, painter, made, written, lambda extent: painter.source(whole, extent))
 
 
 def main():
@@ -543,7 +486,9 @@ def main():
         if common.query is not None:
             common.query.write_text(picture_query(made, common.side) + "\n", encoding="ascii")
         if common.preview is not None:
-            preview(made, written, common)
+            painter = Painter(common.program, common.side)
+            whole = fitting.Fitting(made, argparse.Namespace(apart=True, by_class=False))
+            write_preview(common.preview, painter, made, written, partial(painter.source, whole))
     except (MapError, OSError) as error:
         print(f"error: {error}", file=sys.stderr)
         return 1

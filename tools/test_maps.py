@@ -12,6 +12,7 @@ import os
 import sys
 import tempfile
 from concurrent.futures import ThreadPoolExecutor
+from functools import partial
 from pathlib import Path
 
 from farmkit.command import of_debian, program_parser
@@ -23,25 +24,24 @@ def tried(asked):
     from maps_test import checks, constructs, odd_data, odd_mapfiles
     from maps_test.case import fault
 
-    program = asked.program
-    cases = [("make_map.py", case) for case in odd_data.CASES] + [("import_mapfile.py", case) for case in odd_mapfiles.CASES + constructs.CASES]
-    ways = [(case.name, lambda folder, tool=tool, case=case: fault(tool, case, folder, program)) for tool, case in cases]
-    ways += [(name, lambda folder, check=check: check(folder, program, asked.keep)) for name, check in checks.CHECKS.items()]
-    ways = [(name, way) for name, way in ways if not asked.names or any(wanted in name for wanted in asked.names)]
+    cases = {"make_map.py": odd_data.CASES, "import_mapfile.py": odd_mapfiles.CASES + constructs.CASES}
+    ways = [(case.name, partial(fault, tool, case)) for tool, some in cases.items() for case in some]
+    ways = [(name, way) for name, way in [*ways, *checks.CHECKS.items()]
+            if not asked.names or any(wanted in name for wanted in asked.names)]
+
+    def wrong(way):
+        with tempfile.TemporaryDirectory() as folder:
+            try:
+                return way(Path(folder), asked.program, asked.keep)
+            except MapError as error:
+                return str(error)
+
     with ThreadPoolExecutor(os.cpu_count()) as workers:
-        found = list(workers.map(lambda entry: in_a_folder(entry[1]), ways))
+        found = list(workers.map(lambda entry: wrong(entry[1]), ways))
     for (name, _), what in zip(ways, found):
         if what:
             print(f"{name}: {what}")
     return len(ways), sum(map(bool, found))
-
-
-def in_a_folder(way):
-    with tempfile.TemporaryDirectory() as folder:
-        try:
-            return way(Path(folder))
-        except MapError as wrong:
-            return str(wrong)
 
 
 def main():

@@ -42,13 +42,12 @@ class Teller:
         self.notes, self.name = notes, name
         self.told = set()
 
-    def add(self, what, place="", count=1):
+    def add(self, what, place="", count=1, fate="changed"):
         self.notes.changes += count
-        self.notes.add(f"{self.name}: changed: {what}", place, count)
+        self.notes.add(f"{self.name}: {fate}: {what}", place, count)
 
     def lost(self, what, place="", count=1):
-        self.notes.changes += count
-        self.notes.add(f"{self.name}: left out: {what}", place, count)
+        self.add(what, place, count, "left out")
 
     def change(self, keyword, what):
         """Tells once that the keyword was changed."""
@@ -69,7 +68,7 @@ def mark(keywords, fate):
     """Says what became of the keywords, unless worse was said of them."""
     for keyword in keywords:
         if keyword is not None:
-            keyword.fate = max(getattr(keyword, "fate", CARRIED), fate)
+            keyword.fate = max(keyword.fate, fate)
 
 
 def has(table, block, name):
@@ -109,12 +108,12 @@ def drop_block(block, teller, why=""):
 
 def counted(root):
     """How many keywords became what."""
-    count = Counter(getattr(keyword, "fate", CARRIED) for keyword in root.whole())
+    count = Counter(keyword.fate for keyword in root.whole())
     text = f"of {sum(count.values()):,} keywords {count[CARRIED]:,} were carried, {count[CHANGED]:,} changed, {count[LEFT_OUT]:,} left out"
     return text + (f", {count[IDLE]:,} have no effect here" if count[IDLE] else "")
 
 
 def idle(root):
     """The names of the keywords without effect."""
-    idle = [keyword for keyword in root.whole() if getattr(keyword, "fate", CARRIED) == IDLE]
+    idle = [keyword for keyword in root.whole() if keyword.fate == IDLE]
     return ", ".join(dict.fromkeys("SYMBOL" if keyword.block == "SYMBOL" else keyword.name for keyword in idle))

@@ -76,106 +76,90 @@ class Arc:
 
 
 class Borders:
-    """The arcs of shapes. A shape is a part with at least two points; a ring ends with its first point."""
+    """The arcs of shapes. A shape is a part with at least two points; a ring ends with its first point. Each part is given
+    with whether it is the border of a polygon."""
 
-    def __init__(self):
-        self.arcs = []
-        self.index = {}  # of an arc, by its points
+    def __init__(self, parts):
+        self.arcs = {}  # by their points
         self.neighbours = {}  # the points beside a point, or None where shapes meet
-
-    def meet(self, part):
-        """Takes note of where the part lies. All parts come here before any is cut."""
-        if part[0] == part[-1]:
-            ring = part[:-1]
-            beside = zip(ring[-1:] + ring[:-1], ring, ring[1:] + ring[:1])
-        else:
-            self.neighbours[part[0]] = self.neighbours[part[-1]] = None
-            beside = zip(part, part[1:], part[2:])
-        for before, point, after in beside:
-            pair = (before, after) if before <= after else (after, before)
-            if self.neighbours.setdefault(point, pair) != pair:
-                self.neighbours[point] = None
+        self.answers = {}  # of `were_apart`
+        for part, _ in parts:
+            if part[0] == part[-1]:
+                part = [part[-2], *part]
+            else:
+                self.neighbours[part[0]] = self.neighbours[part[-1]] = None
+            for before, point, after in zip(part, part[1:], part[2:]):
+                pair = min(before, after), max(before, after)
+                if self.neighbours.setdefault(point, pair) != pair:
+                    self.neighbours[point] = None
+        self.cuts = {id(part): self.cut(part, is_border) for part, is_border in parts}
 
     def cut(self, part, is_border):
-        """The part as arcs: (arc, whether it runs backwards) in order."""
+        """The part as arcs: (arc, whether it runs backwards) in order. A ring is cut where shapes meet, else at its least
+        point, so that equal rings are equal."""
         if part[0] == part[-1]:
-            part = self.turned(part[:-1])
+            ring = part[:-1]
+            meeting = (i for i, point in enumerate(ring) if self.neighbours[point] is None)
+            start = next(meeting, None)
+            start = ring.index(min(ring)) if start is None else start
+            part = ring[start:] + ring[: start + 1]
         places = [0] + [i for i in range(1, len(part) - 1) if self.neighbours[part[i]] is None] + [len(part) - 1]
         if len(places) == 2 and part[0] == part[-1] and self.neighbours[part[0]] is None:
             # A loop that meets others at one point: two arcs, so that each has ends.
             places.insert(1, max(range(1, len(part) - 1), key=lambda i: (math.dist(part[0], part[i]), part[i])))
         return [self.arc_of(part[first : last + 1], is_border) for first, last in zip(places, places[1:])]
 
-    def turned(self, ring):
-        """The ring, closed, from a place where shapes meet, else from its least point, so that equal rings are equal."""
-        start = next((i for i, point in enumerate(ring) if self.neighbours[point] is None), None)
-        if start is None:
-            start = ring.index(min(ring))
-        return ring[start:] + ring[: start + 1]
-
     def arc_of(self, points, is_border):
         backwards = points[::-1] < points
         key = tuple(points[::-1] if backwards else points)
-        if key not in self.index:
-            self.index[key] = len(self.arcs)
-            self.arcs.append(Arc(list(key)))
-        arc = self.arcs[self.index[key]]
-        arc.is_border = arc.is_border or is_border
+        arc = self.arcs.setdefault(key, Arc(key))
+        arc.is_border |= is_border
         return arc, backwards
 
     def distances(self):
         """All distances at which something changes, ascending."""
-        return sorted({weight for arc in self.arcs for weight in arc.weights if weight < math.inf})
+        return sorted({weight for arc in self.arcs.values() for weight in arc.weights if weight < math.inf})
 
     def displacement(self, tolerance):
         """The largest one at the distance, and its point; 0 and None where nothing is displaced."""
-        return max((found for arc in self.arcs for found in arc.displacements(tolerance)), default=(0.0, None))
+        found = (one for arc in self.arcs.values() for one in arc.displacements(tolerance))
+        return max(found, default=(0.0, None))
 
     def refine(self, tolerance):
         """Has borders that would cross at this distance keep more points."""
-        for arc in self.arcs:
+        self.line_of = library("shapely.geometry", "python3-shapely").LineString
+        for arc in self.arcs.values():
             arc.halvings = 0
-        lines = Lines([arc for arc in self.arcs if arc.is_border])
         for _ in range(MOST_REFINEMENTS + 1):
-            crossing = lines.crossing(tolerance)
+            crossing = self.crossing(tolerance)
             if not crossing:
                 return
             for arc in crossing:
                 arc.halvings += 1
 
-
-class Lines:
-    """Arcs as lines of shapely, to find those that cross."""
-
-    def __init__(self, arcs):
-        self.line_of = library("shapely.geometry", "python3-shapely").LineString
-        self.arcs = arcs
-        self.answers = {}  # of `were_apart`, by the indices
-
     def crossing(self, tolerance):
-        """The arcs that cross another at this distance, or themselves, and don't where nothing is left out."""
-        kept = {i: arc.kept(tolerance) for i, arc in enumerate(self.arcs)}
-        left = [i for i, points in kept.items() if points[0] != points[-1] or len(points) > 3]
-        lines = [self.line_of(kept[i]) for i in left]
-        found = {i for i, line in zip(left, lines) if not line.is_simple and self.were_apart(i)}
-        for k, m in meetings(lines):
-            if not lines[k].relate_pattern(lines[m], APART) and self.were_apart(left[k], left[m]):
-                found |= {left[k], left[m]}
-        return [self.arcs[i] for i in found]
+        """The borders that cross another at this distance, or themselves, and don't where nothing is left out."""
+        kept = [(arc, arc.kept(tolerance)) for arc in self.arcs.values() if arc.is_border]
+        left = [(arc, self.line_of(points)) for arc, points in kept if points[0] != points[-1] or len(points) > 3]
+        found = {arc for arc, line in left if not line.is_simple and self.were_apart(arc)}
+        for i, j in meetings([line for _, line in left]):
+            (one, its_line), (other, others_line) = left[i], left[j]
+            if not its_line.relate_pattern(others_line, APART) and self.were_apart(one, other):
+                found |= {one, other}
+        return found
 
-    def were_apart(self, *indices):
+    def were_apart(self, *arcs):
         """Whether one arc didn't cross itself, or two not one another, before anything was left out."""
-        if indices not in self.answers:
-            one, *others = (self.line_of(self.arcs[i].points) for i in indices)
-            self.answers[indices] = one.relate_pattern(others[0], APART) if others else one.is_simple
-        return self.answers[indices]
+        if arcs not in self.answers:
+            one, *others = (self.line_of(arc.points) for arc in arcs)
+            self.answers[arcs] = one.relate_pattern(others[0], APART) if others else one.is_simple
+        return self.answers[arcs]
 
-
-def joined(arcs, tolerance):
-    """The part that the arcs make at this distance."""
-    points = []
-    for arc, backwards in arcs:
-        kept = arc.kept(tolerance)
-        kept = kept[::-1] if backwards else kept
-        points += kept[1:] if points else kept
-    return points
+    def simplified(self, part, tolerance):
+        """The part that its arcs make at this distance."""
+        points = []
+        for arc, backwards in self.cuts[id(part)]:
+            kept = arc.kept(tolerance)
+            kept = kept[::-1] if backwards else kept
+            points += kept[1:] if points else kept
+        return points

@@ -8,8 +8,8 @@ import math
 from dataclasses import replace
 
 from .errors import MapError
-from .geometry import greatest_first
-from .merging import bounds, dissolved
+from .geometry import bounds, greatest_first, longer_side, meet, widened
+from .merging import dissolved
 from .model import EXTENT_DIGITS, LEAST_POINTS
 from .texts import number
 
@@ -21,40 +21,33 @@ def cut(the_map, notes):
     box = box_of(the_map)
     layers = [replace(layer, features=list(cut_features(layer, box))) for layer in the_map.layers]
     if not any(layer.features for layer in layers):
-        raise MapError(f"--extent holds none of the data: they reach over {reach(the_map)}")
+        reach = (number(side, the_map.digits) for side in bounds(the_map.parts() or [[(0, 0)]]))
+        raise MapError(f"--extent holds none of the data: they reach over {','.join(reach)}")
     for before, layer in zip(the_map.layers, layers):
         outside = len(before.features) - len(layer.features)
-        if before.features and not layer.features:
-            notes.lost(f"layer {layer.name}: all {outside} features, outside of --extent")
-        elif outside:
-            notes.lost(f"layer {layer.name}: {outside} features outside of --extent")
+        if outside:
+            some = f"{outside} features" if layer.features else f"all {outside} features,"
+            notes.lost(f"layer {layer.name}: {some} outside of --extent")
     return replace(the_map, layers=layers)
-
-
-def reach(the_map):
-    """The extent of all shapes, as --extent takes it."""
-    points = [point for layer in the_map.layers for feature in layer.features for part in feature.parts for point in part]
-    xs, ys = zip(*points) if points else ((0,), (0,))
-    return ",".join(number(side, the_map.digits) for side in (min(xs), min(ys), max(xs), max(ys)))
 
 
 def box_of(the_map):
     """The extent and its margin, in units of the coordinates."""
-    minx, miny, maxx, maxy = (side / 10 ** (EXTENT_DIGITS - the_map.digits) for side in the_map.extent)
+    extent = [side / 10 ** (EXTENT_DIGITS - the_map.digits) for side in the_map.extent]
     styles = [style for layer in the_map.layers for group in layer.classes for style in group.styles]
     widest = max((max(style.width, style.size) for style in styles), default=1)
-    margin = (widest / 2 + 1) * max(maxx - minx, maxy - miny) / LEAST_PICTURE
-    return math.floor(minx - margin), math.floor(miny - margin), math.ceil(maxx + margin), math.ceil(maxy + margin)
+    minx, miny, maxx, maxy = widened(extent, (widest / 2 + 1) * longer_side(extent) / LEAST_PICTURE)
+    return math.floor(minx), math.floor(miny), math.ceil(maxx), math.ceil(maxy)
 
 
 def cut_features(layer, box):
-    ways = {"POINT": lambda part, box: [[point for point in part if all(is_kept(point, side) for side in sides_of(box))]],
-            "LINE": cut_line, "POLYGON": cut_ring}
+    way = {"POINT": cut_points, "LINE": cut_line, "POLYGON": cut_ring}[layer.kind]
     for feature in layer.features:
         if all(is_inside(part, box) for part in feature.parts):
             yield feature
             continue
-        parts = [piece for part in feature.parts for piece in pieces(part, box, ways[layer.kind])]
+        near = [part for part in feature.parts if meet(bounds([part]), box)]
+        parts = [piece for part in near for piece in ([part] if is_inside(part, box) else way(part, box))]
         if layer.kind == "POLYGON":
             parts = without_twice(parts, box)
         parts = [part for part in parts if len(part) >= LEAST_POINTS[layer.kind]]
@@ -65,14 +58,6 @@ def cut_features(layer, box):
 def is_inside(part, box):
     minx, miny, maxx, maxy = bounds([part])
     return box[0] <= minx and box[1] <= miny and maxx <= box[2] and maxy <= box[3]
-
-
-def pieces(part, box, way):
-    """What of the part is in the box."""
-    minx, miny, maxx, maxy = bounds([part])
-    if maxx < box[0] or minx > box[2] or maxy < box[1] or miny > box[3]:
-        return []
-    return [part] if is_inside(part, box) else way(part, box)
 
 
 def sides_of(box):
@@ -97,6 +82,10 @@ def crossing(one, other, side):
     return (where, across) if axis == 0 else (across, where)
 
 
+def cut_points(part, box):
+    return [[point for point in part if all(is_kept(point, side) for side in sides_of(box))]]
+
+
 def cut_line(line, box):
     lines = [line]
     for side in sides_of(box):
@@ -117,15 +106,10 @@ def cut_line_at(line, side):
 
 def step(piece, before, point, side):
     """Adds what of a line between two points is on the kept side."""
-    if is_kept(before, side) != is_kept(point, side):
-        add(piece, crossing(before, point, side))
-    if is_kept(point, side):
-        add(piece, point)
-
-
-def add(piece, point):
-    if not piece or piece[-1] != point:
-        piece.append(point)
+    ends = [crossing(before, point, side)] if is_kept(before, side) != is_kept(point, side) else []
+    for end in [*ends, point] if is_kept(point, side) else ends:
+        if piece[-1:] != [end]:
+            piece.append(end)
 
 
 def cut_ring(ring, box):

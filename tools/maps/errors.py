@@ -26,20 +26,18 @@ class Notes:
     """What was changed or left out, each kind counted, with the first place where it happened."""
 
     def __init__(self):
-        self.counts = {}
-        self.places = {}
+        self.told = {}  # (how often, first place) of each
         self.changes = 0  # by which a map differs from its mapfile, as an importer counts them
 
     def add(self, what, place="", count=1):
-        self.counts[what] = self.counts.get(what, 0) + count
-        self.places.setdefault(what, place)
+        before, first = self.told.get(what, (0, place))
+        self.told[what] = before + count, first
 
     def lost(self, what, place="", count=1):
         self.add(f"left out: {what}", place, count)
 
     def lines(self):
-        for what, count in self.counts.items():
-            place = self.places[what]
+        for what, (count, place) in self.told.items():
             if count > 1:
                 yield f"{what} ({count} times{', first in ' + place if place else ''})"
             else:

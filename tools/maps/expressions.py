@@ -23,12 +23,11 @@ def filled(text, item_of):
 def text_of(expression, item_of):
     """The text that MapServer's TEXT means for a shape whose items the function gives."""
     expression = expression.strip()
-    if not expression.startswith("("):
-        quote = expression[:1]
-        if len(expression) > 1 and quote in "\"'" and expression.endswith(quote):
-            expression = expression[1:-1]
-        return filled(expression, item_of)
-    return written(read(expression, item_of))
+    if expression.startswith("("):
+        return written(read(expression, item_of))
+    if len(expression) > 1 and expression[0] in "\"'" and expression[-1] == expression[0]:
+        expression = expression[1:-1]
+    return filled(expression, item_of)
 
 
 def written(value):

@@ -5,11 +5,12 @@ import sys
 from bisect import bisect_left
 from dataclasses import dataclass, replace
 
-from .borders import Borders, joined
+from .borders import Borders
 from .errors import MapError
-from .geometry import metres_a_unit, on_grid
+from .geometry import longer_side, metres_a_unit, on_grid
 from .merging import merged
-from .model import EXTENT_DIGITS, LEAST_POINTS, MOST_PIXELS, canonical_text, measure
+from .model import (EXTENT_DIGITS, LEAST_POINTS, MOST_BYTES, MOST_FEATURES, MOST_PIXELS, MOST_POINTS,
+                    canonical_text)
 
 ROUNDING = math.sqrt(0.5)  # of the last digit, by which rounding displaces a point at most
 STEP = 1.03  # by which a distance grows where borders that would cross kept too many points
@@ -34,10 +35,18 @@ class Written:
     """A map's text, how large it is, and what became too small to draw."""
 
     text: str
-    measure: object
+    features: int
+    points: int
     lost_parts: int
     lost_features: list
     largest: Largest = None
+
+    def excess(self):
+        """Which limit the map is over, or None."""
+        counts = ((self.features, MOST_FEATURES, "features"), (self.points, MOST_POINTS, "points"),
+                  (len(self.text.encode()), MOST_BYTES, "bytes of canonical text"))
+        over = (f"{count:,} {what}, over the limit of {most:,}" for count, most, what in counts if count > most)
+        return next(over, None)
 
 
 class Fitting:
@@ -46,44 +55,27 @@ class Fitting:
     def __init__(self, the_map, options):
         layers = [replace(layer, features=features_of(layer, options)) for layer in the_map.layers]
         self.map = replace(the_map, layers=layers)
-        self.borders = Borders()
         self.unit = 10**the_map.digits
         self.extent = [side / 10**EXTENT_DIGITS for side in the_map.extent]
         self.metres = metres_a_unit(the_map.crs, self.extent)
         lined = [layer for layer in layers if layer.kind != "POINT"]
-        for layer in lined:
-            for part in (part for feature in layer.features for part in feature.parts):
-                self.borders.meet(part)
-        self.cuts = {}  # the arcs of a part, by its identity
-        for layer in lined:
-            for part in (part for feature in layer.features for part in feature.parts):
-                self.cuts[id(part)] = self.borders.cut(part, layer.kind == "POLYGON")
+        self.borders = Borders([(part, layer.kind == "POLYGON") for layer in lined for part in layer.parts()])
 
     def written(self, tolerance):
         """The map at the distance, in units of its coordinates (None: as it is), as text."""
-        simpler, lost_parts, lost_features = self.map_at(tolerance)
-        text = canonical_text(simpler)
-        return Written(text, measure(simpler, text), lost_parts, lost_features)
+        simpler, lost = self.map_at(tolerance)
+        parts = simpler.parts()
+        return Written(canonical_text(simpler), len(simpler.features()), sum(map(len, parts)),
+                       len(self.map.parts()) - len(parts), [feature for some in lost for feature in some])
 
     def map_at(self, tolerance):
-        """The map at the distance, how many parts are too small to draw, and which features."""
-        layers, lost_parts, lost_features = [], 0, []
-        for layer in self.map.layers:
-            features = []
-            for feature in layer.features:
-                parts = self.parts_at(layer.kind, feature, tolerance)
-                lost_parts += len(feature.parts) - len(parts)
-                if parts:
-                    features.append(replace(feature, parts=parts))
-                else:
-                    lost_features.append(feature)
-            layers.append(replace(layer, features=features))
-        return replace(self.map, layers=layers), lost_parts, lost_features
+        """The map at the distance, and the features of each layer that are too small to draw."""
+        return reshaped(self.map, lambda kind, feature: self.parts_at(kind, feature, tolerance))
 
     def parts_at(self, kind, feature, tolerance):
         if kind == "POINT" or tolerance is None:
             return feature.parts
-        parts = [joined(self.cuts[id(part)], tolerance) for part in feature.parts]
+        parts = [self.borders.simplified(part, tolerance) for part in feature.parts]
         return [part for part in parts if len(part) >= LEAST_POINTS[kind] and not (kind == "LINE" and len(part) == 2 and part[0] == part[1])]
 
     def simplified(self, tolerance):
@@ -94,32 +86,24 @@ class Fitting:
     def fitted(self):
         """The least distance at which the map is within the limits (None: as it is), and the map at it."""
         whole = self.written(None)
-        if whole.measure.excess() is None:
+        if whole.excess() is None:
             return None, whole
         distances = self.borders.distances()
-        if not distances or self.written(distances[-1]).measure.excess() is not None:
-            excess = (self.written(distances[-1]) if distances else whole).measure.excess()
-            raise MapError(
-                f"even with the simplest shapes the map has {excess}: take a part by --extent, leave out layers or small features, write "
-                "--by-class or fewer labels, or make two maps (docs/MAPFILES.md, \"Two maps\")"
-            )
-        least = bisect_left(distances, True, hi=len(distances) - 1, key=lambda it: self.written(it).measure.excess() is None)
-        return self.without_crossings(distances[least], distances[-1])
-
-    def without_crossings(self, tolerance, greatest):
-        """From the distance on, the least at which the map is within the limits with borders that don't cross."""
-        while True:
-            written = self.simplified(tolerance)
-            if written.measure.excess() is None:
-                return tolerance, written
-            if tolerance > greatest:
-                raise MapError(f"with borders that don't cross the map has {written.measure.excess()}: make two maps (docs/MAPFILES.md)")
+        excess = (self.written(distances[-1]) if distances else whole).excess()
+        if excess is not None:
+            raise MapError(f"even with the simplest shapes the map has {excess}: take a part by --extent, leave out layers or "
+                           "small features, write --by-class or fewer labels, or make two maps (docs/MAPFILES.md, \"Two maps\")")
+        least = bisect_left(distances, True, hi=len(distances) - 1, key=lambda it: self.written(it).excess() is None)
+        tolerance = distances[least]
+        while (excess := (written := self.simplified(tolerance)).excess()) is not None:
+            if tolerance > distances[-1]:
+                raise MapError(f"with borders that don't cross the map has {excess}: make two maps (docs/MAPFILES.md)")
             tolerance *= STEP
+        return tolerance, written
 
     def pixels(self, distance):
         """A distance on the largest picture of the extent."""
-        minx, miny, maxx, maxy = self.extent
-        return distance / self.unit * MOST_PIXELS / max(maxx - minx, maxy - miny)
+        return distance / self.unit * MOST_PIXELS / longer_side(self.extent)
 
     def distance(self, tolerance):
         """The distance in words: in metres on the ground and in pixels."""
@@ -142,13 +126,21 @@ def features_of(layer, options):
 
 def rounded(the_map, digits, notes):
     """The map with fewer digits."""
-    layers = []
-    for layer in the_map.layers:
-        features = [replace(feature, parts=on_grid(feature.parts, layer.kind, digits - the_map.digits)) for feature in layer.features]
-        tell_lost([feature for feature in features if not feature.parts], f"layer {layer.name}: ", notes)
-        layers.append(replace(layer, features=[feature for feature in features if feature.parts]))
+    coarser, lost = reshaped(the_map, lambda kind, feature: on_grid(feature.parts, kind, digits - the_map.digits))
+    for layer, features in zip(the_map.layers, lost):
+        tell_lost(features, f"layer {layer.name}: ", notes)
     notes.add(f"coordinates have {digits} digits after the point")
-    return replace(the_map, digits=digits, layers=layers)
+    return replace(coarser, digits=digits)
+
+
+def reshaped(the_map, parts_of):
+    """The map with the parts that a function of a kind and a feature gives, and the features of each layer with none."""
+    layers, lost = [], []
+    for layer in the_map.layers:
+        features = [replace(feature, parts=parts_of(layer.kind, feature)) for feature in layer.features]
+        layers.append(replace(layer, features=[feature for feature in features if feature.parts]))
+        lost.append([feature for feature in features if not feature.parts])
+    return replace(the_map, layers=layers), lost
 
 
 def tell_lost(features, place, notes):
@@ -180,7 +172,7 @@ def finished(the_map, options, notes):
         fitting = Fitting(the_map, options)
         tolerance = options.simplify / fitting.metres * fitting.unit if options.simplify else None
         written = fitting.written(None) if tolerance is None else fitting.simplified(tolerance)
-    excess = written.measure.excess()
+    excess = written.excess()
     if excess is not None:
         remedy = "write --fit" if not options.simplify else "simplify more, or write --fit"
         raise MapError(f"the map has {excess}: {remedy}, take a part by --extent, leave out layers or features, or make two maps (docs/MAPFILES.md)")
@@ -197,5 +189,5 @@ def tell(written, notes, stream=sys.stderr):
     """Notes and the map's size, a line each."""
     for line in notes.lines():
         print(f"note: {line}", file=stream)
-    size = written.measure
-    print(f"note: {size.size:,} bytes, {size.features:,} features, {size.points:,} points; the largest displacement is {written.largest}", file=stream)
+    print(f"note: {len(written.text.encode()):,} bytes, {written.features:,} features, {written.points:,} points; "
+          f"the largest displacement is {written.largest}", file=stream)

@@ -36,6 +36,25 @@ def cure(crs):
     return "give the data's own system (--source), or cut the data (ogr2ogr -wrapdateline)"
 
 
+def bounds(parts):
+    """The box of the parts: their least and greatest coordinates."""
+    xs, ys = zip(*(point for part in parts for point in part))
+    return min(xs), min(ys), max(xs), max(ys)
+
+
+def longer_side(box):
+    return max(box[2] - box[0], box[3] - box[1])
+
+
+def widened(box, margin):
+    return box[0] - margin, box[1] - margin, box[2] + margin, box[3] + margin
+
+
+def meet(one, other):
+    """Whether two boxes have a point in common."""
+    return one[0] <= other[2] and one[2] >= other[0] and one[1] <= other[3] and one[3] >= other[1]
+
+
 def whole_extent(sides, digits):
     """The sides of an extent, rounded to the digits, as a map has them."""
     return tuple(round(side * 10**digits) * 10 ** (EXTENT_DIGITS - digits) for side in sides)
@@ -61,17 +80,13 @@ def greatest_first(parts, kind):
     """The parts, the greatest first."""
     if kind == "POINT" or len(parts) < 2:
         return parts
-    greatest = max(parts, key=ring_area if kind == "POLYGON" else length)
+    greatest = max(parts, key=ring_area if kind == "POLYGON" else lambda line: sum(map(math.dist, line, line[1:])))
     return [greatest] + [part for part in parts if part is not greatest]
 
 
 def ring_area(ring):
     """Twice the area inside of a closed ring."""
     return abs(sum(x * next_y - next_x * y for (x, y), (next_x, next_y) in zip(ring, ring[1:])))
-
-
-def length(line):
-    return sum(map(math.dist, line, line[1:]))
 
 
 def metres_a_unit(crs, extent):

@@ -4,6 +4,7 @@ MapServer's library; this is for reports of what became of each keyword, so noth
 
 import re
 from dataclasses import dataclass, field
+from itertools import takewhile
 from pathlib import Path
 
 from .errors import MapError
@@ -33,12 +34,13 @@ LONGEST = 60  # letters of a keyword in a report
 
 @dataclass(eq=False)
 class Keyword:
-    """A keyword with its words, or a key of METADATA with its value."""
+    """A keyword with its words, or a key of METADATA with its value. What becomes of it is of account.py."""
 
     name: str
     words: list
     block: str
     place: str
+    fate: int = 0
 
     def __str__(self):
         text = " ".join([self.name, *(f'"{word}"' if self.block in PAIRS else word for word in self.words)])
@@ -84,7 +86,7 @@ def decoded(data):
 
 
 def tokens(path, folder, depth=0):
-    """(text, whether it is a bare word, place) of each token, those of INCLUDE in its stead."""
+    """(text, the same in capitals if it is a bare word, place) of each token, those of INCLUDE in its stead."""
     if depth > DEEPEST:
         raise MapError(f"{path}: files include one another too deeply")
     text = decoded(path.read_bytes())
@@ -100,7 +102,8 @@ def tokens(path, folder, depth=0):
         elif kind == "word" and whole.upper() == "INCLUDE":
             is_name = True
         elif kind != "space":
-            yield re.sub(r"\\(.)", r"\1", found[kind]) if kind in ("double", "single") else whole, kind == "word", f"{path.name}, line {line}"
+            string = re.sub(r"\\(.)", r"\1", found[kind]) if kind in ("double", "single") else whole
+            yield string, whole.upper() if kind == "word" else "", f"{path.name}, line {line}"
         line += whole.count("\n")
         place = found.end()
 
@@ -111,41 +114,27 @@ class Reader:
     def __init__(self, path):
         self.waiting = list(tokens(path, path.parent))[::-1]
 
-    def map(self):
-        while self.waiting:
-            text, is_word, place = self.waiting.pop()
-            if is_word and text.upper() == "MAP":
-                return self.block("MAP", place)
-        raise MapError("it has no MAP")
-
     def block(self, name, place):
         result = Block(name, place)
         inner = INNER.get(name, "").split()
-        while True:
-            text, is_word, place = self.next(name)
-            word = text.upper()
-            if is_word and word == "END":
-                return result
-            if is_word and word in inner:
+        for text, word, place in self.until_end(name):
+            if word in inner:
                 result.blocks.append(self.block(word, place))
             elif name in PAIRS:
                 result.keywords.append(Keyword(text, [self.next(name)[0]], name, place))
             else:
-                words = self.list(word) if word in LISTS else self.words(word)
-                result.keywords.append(Keyword(word, words, name, place))
+                result.keywords.append(Keyword(text.upper(), self.words(text.upper()), name, place))
+        return result
 
-    def list(self, name):
-        words = []
-        while True:
-            text, is_word, _ = self.next(name)
-            if is_word and text.upper() == "END":
-                return words
-            words.append(text)
+    def until_end(self, name):
+        return takewhile(lambda token: token[1] != "END", iter(lambda: self.next(name), None))
 
     def words(self, name):
-        """The words of a keyword: one, of CONFIG two, and what can't begin another."""
+        """The words of a keyword: those before END, or one, of CONFIG two, and what can't begin another."""
+        if name in LISTS:
+            return [text for text, _, _ in self.until_end(name)]
         words = [self.next(name)[0] for _ in range(2 if name == "CONFIG" else 1)]
-        while self.waiting and not (self.waiting[-1][1] and self.waiting[-1][0][:1].isalpha()):
+        while self.waiting and not self.waiting[-1][1][:1].isalpha():
             words.append(self.waiting.pop()[0])
         return words
 
@@ -157,4 +146,9 @@ class Reader:
 
 def written(path):
     """The block MAP of the mapfile, with the files that it includes."""
-    return Reader(Path(path)).map()
+    reader = Reader(Path(path))
+    while reader.waiting:
+        _, word, place = reader.waiting.pop()
+        if word == "MAP":
+            return reader.block(word, place)
+    raise MapError("it has no MAP")

@@ -11,7 +11,7 @@ that is there twice counts for nothing where a shape is filled (even-odd).
 from itertools import groupby, repeat
 
 from .errors import library
-from .geometry import meetings
+from .geometry import bounds, meetings
 from .model import Feature
 
 
@@ -28,23 +28,20 @@ def merged(layer):
 def alike(kind, styles, run):
     """The run of features of one class without labels, with those that can be one as one, in the order of the first."""
     if kind == "LINE":
-        return joined(run, repeat(0))
+        return joined(run)
     if len(styles) != 1 or (styles[0].color is not None and styles[0].outline is not None):
         return run
-    if kind == "POLYGON" and styles[0].color is None:
-        return joined(run, repeat(0))
-    if kind == "POLYGON":
-        shapes = joined(run, turns(run))
-        for shape in shapes:
-            shape.parts = dissolved(shape.parts)
-        return shapes
-    shapes = joined(run, repeat(0))
+    is_filled = kind == "POLYGON" and styles[0].color is not None
+    shapes = joined(run, turns(run)) if is_filled else joined(run)
     for shape in shapes:
-        shape.parts = [[point for part in shape.parts for point in part]]
+        if is_filled:
+            shape.parts = dissolved(shape.parts)
+        elif kind == "POINT":
+            shape.parts = [[point for part in shape.parts for point in part]]
     return shapes
 
 
-def joined(run, numbers):
+def joined(run, numbers=repeat(0)):
     """One feature for those with the same attributes and the same number."""
     shapes = {}
     for feature, number in zip(run, numbers):
@@ -74,26 +71,22 @@ def turns(run):
 
 def lie_apart(one, other):
     """Whether the insides of two polygons have nothing in common; False where either isn't a plain polygon."""
-    if one is None or other is None or not one.is_valid or not other.is_valid:
-        return False
-    return one.relate_pattern(other, "F********")
+    are_plain = one is not None and other is not None and one.is_valid and other.is_valid
+    return are_plain and one.relate_pattern(other, "F********")
 
 
 def dissolved(rings, may_go=lambda side: True):
     """Rings of the sides that are there once, and of those that may not go. Sides in both directions are one."""
-    sides, places = [], {}
-    for side in (side for ring in rings for side in zip(ring, ring[1:])):
-        key = min(side), max(side)
-        if key in places and may_go(key):
-            sides[places.pop(key)] = None
-        else:
-            places[key] = len(sides)
-            sides.append(key)
-    left = [side for side in sides if side is not None]
+    sides = [(min(side), max(side)) for ring in rings for side in zip(ring, ring[1:])]
+    left = {}
+    for place, side in enumerate(sides):
+        key = side, None if may_go(side) else place
+        if left.pop(key, None) is None:
+            left[key] = side
     if len(left) == len(sides):
         return rings
     ends = {}
-    for one, other in left:
+    for one, other in left.values():
         ends.setdefault(one, []).append(other)
         ends.setdefault(other, []).append(one)
     result = []
@@ -111,10 +104,3 @@ def ring_from(start, ends):
         ends[after].remove(ring[-1])
         ring.append(after)
     return ring
-
-
-def bounds(parts):
-    """The least and greatest coordinates of the parts."""
-    xs = [x for part in parts for x, _ in part]
-    ys = [y for part in parts for _, y in part]
-    return min(xs), min(ys), max(xs), max(ys)

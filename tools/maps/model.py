@@ -72,6 +72,9 @@ class Layer:
     features: list
     items: list = field(default_factory=list)
 
+    def parts(self):
+        return [part for feature in self.features for part in feature.parts]
+
 
 @dataclass
 class Map:
@@ -86,26 +89,11 @@ class Map:
     extent: tuple
     layers: list
 
+    def features(self):
+        return [feature for layer in self.layers for feature in layer.features]
 
-@dataclass
-class Measure:
-    """How large a map is, by what is limited."""
-
-    size: int
-    features: int
-    points: int
-
-    def excess(self):
-        """Which limit the map is over, or None."""
-        counts = ((self.features, MOST_FEATURES, "features"), (self.points, MOST_POINTS, "points"),
-                  (self.size, MOST_BYTES, "bytes of canonical text"))
-        return next((f"{count:,} {what}, over the limit of {most:,}" for count, most, what in counts if count > most), None)
-
-
-def measure(the_map, text):
-    features = [feature for layer in the_map.layers for feature in layer.features]
-    points = sum(len(part) for feature in features for part in feature.parts)
-    return Measure(len(text.encode()), len(features), points)
+    def parts(self):
+        return [part for layer in self.layers for part in layer.parts()]
 
 
 # ---- the canonical text
@@ -144,23 +132,15 @@ def feature_lines(layer, place, feature, digits):
     return lines + ["END"]
 
 
-def class_item(layer):
-    """The name of the attribute that holds a feature's class, empty where there is one class."""
-    if len(layer.classes) <= 1:
-        return ""
-    name = "class"
-    while name in layer.items:
-        name += "_"
-    return name
-
-
 def layer_lines(layer, digits):
     what = f"layer {layer.name}"
     if layer.name == "" or "," in layer.name:
         raise MapError(f"{what}: a name is neither empty nor has a comma: rename it")
     if len(layer.classes) > MOST_CLASSES:
         raise MapError(f"{what}: {len(layer.classes)} classes, over the limit of {MOST_CLASSES}: use fewer")
-    item = class_item(layer)
+    item = "class" if len(layer.classes) > 1 else ""  # the attribute that holds a feature's class
+    while item and item in layer.items:
+        item += "_"
     items = ",".join(layer.items + ([item] if item else []))
     if len(items.encode()) > MOST_ITEMS:
         raise MapError(f"{what}: its attribute names have {len(items.encode())} bytes, over the limit of {MOST_ITEMS}: keep fewer")

@@ -40,6 +40,10 @@ def extent(text):
     return minx, miny, maxx, maxy
 
 
+def names(text):
+    return text.split(",")
+
+
 def distance(text):
     """A distance in metres."""
     if re.fullmatch(r"[0-9]{1,8}(\.[0-9]{1,6})?", text):

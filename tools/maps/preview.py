@@ -10,14 +10,14 @@ import subprocess
 import tempfile
 from dataclasses import replace
 from pathlib import Path
+from urllib.parse import quote
 
 from pixmap_to_png import png
 
 from .errors import MapError, library
-from .merging import bounds
+from .geometry import bounds, longer_side, meet, widened
 from .model import EXTENT_DIGITS, Class, Feature, Label, Layer, Map, canonical_text
-from .query import picture_query, size_of
-from .texts import ascii_letters
+from .texts import ascii_letters, number
 
 BUILT = Path(__file__).resolve().parents[2] / "crates/wfarm/out/wfarm"
 MOST_PIECE = 4_000  # points of a piece, so that it is within all limits
@@ -31,6 +31,24 @@ GREY = 190
 WHITE = 0xFFFFFF
 
 
+def size_of(extent, side):
+    """The width and height of a picture, the longer one of them the side, in the proportions of the extent."""
+    minx, miny, maxx, maxy = extent
+    scale = side / longer_side(extent)
+    return max(1, round((maxx - minx) * scale)), max(1, round((maxy - miny) * scale))
+
+
+def picture_query(the_map, side, extent=None):
+    """The WMS query of a picture of all layers, of the map's extent or of another (in millionths of a unit)."""
+    extent = extent or the_map.extent
+    width, height = size_of(extent, side)
+    names = [quote(layer.name, safe="") for layer in the_map.layers]
+    box = ",".join(number(value, EXTENT_DIGITS) for value in extent)
+    crs = "CRS:84" if the_map.crs == "4326" else "EPSG:3857"
+    return (f"SERVICE=WMS&VERSION=1.3.0&REQUEST=GetMap&LAYERS={','.join(names)}&STYLES={',' * (len(names) - 1)}"
+            f"&CRS={crs}&BBOX={box}&WIDTH={width}&HEIGHT={height}&FORMAT=image/x-portable-pixmap")
+
+
 class Painter:
     """Draws maps by the program, as arrays of numpy of height, width and 3."""
 
@@ -41,7 +59,9 @@ class Painter:
         self.side = side
         self.numpy = library("numpy", "python3-numpy")
 
-    def drawn(self, text, query):
+    def drawn(self, the_map, text, extent, side=None):
+        """The text, which is that of the map or of a simpler one."""
+        query = picture_query(the_map, side or self.side, extent)
         try:
             done = subprocess.run([self.program, "draw", query], input=text.encode(), capture_output=True)
         except OSError as error:
@@ -53,10 +73,8 @@ class Painter:
     def pixels(self, pixmap):
         """The pixels of a P6 pixmap."""
         head = re.match(rb"P6\s+(?:#[^\n]*\s+)?(\d+) (\d+)\s+255\n", pixmap)
-        return self.numpy.frombuffer(pixmap, "uint8", offset=head.end()).reshape(int(head[2]), int(head[1]), 3)
-
-    def map(self, the_map, text, extent):
-        return self.drawn(text, picture_query(the_map, self.side, extent))
+        pixels = self.numpy.frombuffer(pixmap, "uint8", offset=head.end())
+        return pixels.reshape(int(head[2]), int(head[1]), 3).copy()
 
     def source(self, fitting, extent):
         """A map of any size, the points of which that no picture shows are left out: its shapes in pieces, then its labels.
@@ -65,8 +83,9 @@ class Painter:
         picture = self.numpy.full(size_of(extent, self.side)[::-1], WHITE, "uint32")
         the_map = seen(fitting, extent, self.side)
         for piece in [*pieces(the_map, extent), *labels(the_map)]:
-            coded = replace(piece, layers=[replace(layer, classes=[coded_class(group, codes) for group in layer.classes]) for layer in piece.layers])
-            drawn = self.map(coded, canonical_text(coded), extent).astype("uint32")
+            for layer in piece.layers:
+                layer.classes = [coded_class(group, codes) for group in layer.classes]
+            drawn = self.drawn(piece, canonical_text(piece), extent).astype("uint32")
             drawn = drawn[:, :, 0] << 16 | drawn[:, :, 1] << 8 | drawn[:, :, 2]
             picture = self.numpy.where(drawn == WHITE, picture, drawn)
         result = self.numpy.full((*picture.shape, 3), 255, "uint8")
@@ -81,7 +100,7 @@ class Painter:
         line = Layer("a", "a", "POINT", [label], [Feature([[(0, CAPTION // 2)]], 0, [], text)])
         size = tuple(side * 10**EXTENT_DIGITS for side in (0, 0, width, CAPTION))
         the_map = Map("a", "a", "", "", "3857", 0, size, [line])
-        return self.drawn(canonical_text(the_map), picture_query(the_map, width, size))
+        return self.drawn(the_map, canonical_text(the_map), size, width)
 
 
 def coded_class(group, codes):
@@ -99,35 +118,33 @@ def coded_class(group, codes):
 
 def seen(fitting, extent, side):
     """The map with points as far apart as a picture of the extent shows, at least, and no shape with more than a piece has."""
-    tolerance = UNSEEN * max(extent[2] - extent[0], extent[3] - extent[1]) / side / 10 ** (EXTENT_DIGITS - fitting.map.digits)
+    tolerance = UNSEEN * longer_side(extent) / side / 10 ** (EXTENT_DIGITS - fitting.map.digits)
     while True:
         the_map = fitting.map_at(tolerance)[0]
-        if all(sum(map(len, feature.parts)) <= MOST_PIECE for layer in the_map.layers for feature in layer.features if layer.kind == "POLYGON"):
+        polygons = [feature for layer in the_map.layers if layer.kind == "POLYGON" for feature in layer.features]
+        if all(sum(map(len, feature.parts)) <= MOST_PIECE for feature in polygons):
             return the_map
         tolerance *= 2
 
 
-def near(feature, extent, digits):
-    """Whether something of the feature may be seen in a picture of the extent."""
-    scale = 10 ** (EXTENT_DIGITS - digits)
-    minx, miny, maxx, maxy = (side * scale for side in bounds(feature.parts))
-    margin = max(extent[2] - extent[0], extent[3] - extent[1]) // 8
-    return minx <= extent[2] + margin and maxx >= extent[0] - margin and miny <= extent[3] + margin and maxy >= extent[1] - margin
-
-
 def pieces(the_map, extent):
     """Maps of some of the features each, without their labels, that paint the extent one after another."""
+    near = widened(extent, longer_side(extent) // 8)
+    unit = 10 ** (EXTENT_DIGITS - the_map.digits)
     for layer in the_map.layers:
         plain = replace(layer, items=[], classes=[replace(group, label=None) for group in layer.classes])
         some, points = [], 0
-        for feature in [*(feature for feature in layer.features if near(feature, extent, the_map.digits)), None]:
-            count = sum(map(len, feature.parts)) if feature else MOST_PIECE
+        for feature in layer.features:
+            if not meet([side * unit for side in bounds(feature.parts)], near):
+                continue
+            count = sum(map(len, feature.parts))
             if some and (points + count > MOST_PIECE or len(some) == MOST_FEATURES):
                 yield replace(the_map, layers=[replace(plain, features=some)])
                 some, points = [], 0
-            if feature:
-                some.append(replace(feature, values=[], text=""))
-                points += count
+            some.append(replace(feature, values=[], text=""))
+            points += count
+        if some:
+            yield replace(the_map, layers=[replace(plain, features=some)])
 
 
 def labels(the_map):
@@ -135,16 +152,14 @@ def labels(the_map):
     layers = []
     for layer in the_map.layers:
         classes = [replace(group, styles=[]) for group in layer.classes]
-        features = [Feature([middle(feature.parts[0])], feature.group, [], feature.text) for feature in layer.features if feature.text]
+        features = []
+        for feature in (feature for feature in layer.features if feature.text):
+            left, low, right, high = bounds(feature.parts[:1])
+            features.append(replace(feature, parts=[[((left + right) // 2, (low + high) // 2)]], values=[]))
         layers.append(replace(layer, kind="POINT", items=[], classes=classes, features=features))
     whole = replace(the_map, layers=layers)
-    if sum(len(layer.features) for layer in layers) <= 2 * MOST_FEATURES and len(canonical_text(whole)) <= 131_072:
+    if len(whole.features()) <= 2 * MOST_FEATURES and len(canonical_text(whole)) <= 131_072:
         yield whole
-
-
-def middle(part):
-    xs, ys = [x for x, _ in part], [y for _, y in part]
-    return [((min(xs) + max(xs)) // 2, (min(ys) + max(ys)) // 2)]
 
 
 class MapServer:
@@ -196,31 +211,25 @@ def pixmap_of(script, the_map):
 
 def write(path, painter, the_map, written, source):
     """Writes the preview. The source is a function of an extent, in millionths of a unit, to pixels."""
-    numpy = painter.numpy
-    rows = [painter_row(painter, the_map, written, source, the_map.extent)]
-    captions = ["SOURCE", "MAP"]
-    largest = written.largest
+    numpy, largest = painter.numpy, written.largest
+
+    def beside(left, right):
+        gap = numpy.full((left.shape[0], GAP, 3), GREY, "uint8")
+        return numpy.concatenate([left, gap, right], axis=1)
+
+    pictures = [source(the_map.extent), painter.drawn(the_map, written.text, the_map.extent)]
+    closer = []
     if largest.place is not None:
         near = surroundings(the_map.extent, largest.place)
-        for picture in rows[0]:
+        for picture in pictures:
             frame(picture, the_map.extent, near)
-        rows.append(painter_row(painter, the_map, written, source, near))
-    width = rows[0][0].shape[1]
-    lines = [beside(numpy, [painter.caption(text, width) for text in captions]), beside(numpy, rows[0])]
-    lines.append(painter.caption(f"LARGEST DISPLACEMENT {largest}".upper(), 2 * width + GAP))
-    lines += [beside(numpy, row) for row in rows[1:]]
-    whole = numpy.concatenate(lines)
+        closer = [beside(source(near), painter.drawn(the_map, written.text, near))]
+    width = pictures[0].shape[1]
+    heads = [painter.caption(text, width) for text in ("SOURCE", "MAP")]
+    below = painter.caption(f"LARGEST DISPLACEMENT {largest}".upper(), 2 * width + GAP)
+    whole = numpy.concatenate([beside(*heads), beside(*pictures), below, *closer])
     pixmap = b"P6\n%d %d\n255\n" % (whole.shape[1], whole.shape[0]) + whole.tobytes()
     path.write_bytes(png(pixmap))
-
-
-def painter_row(painter, the_map, written, source, extent):
-    return [source(extent).copy(), painter.map(the_map, written.text, extent).copy()]
-
-
-def beside(numpy, pictures):
-    gap = numpy.full((pictures[0].shape[0], GAP, 3), GREY, "uint8")
-    return numpy.concatenate([pictures[0], gap, pictures[1]], axis=1)
 
 
 def surroundings(extent, place):

@@ -5,10 +5,14 @@ import re
 from .account import IDLE, drop_block, mark
 from .errors import MapError, library
 from .expressions import Unknown, text_of
-from .model import LABEL_SIZES, MOST_BUFFER, MOST_PRIORITY, MOST_SIZE, MOST_WIDTH, Class, Label, Style
+from .model import (LABEL_SIZES, MOST_BUFFER, MOST_PRIORITY, MOST_SIZE, MOST_WIDTH, POSITIONS, Class, Label,
+                    Style)
 
 LETTER = 0.55  # the width of a letter of most fonts, in heights
 BITMAP_SIZES = (5, 7, 10, 13, 16)  # of MapServer's own font, TINY to GIANT, in pixels
+# what styles and labels can take from an item
+STYLE_WORDS = ("COLOR", "OUTLINECOLOR", "WIDTH", "SIZE")
+LABEL_WORDS = ("COLOR", "SIZE", "PRIORITY")
 
 
 class Symbology:
@@ -19,26 +23,22 @@ class Symbology:
         self.mapscript = library("mapscript", "python3-mapscript")
         self.layer, self.kind, self.scale, self.blocks, self.teller = layer, kind, scale, blocks, teller
         self.factor = size_factor(self.mapscript, layer, scale)
+        self.positions = {getattr(self.mapscript, f"MS_{name}"): name for name in POSITIONS}
         self.items = {layer.getItem(i): i for i in range(layer.numitems) if layer.getItem(i) in items}
         self.known = {}  # classes as drawn, by their index and the values that they are bound to
         self.bound = [self.bound_items(layer.getClass(i)) for i in range(layer.numclasses)]
 
-    def in_scale(self, thing):
-        least, most = thing.minscaledenom, thing.maxscaledenom
-        return not (least > 0 and self.scale < least) and not (most > 0 and self.scale >= most)
-
-    def styles_of(self, group):
-        return [group.getStyle(i) for i in range(group.numstyles)]
-
     # ---- bound values
+
+    def item(self, thing, word):
+        """The name of the item that a style or label takes a value from, if any."""
+        kind = "STYLE" if isinstance(thing, self.mapscript.styleObj) else "LABEL"
+        return thing.getBinding(getattr(self.mapscript, f"MS_{kind}_BINDING_{word}"))
 
     def bound_items(self, group):
         """The names of the items that styles and labels of the class take values from."""
-        script = self.mapscript
-        ways = [script.MS_STYLE_BINDING_COLOR, script.MS_STYLE_BINDING_OUTLINECOLOR, script.MS_STYLE_BINDING_WIDTH, script.MS_STYLE_BINDING_SIZE]
-        names = [style.getBinding(way) for style in self.styles_of(group) for way in ways]
-        ways = [script.MS_LABEL_BINDING_COLOR, script.MS_LABEL_BINDING_SIZE, script.MS_LABEL_BINDING_PRIORITY]
-        names += [label.getBinding(way) for label in map(group.getLabel, range(group.numlabels)) for way in ways]
+        names = [self.item(style, word) for style in styles_of(group) for word in STYLE_WORDS]
+        names += [self.item(label, word) for label in labels_of(group) for word in LABEL_WORDS]
         return list(dict.fromkeys(filter(None, names)))
 
     def value(self, shape, item):
@@ -54,7 +54,7 @@ class Symbology:
         return self.known[index, values]
 
     def made(self, group, block, values):
-        styles = [(style, block) for style, block in zip(self.styles_of(group), block.all("STYLE")) if self.is_drawn(style, block)]
+        styles = [(style, inner) for style, inner in zip(styles_of(group), block.all("STYLE")) if self.is_drawn(style, inner)]
         has_fill = any(style.symbol == 0 and is_color(style.color) for style, _ in styles)
         drawn = [one for style, block in styles for one in self.style(style, block, values, has_fill)]
         return Class(group.name or "", drawn, self.label(group, block, values))
@@ -63,20 +63,15 @@ class Symbology:
 
     def is_drawn(self, style, block):
         """Whether something of the style can be drawn at this scale."""
-        if not self.in_scale(style):
-            drop_block(block, self.teller, ", which isn't drawn at this scale")
-            return False
-        if block.keyword("GEOMTRANSFORM") is not None:
-            drop_block(block, self.teller, " with GEOMTRANSFORM")
-            return False
-        return True
+        is_here = has_scale(style, self.scale)
+        if is_here and block.keyword("GEOMTRANSFORM") is None:
+            return True
+        drop_block(block, self.teller, " with GEOMTRANSFORM" if is_here else ", which isn't drawn at this scale")
+        return False
 
     def style(self, style, block, values, has_fill):
-        script = self.mapscript
-        color = self.color(style.color, style.getBinding(script.MS_STYLE_BINDING_COLOR), values, block, "COLOR")
-        outline = self.color(style.outlinecolor, style.getBinding(script.MS_STYLE_BINDING_OUTLINECOLOR), values, block, "OUTLINECOLOR")
-        width = self.pixels(style.width, style.getBinding(script.MS_STYLE_BINDING_WIDTH), values, style.minwidth, style.maxwidth)
-        size = self.pixels(style.size, style.getBinding(script.MS_STYLE_BINDING_SIZE), values, style.minsize, style.maxsize)
+        color, outline = (self.color(style, word, values, block) for word in ("COLOR", "OUTLINECOLOR"))
+        width, size = (self.pixels(style, word, values) for word in ("WIDTH", "SIZE"))
         if self.kind == "POLYGON":
             return self.polygon(style, block, color, outline, width, has_fill)
         if self.kind == "LINE":
@@ -130,7 +125,10 @@ class Symbology:
             self.teller.change(block.keyword("SYMBOL"), ": it is a square")
         if color is not None:
             self.teller.drop(block.keyword("OUTLINECOLOR"))
-        return [Style(color=color or outline, size=self.most(size if size > 0 else self.symbol_size(style), MOST_SIZE, block.keyword("SIZE")))]
+        if size <= 0:
+            symbol = self.layer.map.symbolset.getSymbol(style.symbol)
+            size = symbol.sizey if symbol is not None and symbol.sizey > 0 else 1
+        return [Style(color=color or outline, size=self.most(size, MOST_SIZE, block.keyword("SIZE")))]
 
     def drop_words(self, block, names, are_seen):
         """Tells of keywords by which this kind of layer isn't drawn here; whether MapServer's picture shows them."""
@@ -140,12 +138,9 @@ class Symbology:
             else:
                 mark([keyword], IDLE)
 
-    def symbol_size(self, style):
-        symbol = self.layer.map.symbolset.getSymbol(style.symbol)
-        return symbol.sizey if symbol is not None and symbol.sizey > 0 else 1
-
-    def color(self, color, item, values, block, name):
+    def color(self, thing, word, values, block):
         """Red, green and blue, or None where nothing is drawn. That OPACITY is left out, which alters colours, is told by itself."""
+        color, item = getattr(thing, word.lower()), self.item(thing, word)
         if item:
             found, is_opaque = color_of(values[item], self.layer.name, item), len(values[item].strip()) != 9
         elif is_color(color):
@@ -153,11 +148,13 @@ class Symbology:
         else:
             return None
         if not is_opaque:
-            self.teller.change(block.keyword(name), ": it is opaque")
+            self.teller.change(block.keyword(word), ": it is opaque")
         return found
 
-    def pixels(self, size, item, values, least, most):
+    def pixels(self, thing, word, values):
         """A width or size in pixels at this scale, within the limits that the style gives."""
+        item = self.item(thing, word)
+        size, least, most = (getattr(thing, limit + word.lower(), 0) for limit in ("", "min", "max"))
         if item:
             try:
                 size = float(values[item])
@@ -179,67 +176,46 @@ class Symbology:
 
     # ---- labels
 
-    def positions(self):
-        return {getattr(self.mapscript, f"MS_{name}"): name for name in ("UL", "UC", "UR", "CL", "CC", "CR", "LL", "LC", "LR")}
-
-    def shown_label(self, group):
-        """The class's label at this scale, or None."""
-        layer = self.layer
-        least, most = layer.labelminscaledenom, layer.labelmaxscaledenom
-        if (least > 0 and self.scale < least) or (most > 0 and self.scale >= most):
-            return None
-        return next((label for label in map(group.getLabel, range(group.numlabels)) if self.in_scale(label)), None)
+    def is_label_drawn(self, label):
+        return has_scale(self.layer, self.scale, "label") and has_scale(label, self.scale)
 
     def label(self, group, block, values):
-        label, block = self.shown_label(group), self.shown_block(group, block)
-        if label is None:
-            return None
-        script = self.mapscript
-        color = self.color(label.color, label.getBinding(script.MS_LABEL_BINDING_COLOR), values, block, "COLOR") or (0, 0, 0)
-        size = self.pixels(label.size, label.getBinding(script.MS_LABEL_BINDING_SIZE), values, label.minsize, label.maxsize)
-        named = label_size(size, label.font)
-        keyword = block.keyword("SIZE")
-        if keyword is not None and keyword.words[0].upper() != named:
-            self.teller.change(keyword, f" became {named}")
+        """The first of the class's labels that are drawn, or None. The others are told of."""
+        drawn = []
+        for label, inner in zip(labels_of(group), block.all("LABEL")):
+            if self.is_label_drawn(label):
+                drawn.append((label, inner))
+            else:
+                drop_block(inner, self.teller, ", which isn't drawn at this scale")
+        for _, inner in drawn[1:]:
+            drop_block(inner, self.teller, ", since a class has one")
+        return self.label_as(*drawn[0], values) if drawn else None
+
+    def label_as(self, label, block, values):
+        """The label as it is drawn."""
+        size, position, force = map(block.keyword, ("SIZE", "POSITION", "FORCE"))
+        color = self.color(label, "COLOR", values, block) or (0, 0, 0)
+        named = label_size(self.pixels(label, "SIZE", values), label.font)
+        if size is not None and size.words[0].upper() != named:
+            self.teller.change(size, f" became {named}")
         buffer = self.most(label.buffer * self.factor, MOST_BUFFER, block.keyword("BUFFER")) if label.buffer > 0 else 0
-        return Label(color, named, self.position(label, block), self.priority(label, block, values), self.force(block), buffer)
-
-    def position(self, label, block):
-        keyword = block.keyword("POSITION")
-        if keyword is not None and label.position not in self.positions():
-            self.teller.change(keyword, " became CC")
-        return self.positions().get(label.position, "CC")
-
-    def priority(self, label, block, values):
-        item = label.getBinding(self.mapscript.MS_LABEL_BINDING_PRIORITY)
-        priority = int(self.pixels(1, item, values, 0, 0) / self.factor) if item else label.priority
+        if position is not None and label.position not in self.positions:
+            self.teller.change(position, " became CC")
+        priority = label.priority
+        if self.item(label, "PRIORITY"):
+            priority = int(self.pixels(label, "PRIORITY", values) / self.factor)
         within = min(max(priority, 1), MOST_PRIORITY)
         if within != priority:
             self.teller.change(block.keyword("PRIORITY"), f": {priority} became {within}")
-        return within
-
-    def force(self, block):
-        keyword = block.keyword("FORCE")
-        if keyword is not None and keyword.words[0].upper() == "GROUP":
-            self.teller.change(keyword, " became TRUE")
-        return keyword is not None and keyword.words[0].upper() in ("TRUE", "GROUP")
-
-    def shown_block(self, group, block):
-        """The block of the label that is shown; the others are told of."""
-        labels = [(label, inner) for label, inner in zip(map(group.getLabel, range(group.numlabels)), block.all("LABEL"))]
-        shown = self.shown_label(group) is not None
-        for label, inner in labels:
-            if not shown or not self.in_scale(label):
-                drop_block(inner, self.teller, ", which isn't drawn at this scale")
-        inside = [inner for label, inner in labels if self.in_scale(label)]
-        for inner in inside[1:]:
-            drop_block(inner, self.teller, ", since a class has one")
-        return inside[0] if inside else None
+        forced = force.words[0].upper() if force is not None else "FALSE"
+        if forced == "GROUP":
+            self.teller.change(force, " became TRUE")
+        return Label(color, named, self.positions.get(label.position, "CC"), within, forced in ("TRUE", "GROUP"), buffer)
 
     def text(self, index, shape):
         """The text of the shape's label, before it is fitted to what a text may hold."""
         group = self.layer.getClass(index)
-        label = self.shown_label(group)
+        label = next(filter(self.is_label_drawn, labels_of(group)), None)
         if label is None:
             return ""
         expression = label.getTextString() or group.getTextString()
@@ -250,6 +226,20 @@ class Symbology:
         except Unknown as error:
             self.teller.lost(f"a label by TEXT {expression}, which isn't understood ({error})")
             return ""
+
+
+def styles_of(group):
+    return [group.getStyle(i) for i in range(group.numstyles)]
+
+
+def labels_of(group):
+    return [group.getLabel(i) for i in range(group.numlabels)]
+
+
+def has_scale(thing, scale, of=""):
+    """Whether a layer, its labels, a style or a label are drawn at the scale."""
+    least, most = (getattr(thing, f"{of}{end}scaledenom") for end in ("min", "max"))
+    return scale >= least and not 0 < most <= scale
 
 
 def is_color(color):

@@ -1,11 +1,21 @@
 """Texts and numbers as a mapfile of wfarm holds them (docs/MAPFILES.md, "Tokens")."""
 
+import re
+import string
 import unicodedata
 
 from .errors import MapError
 
 MOST_TEXT = 1_000  # bytes of one text
 MOST_COORDINATE = 100_000_000  # magnitude of a number
+UNHELD = r"[\x00-\x08\x0b\x0c\x0e-\x1f\\\ud800-\udfff\ufffe\uffff]"  # what no text holds
+# Double quotes always become apostrophes, since a text with both kinds has no spelling, and equal values must stay equal.
+REPLACED = (
+    (r"\r\n|[\r\n\t]", " ", "line feeds and tabs of a text became spaces"),
+    (r"\\", "/", "a backslash became a slash"),
+    ('"', "'", "double quotes became apostrophes"),
+    (UNHELD, "", "characters that no text holds were left out"),
+)
 
 # What NFKD leaves as it is. Labels draw small letters as capitals, so the case is kept.
 ASCII = {
@@ -14,15 +24,7 @@ ASCII = {
     "Ŧ": "T", "'": " ", "’": " ", "‘": " ", "/": "-", "_": "-", "–": "-", "—": "-", "‐": "-", "‑": "-", "−": "-",
     ",": " ", ";": " ", "(": " ", ")": " ", "·": ".", "\t": " ",
 }  # fmt: skip
-DRAWN = set("ABCDEFGHIJKLMNOPQRSTUVWXYZabcdefghijklmnopqrstuvwxyz0123456789-. ")
-
-
-def is_allowed(character):
-    """Whether a text may hold the character (and, of quotes, one kind at a time)."""
-    code = ord(character)
-    if character == "\\" or 0xD800 <= code <= 0xDFFF or code in (0xFFFE, 0xFFFF):
-        return False
-    return code >= 32 or character in "\t\n\r"
+DRAWN = {*string.ascii_letters, *string.digits, *"-. "}  # other characters of a label are filled boxes
 
 
 def decoded(text, notes, place):
@@ -36,20 +38,18 @@ def decoded(text, notes, place):
 
 
 def plain(text, notes, place):
-    """The text with what no text of a mapfile holds replaced, and each kind of replacement noted. Double quotes always
-    become apostrophes, since a text with both kinds has no spelling, and equal values must stay equal."""
+    """The text with what no text of a mapfile holds replaced, and each kind of replacement noted."""
     text = decoded(text, notes, place)
-    changed = text.replace("\r\n", " ").translate({10: " ", 13: " ", 9: " "})
-    if changed != text:
-        notes.add("line feeds and tabs of a text became spaces", place)
-    for old, new, what in (("\\", "/", "a backslash became a slash"), ('"', "'", "double quotes became apostrophes")):
-        if old in changed:
+    for pattern, new, what in REPLACED:
+        if re.search(pattern, text):
             notes.add(what, place)
-            changed = changed.replace(old, new)
-    kept = "".join(filter(is_allowed, changed))
-    if kept != changed:
-        notes.add("characters that no text holds were left out", place)
-    return kept
+            text = re.sub(pattern, new, text)
+    return text
+
+
+def name(text, notes, place):
+    """The text as a name in a list that commas separate."""
+    return plain(text, notes, place).replace(",", "_")
 
 
 def value(text, notes, place):
@@ -65,7 +65,7 @@ def quoted(text, what):
     size = len(text.encode("utf-8", "surrogatepass"))
     if size > MOST_TEXT:
         raise MapError(f"{what}: {size} bytes, over the limit of {MOST_TEXT}: shorten it, or keep fewer attributes")
-    if not all(map(is_allowed, text)) or ('"' in text and "'" in text):
+    if re.search(UNHELD, text) or ('"' in text and "'" in text):
         raise MapError(f"{what}: {text!r} can't be written as a text of a mapfile")
     return f"'{text}'" if '"' in text else f'"{text}"'
 
@@ -86,18 +86,13 @@ def ascii_letters(text):
     return " ".join("".join(character for character in letters if not unicodedata.combining(character)).split())
 
 
-def boxes(text):
-    """How many characters of a label are drawn as a filled box."""
-    return sum(character not in DRAWN for character in text)
-
-
 def label(text, in_ascii, notes, place):
     """The text as a label, in letters that are drawn if asked. Labels with characters that are drawn as boxes are noted."""
     text = plain(text, notes, place)
     if in_ascii and ascii_letters(text) != text:
         notes.add("a label is in other letters, by --ascii", f"{place}: {text}")
         text = ascii_letters(text)
-    if boxes(text):
+    if not DRAWN.issuperset(text):
         cure = "" if in_ascii else "; --ascii writes é as e, ß as ss, and so on"
         notes.add(f"a label has letters that are drawn as boxes{cure}", f"{place}: {text}")
     return text

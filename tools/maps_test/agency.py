@@ -2,6 +2,7 @@
 
 import math
 import random
+from itertools import repeat
 from pathlib import Path
 
 from osgeo import gdal, ogr, osr
@@ -53,38 +54,35 @@ def coverage(columns, rows, depth):
     return rings
 
 
-def polygon(ring):
-    return ogr.CreateGeometryFromWkt(f"POLYGON ({listed(ring)})")
+def geometry(kind, points):
+    """A POINT, a LINESTRING, or a POLYGON of one ring."""
+    listed = ", ".join(f"{x!r} {y!r}" for x, y in points)
+    return ogr.CreateGeometryFromWkt(f"{kind} (({listed}))" if kind == "POLYGON" else f"{kind} ({listed})")
 
 
-def line(points):
-    return ogr.CreateGeometryFromWkt(f"LINESTRING {listed(points)}")
+def write_polygons(path, rings, fields=(), values=(), epsg=2056):
+    """A GeoPackage of one table, each polygon with the values of its fields."""
+    rows = [(geometry("POLYGON", ring), own) for ring, own in zip(rings, values or repeat(()))]
+    write_table(path, ogr.wkbPolygon, fields, rows, epsg=epsg)
 
 
-def point(x, y):
-    return ogr.CreateGeometryFromWkt(f"POINT {listed([(x, y)])}")
-
-
-def listed(points):
-    return "(" + ", ".join(f"{x!r} {y!r}" for x, y in points) + ")"
-
-
-def write_table(path, driver, table, kind, fields, rows, epsg=2056, options=()):
-    """Rows are (geometry, values); fields are (name, type)."""
-    path = str(path)
-    if Path(path).exists() and driver == "GPKG":
-        data = gdal.OpenEx(path, gdal.OF_VECTOR | gdal.OF_UPDATE)
+def write_table(path, kind, fields, rows, table=None, epsg=2056, options=()):
+    """A shapefile, or a table of a GeoPackage, which may have others. Rows are (geometry, values). A field is of texts or
+    of whole numbers, as the first row's value."""
+    if path.suffix == ".gpkg" and path.exists():
+        data = gdal.OpenEx(str(path), gdal.OF_VECTOR | gdal.OF_UPDATE)
     else:
-        data = ogr.GetDriverByName(driver).CreateDataSource(path)
-    layer = data.CreateLayer(table, system(epsg), kind, options=list(options))
-    for name, of_type in fields:
-        layer.CreateField(ogr.FieldDefn(name, of_type))
+        driver = "GPKG" if path.suffix == ".gpkg" else "ESRI Shapefile"
+        data = ogr.GetDriverByName(driver).CreateDataSource(str(path))
+    layer = data.CreateLayer(table or path.stem, system(epsg), kind, options=list(options))
+    for name, value in zip(fields, rows[0][1]):
+        layer.CreateField(ogr.FieldDefn(name, ogr.OFTString if isinstance(value, str) else ogr.OFTInteger))
     layer.StartTransaction()
-    for geometry, values in rows:
+    for shape, values in rows:
         feature = ogr.Feature(layer.GetLayerDefn())
-        if geometry is not None:
-            feature.SetGeometry(geometry)
-        for (name, _), value in zip(fields, values):
+        if shape is not None:
+            feature.SetGeometry(shape)
+        for name, value in zip(fields, values):
             feature[name] = value
         layer.CreateFeature(feature)
     layer.CommitTransaction()
@@ -94,28 +92,29 @@ def write_data(folder, columns=20, rows=10, depth=5, roads=300, towns=60):
     """communes.shp in Latin-1, and net.gpkg with the tables roads and towns."""
     source = random.Random(37)
     names = ("Genève", "Zürich", "Neuchâtel", "Bülach", "Fribourg", "Aigle")
-    communes = [(polygon(ring), (f"{names[i % 6]} {i}", USES[i * 7 % 4], i * 37 % 5000, i + 1)) for i,
-                ring in enumerate(coverage(columns, rows, depth))]
-    fields = [("NAME", ogr.OFTString), ("USE", ogr.OFTString), ("POP", ogr.OFTInteger), ("NR", ogr.OFTInteger)]
-    write_table(folder / "communes.shp", "ESRI Shapefile", "communes", ogr.wkbPolygon, fields, communes, options=["ENCODING=ISO-8859-1"])
+    communes = [(geometry("POLYGON", ring), (f"{names[i % 6]} {i}", USES[i * 7 % 4], i * 37 % 5000, i + 1))
+                for i, ring in enumerate(coverage(columns, rows, depth))]
+    write_table(folder / "communes.shp", ogr.wkbPolygon, ("NAME", "USE", "POP", "NR"), communes,
+                options=["ENCODING=ISO-8859-1"])
     ways = []
     for i in range(roads):
         start = WEST + source.uniform(0, WIDTH), SOUTH + source.uniform(0, HEIGHT)
         angle, far = source.uniform(0, 2 * math.pi), source.uniform(2_000, 9_000)
         end = (min(max(start[0] + far * math.cos(angle), WEST), WEST + WIDTH), min(max(start[1] + far * math.sin(angle), SOUTH), SOUTH + HEIGHT))
-        ways.append((line([*crooked(start, end, 4, source), end]), ("AHNK"[i % 4], f"{'AHNK'[i % 4]}{i}", i % 3)))
-    fields = [("class", ogr.OFTString), ("number", ogr.OFTString), ("lanes", ogr.OFTInteger)]
-    write_table(folder / "net.gpkg", "GPKG", "roads", ogr.wkbLineString, fields, ways)
-    places = [(point(WEST + source.uniform(0, WIDTH), SOUTH + source.uniform(0, HEIGHT)),
+        ways.append((geometry("LINESTRING", [*crooked(start, end, 4, source), end]),
+                     ("AHNK"[i % 4], f"{'AHNK'[i % 4]}{i}", i % 3)))
+    write_table(folder / "net.gpkg", ogr.wkbLineString, ("class", "number", "lanes"), ways, "roads")
+    places = [(geometry("POINT", [(WEST + source.uniform(0, WIDTH), SOUTH + source.uniform(0, HEIGHT))]),
                (f"Stadt-{i}", source.randrange(200, 90_000))) for i in range(towns)]
-    write_table(folder / "net.gpkg", "GPKG", "towns", ogr.wkbPoint, [("name", ogr.OFTString), ("people", ogr.OFTInteger)], places)
+    write_table(folder / "net.gpkg", ogr.wkbPoint, ("name", "people"), places, "towns")
 
 
 LABEL = 'LABEL COLOR 40 40 40 SIZE TINY POSITION CC END'
 
 
-def write_mapfile(folder, labels=True):
-    """agency.map with its two included files beside the data."""
+def write(folder, labels=True, **sizes):
+    """The data, and beside them agency.map with its two included files."""
+    write_data(folder, **sizes)
     values = {"west": WEST, "south": SOUTH, "east": WEST + WIDTH, "north": SOUTH + HEIGHT,
               "labels": '  LABELITEM "NAME"' if labels else "", "label": LABEL if labels else ""}
     for form in (Path(__file__).parent / "agency_files").iterdir():

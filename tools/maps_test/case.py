@@ -55,50 +55,43 @@ def prepare(case, folder):
         case.make(folder)
 
 
-def fault(tool, case, folder, program):
-    """What is wrong with the run, or None."""
+def fault(tool, case, folder, program, keep):
+    """The first that is wrong with the run, or None."""
     prepare(case, folder)
-    done = run(tool, case.words, folder)
+    return next(faults(case, run(tool, case.words, folder), program), None)
+
+
+def faults(case, done, program):
     said = done.stderr.decode()
-    if "Traceback" in said:
-        return f"a traceback: {said.strip().splitlines()[-1]}"
-    return wrong_error(case, done, said) if case.error is not None else wrong_map(case, done, said, program)
-
-
-def wrong_error(case, done, said):
     lines = said.strip().splitlines()
+    if "Traceback" in said:
+        yield f"a traceback: {lines[-1]}"
+    if case.error is not None:
+        yield from wrong_error(case, done, lines)
+    else:
+        yield from wrong_map(case, done, lines, program)
+    for notes, is_wanted in ((case.notes, True), (case.silent, False)):
+        for note in notes:
+            if is_wanted != any(re.match(f"note: .*{note}", line) for line in lines):
+                yield f"{'no' if is_wanted else 'a'} note {note!r}: {said.strip()}"
+
+
+def wrong_error(case, done, lines):
     if done.returncode != case.status or done.stdout:
-        return f"status {done.returncode}, {len(done.stdout)} bytes written: {said.strip()}"
+        yield f"status {done.returncode}, {len(done.stdout)} bytes written: {lines}"
     errors = [line for line in lines if not (case.notes and line.startswith("note: "))]
     if case.status == 1 and (len(errors) != 1 or not errors[0].startswith("error: ")):
-        return f"more than a line: {said.strip()}"
+        yield f"more than a line: {lines}"
     if not re.search(case.error, lines[-1]):
-        return f"another error: {lines[-1]}"
-    return wrong_notes(case, said)
+        yield f"another error: {lines[-1]}"
 
 
-def wrong_map(case, done, said, program):
+def wrong_map(case, done, lines, program):
     if done.returncode != 0:
-        return f"status {done.returncode}: {said.strip()}"
-    text = done.stdout.decode()
+        yield f"status {done.returncode}: {lines}"
     own = canonical(program, done.stdout)
     if own.stdout != done.stdout:
-        return f"wfarm canon has another text: {own.stderr.decode().strip()}"
-    present = text.splitlines()
-    for line in case.lines:
-        if line not in present:
-            return f"no line {line!r}"
-    for line in case.absent:
-        if line in present:
-            return f"a line {line!r}"
-    return wrong_notes(case, said)
-
-
-def wrong_notes(case, said):
-    for note in case.notes:
-        if not re.search(f"^note: .*{note}", said, re.MULTILINE):
-            return f"no note {note!r}: {said.strip()}"
-    for note in case.silent:
-        if re.search(f"^note: .*{note}", said, re.MULTILINE):
-            return f"a note {note!r}: {said.strip()}"
-    return None
+        yield f"wfarm canon has another text: {own.stderr.decode().strip()}"
+    present = done.stdout.decode().splitlines()
+    yield from (f"no line {line!r}" for line in case.lines if line not in present)
+    yield from (f"a line {line!r}" for line in case.absent if line in present)

@@ -40,6 +40,7 @@ DATA = (
     '{"type": "FeatureCollection", "features": [{"type": "Feature", "properties": {"use": "a", "n": 4}, "geometry": '
     '{"type": "Polygon", "coordinates": [[[1, 1], [5, 1], [5, 5], [1, 1]]]}}]}'
 )
+LINE = re.compile(r"(.*?): (\w+)/?(\w*) ?(.*?)( =>.*?)?(?: \| (.*))?")  # name, place, kind, text, => instead, more
 
 
 def made():
@@ -49,13 +50,9 @@ def made():
         if line.startswith("["):
             heading = tuple(line.strip("[]").split(", "))
         elif line and not line.startswith("#"):
-            name, _, rest = line.partition(": ")
-            place, _, text = rest.partition(" ")
-            text, _, more = text.partition(" | ")
-            text, arrow, instead = text.partition(" =>")
-            place, _, kind = place.partition("/")
-            whole = PLACES[place]("" if arrow else text, kind or "POLYGON", more)
-            found[(*heading, name)] = whole.replace(text, instead.strip()) if arrow else whole
+            name, place, kind, text, instead, more = LINE.fullmatch(line).groups("")
+            whole = PLACES[place]("" if instead else text, kind or "POLYGON", more)
+            found[(*heading, name)] = whole.replace(text, instead[3:].strip()) if instead else whole
     return found
 
 
@@ -71,13 +68,9 @@ def keyword(name):
 def construct(block, fate, name, text):
     files = {"a.map": text, "a.geojson": DATA, "b.map": "# nothing\n", "a.csv": "1\na\n"}
     word = keyword({"other METADATA": "METADATA", "a hatch over a fill": "SYMBOL", "no SYMBOL": "COLOR"}.get(name, name))
-    notes, silent = (), ()
-    if fate == CARRIED:
-        silent = (rf"(changed|left out): [^(]*\b{word}\b",)
-    elif fate == IDLE:
-        notes = (rf"without effect on a farm's answers: .*\b{word}\b",)
-    else:
-        notes = (rf"{fate}: [^(]*\b{word}\b",)
+    told = {CARRIED: "(changed|left out): [^(]*", IDLE: "without effect on a farm's answers: .*"}
+    said = (rf"{told.get(fate, f'{fate}: [^(]*')}\b{word}\b",)
+    notes, silent = ((), said) if fate == CARRIED else (said, ())
     return Case(f"{block} {name} is {fate}", ["--crs", "4326", "a.map"], files, notes=notes, silent=silent)
 
 

@@ -1,6 +1,6 @@
 """Odd inputs of tools/import_mapfile.py, each with the error or map that is wanted."""
 
-from .agency import write_data, write_mapfile
+from . import agency
 from .case import Case
 
 HEAD = 'MAP NAME a EXTENT 0 0 10 10 PROJECTION "init=epsg:4326" END SYMBOL NAME dot TYPE ELLIPSE FILLED TRUE POINTS 1 1 END END\n'
@@ -23,7 +23,6 @@ def mapped(case_name, content, words=(), head=HEAD, **wanted):
 
 FILES = [
     Case("no mapfile", ["a.map"], error=r"a.map: MapServer can't read it"),
-    Case("no map at all", ["a.map"], {"a.map": "hello"}, error=r"a.map: MapServer can't read it"),
     Case("an empty mapfile", ["a.map"], {"a.map": ""}, error=r"a.map: MapServer can't read it"),
     mapped("an unknown keyword", "LAYER FOO END", error=r"a.map: MapServer can't read it: .*FOO.*line 2"),
     mapped("a mapfile that is cut", "LAYER NAME", head="MAP ", error=r"a.map: MapServer can't read it"),
@@ -73,8 +72,6 @@ LABELS = [
     mapped("an unknown attribute in a label", inline('CLASS STYLE COLOR 1 2 3 END LABEL TEXT "[nix]" END END', "a"), error=r"layer p: it has no attribute 'nix': it has"),
     mapped("a label with quotes", inline("LABELITEM kind CLASS LABEL END END", "it's 5`"), lines=("TEXT \"it's 5`\"",)),
     mapped("letters that are boxes", inline("LABELITEM kind CLASS LABEL END END", "Genève"), notes=("drawn as boxes; --ascii .*Genève",)),
-    mapped("letters in ASCII", inline("LABELITEM kind CLASS LABEL END END", "Genève"), ["--ascii"], lines=('TEXT "Geneve"',)),
-    mapped("a halo, a font and an angle", inline("LABELITEM kind CLASS LABEL OUTLINECOLOR 1 2 3 OUTLINEWIDTH 2 ANGLE 30 END END", "a"), notes=("left out: OUTLINECOLOR 1 2 3 of LABEL", "left out: OUTLINEWIDTH 2 of LABEL", "left out: ANGLE 30 of LABEL")),
     mapped("two labels", inline('LABELITEM kind CLASS LABEL END LABEL TEXT "b" END END', "a"), notes=("left out: LABEL, since a class has one",), lines=('TEXT "a"',)),
     mapped("a mapfile in Latin-1", inline("CLASS NAME \"For\udceat\" STYLE COLOR 1 2 3 END END", "a"), lines=('NAME "Forêt"',), notes=("read as ISO-8859-1",)),
     mapped("quotes in titles", inline("METADATA \"wms_title\" 'a \"b\" c' END " + FILL, "a"), lines=("\"wms_title\" \"a 'b' c\"",), notes=("double quotes became",)),
@@ -84,20 +81,15 @@ THIN = layer("FEATURE POINTS 1 1 5 5 END END CLASS STYLE COLOR 1 2 3 WIDTH 1.5 E
 ADDRESS = 'WEB METADATA "wms_onlineresource" "http://old/?" END END '
 POINTS = " ".join(f'FEATURE POINTS {x} {x} END ITEMS "{name}" END' for x, name in ((1, "a"), (1.01, "b"), (5, "c")))
 LOST = [
-    mapped("a raster layer", inline(FILL, "a") + layer('DATA "a.tif"', "r", "RASTER"), notes=("layer r: left out: all of it: it isn't of points",)),
-    mapped("a chart", inline(FILL, "a") + layer(f"{SQUARE.format('a')} {FILL}", "r", "CHART"), notes=("layer r: left out: all of it: it isn't of points",), absent=('NAME "r"',)),
-    mapped("a query layer", inline(FILL, "a") + layer(f"{SQUARE.format('a')} {FILL}", "r", "QUERY"), notes=("layer r: left out: all of it: it isn't of points",), absent=('NAME "r"',)),
-    mapped("an index of tiles", inline(FILL, "a") + layer('DATA "a.shp"', "r", "TILEINDEX"), notes=("layer r: left out: all of it: it isn't of points",), absent=('NAME "r"',)),
+    *(mapped(f"a layer of type {kind}", inline(FILL, "a") + layer(f"{SQUARE.format('a')} {FILL}", "r", kind),
+             notes=("layer r: left out: all of it: it isn't of points",), absent=('NAME "r"',))
+      for kind in ("RASTER", "CHART", "QUERY", "TILEINDEX")),
     mapped("another server's picture", inline(FILL, "a") + layer('CONNECTIONTYPE WMS CONNECTION "http://localhost/?"', "r", "RASTER"), notes=("layer r: left out: all of it",)),
-    mapped("a background", inline(FILL, "a"), head=HEAD + "IMAGECOLOR 9 9 9\n", notes=("map: left out: IMAGECOLOR 9 9 9",)),
-    mapped("dashes and opacity", layer("FEATURE POINTS 1 1 5 5 END END CLASS STYLE COLOR 1 2 3 PATTERN 4 2 END OPACITY 50 END END", kind="LINE"), notes=("left out: PATTERN 4 2 of STYLE", "left out: OPACITY 50 of STYLE")),
     mapped("a wide line", layer("FEATURE POINTS 1 1 5 5 END END CLASS STYLE COLOR 1 2 3 WIDTH 40 END END", kind="LINE"), notes=("changed: WIDTH 40 of STYLE became 16",), lines=("WIDTH 16",)),
     mapped("an outlined line", layer("FEATURE POINTS 1 1 5 5 END END CLASS STYLE COLOR 1 2 3 WIDTH 3 OUTLINECOLOR 9 9 9 OUTLINEWIDTH 2 END END", kind="LINE"), lines=("WIDTH 7", "WIDTH 3")),
     mapped("a symbol", layer('FEATURE POINTS 1 1 5 5 END END CLASS STYLE COLOR 1 2 3 SYMBOL "dot" SIZE 9 END END', kind="POINT"), notes=("changed: SYMBOL dot of STYLE: it is a square",), lines=("SIZE 9",)),
     mapped("sizes of the ground", layer('SIZEUNITS KILOMETERS FEATURE POINTS 1 1 5 5 END END CLASS STYLE COLOR 1 2 3 WIDTH 5 END END', kind="LINE"), lines=("WIDTH 5",)),
-    mapped("other metadata", inline("METADATA \"ows_srs\" \"EPSG:4326\" \"wms_title\" \"a\" END " + FILL, "a"), notes=("layer p: left out: METADATA ows_srs",)),
     mapped("names twice, with commas, and none", inline(FILL, "a") + inline(FILL, "a") + inline(FILL, "a", name='"a,b"') + layer(SQUARE.format("a") + " " + FILL).replace("NAME p", ""), notes=("its name became p_2", "its name became a_b"), lines=('NAME "layer4"',)),
-    mapped("a template", inline(FILL, "a", others='TEMPLATE "q.html"'), notes=("layer p: left out: TEMPLATE q.html",)),
     mapped("strict, a width that is rounded", THIN, ["--strict"], error=r"a.map: something is changed or left out.*--strict", notes=("layer p: changed: WIDTH 1.5 of STYLE became 2 .a.map, line 2",)),
     mapped("strict, a map without a change", inline(FILL, "a"), ["--strict"], lines=("COLOR 10 20 30",)),
     mapped("the count", THIN, notes=(r"of 12 keywords 7 were carried, 1 changed, 0 left out, 4 have no effect here; of 1 shapes 1 were carried, 0 left out$",)),
@@ -110,24 +102,21 @@ LOST = [
     mapped("labels of clusters", layer('PROCESSING "ITEMS=n" CLUSTER MAXDISTANCE 20 REGION "ellipse" END ' + POINTS + ' CLASS EXPRESSION ("[Cluster_FeatureCount]" != "1") STYLE SYMBOL dot COLOR 1 2 3 SIZE 5 END '
            'LABEL TEXT "[Cluster_FeatureCount]" END END CLASS LABEL TEXT "[n]" END END', kind="POINT"), lines=('TEXT "2"', 'TEXT "c"'), notes=("layer p: changed: CLUSTER: as at 1:",)),
     mapped("pixels instead of places", inline(FILL, "a") + layer(f"TRANSFORM FALSE {SQUARE.format('a')} {FILL}", "q"), notes=("layer q: left out: all of it: its coordinates are pixels",), absent=('NAME "q"',)),
-    mapped("lines of a grid", layer("GRID MININTERVAL 2 END CLASS STYLE COLOR 1 2 3 END END", kind="LINE"), notes=("layer p: changed: GRID: as at 1:",)),
     mapped("a line of an outline's colour", layer("FEATURE POINTS 1 1 5 5 END END CLASS STYLE OUTLINECOLOR 1 2 3 WIDTH 3 END END", kind="LINE"), lines=("COLOR 1 2 3", "WIDTH 3"), silent=("changed: ", "left out: ")),
     mapped("the end of a line", layer("FEATURE POINTS 1 1 5 5 END END CLASS STYLE COLOR 1 2 3 END STYLE GEOMTRANSFORM 'end' SYMBOL dot COLOR 4 5 6 END END", kind="LINE"), absent=("COLOR 4 5 6",), notes=("layer p: left out: STYLE with GEOMTRANSFORM",)),
     mapped("a picture as a symbol", inline(FILL, "a") + 'SYMBOL NAME pic TYPE PIXMAP IMAGE "a.png" END ' + layer("FEATURE POINTS 1 1 END END CLASS STYLE SYMBOL pic END END", "q", "POINT"), notes=("layer q: left out: STYLE of a point without a COLOR", "layer q: left out: shapes that nothing here draws"), absent=('NAME "q"',)),
-    mapped("a colour that lets through", inline('CLASS STYLE COLOR "#01020380" END END', "a"), notes=("layer p: changed: COLOR #01020380 of STYLE: it is opaque",), lines=("COLOR 1 2 3",)),
-    mapped("letters of --ascii", inline("LABELITEM kind CLASS LABEL END END", "Genève"), ["--ascii"], notes=("layer p: changed: a label is in other letters, by --ascii",)),
+    mapped("letters of --ascii", inline("LABELITEM kind CLASS LABEL END END", "Genève"), ["--ascii"], lines=('TEXT "Geneve"',), notes=("layer p: changed: a label is in other letters, by --ascii",)),
     mapped("one resolution for two", inline("CLASS STYLE OUTLINECOLOR 1 2 3 WIDTH 2 END END", "a"), head=HEAD + "RESOLUTION 144 DEFRESOLUTION 72\n", lines=("WIDTH 4",)),
     mapped("a part of it", inline(FILL, "a"), ["--extent=0,0,2,2"], lines=("EXTENT 0 0 2 2", "2.011719 1"), absent=("5 5",)),
     mapped("a part with nothing", inline(FILL, "a"), ["--extent=8,8,9,9"], error=r"a.map: nothing is drawn: layer p: left out: shapes outside of the extent"),
-    mapped("a comment and an included file", "/* LAYER\n OPACITY */ # OPACITY\n" + 'INCLUDE "b.inc"\n' + inline(FILL, "a"), notes=("map: left out: ANGLE 30 .b.inc, line 2",), silent=("OPACITY",)),
+    Case("a comment and an included file", ["a.map"], {"b.inc": "\nANGLE 30\n", "a.map": HEAD + "/* LAYER\n OPACITY */ # OPACITY\n" + 'INCLUDE "b.inc"\n' + inline(FILL, "a") + "END"}, notes=("map: left out: ANGLE 30 .b.inc, line 2",), silent=("OPACITY",)),
     mapped("nine styles", inline("CLASS " + "STYLE COLOR 1 2 3 END " * 9 + "END", "a"), error=r"layer p: class : 9 styles, over the limit of 8: draw it with fewer"),
     mapped("a null shape", layer("FEATURE END " + SQUARE.format("a") + " " + FILL), lines=("5 5",)),
 ]  # fmt: skip
 
 
-def agency(folder):
-    write_data(folder, columns=4, rows=2, depth=3, roads=9, towns=5)
-    write_mapfile(folder)
+def small(folder):
+    agency.write(folder, columns=4, rows=2, depth=3, roads=9, towns=5)
 
 
 NO_DATUM = 'MAP NAME a EXTENT 2600000 1200000 2700000 1250000 PROJECTION "init=epsg:2056" END LAYER NAME c TYPE POLYGON DATA "communes.shp" '
@@ -139,25 +128,20 @@ NET = 'MAP NAME a EXTENT 2600000 1200000 2640000 1230000 PROJECTION "init=epsg:2
     )
 ) + "END"  # fmt: skip
 AGENCY = [
-    Case("an agency's map", ["--crs", "3857", "--fit", "--ascii", "agency.map"], make=agency, lines=('"wms_title" "Die Gemeinden"', 'TEXT "Geneve 0"', 'NAME "Autobahn"')),
-    Case("an agency's map, one layer", ["--crs", "4326", "--layers", "towns", "agency.map"], make=agency, lines=('NAME "towns"',), absent=('NAME "roads"',)),
-    Case("attributes kept", ["--crs", "4326", "--layers", "communes", "--keep", "USE", "agency.map"], make=agency, lines=('PROCESSING "ITEMS=USE,class"', 'ITEMS "Wald;1"')),
-    Case("an attribute that isn't there, kept", ["--crs", "4326", "--keep", "NIX", "agency.map"], make=agency, error=r"agency.map: no layer has the attribute 'NIX' of --keep"),
+    Case("an agency's map", ["--crs", "3857", "--fit", "--ascii", "agency.map"], make=small, lines=('"wms_title" "Die Gemeinden"', 'TEXT "Geneve 0"', 'NAME "Autobahn"')),
+    Case("an agency's map, one layer", ["--crs", "4326", "--layers", "towns", "agency.map"], make=small, lines=('NAME "towns"',), absent=('NAME "roads"',)),
+    Case("attributes kept", ["--crs", "4326", "--layers", "communes", "--keep", "USE", "agency.map"], make=small, lines=('PROCESSING "ITEMS=USE,class"', 'ITEMS "Wald;1"')),
+    Case("an attribute that isn't there, kept", ["--crs", "4326", "--keep", "NIX", "agency.map"], make=small, error=r"agency.map: no layer has the attribute 'NIX' of --keep"),
     Case("a union of layers", ["--crs", "4326", "--layers", "both", "a.map"], {"a.map": NO_DATUM + "CLASS STYLE COLOR 1 2 3 END END END "
-         "LAYER NAME both TYPE POLYGON CONNECTIONTYPE UNION CONNECTION 'c' CLASS STYLE COLOR 4 5 6 END END END END"}, make=agency, lines=("COLOR 4 5 6",), absent=("COLOR 1 2 3",)),
-    Case("a shapefile in Latin-1 without ENCODING", ["--crs", "4326", "a.map"], {"a.map": NO_DATUM + "LABELITEM 'NAME' CLASS LABEL END END END END"}, make=agency, lines=('TEXT "Genève 0"',), notes=("read as ISO-8859-1",)),
-    Case("a filter", ["--crs", "4326", "--keep", "USE", "a.map"], {"a.map": NO_DATUM + 'FILTER ("[USE]" = "Wald") CLASS STYLE COLOR 1 2 3 END END END END'}, make=agency, lines=('ITEMS "Wald"',), absent=('ITEMS "Fels"',)),
-    Case("an expression that can't be read", ["--crs", "4326", "a.map"], {"a.map": NO_DATUM + "CLASS EXPRESSION ([POP] 3 4) STYLE COLOR 1 2 3 END END END END"}, make=agency,
+         "LAYER NAME both TYPE POLYGON CONNECTIONTYPE UNION CONNECTION 'c' CLASS STYLE COLOR 4 5 6 END END END END"}, make=small, lines=("COLOR 4 5 6",), absent=("COLOR 1 2 3",)),
+    Case("a shapefile in Latin-1 without ENCODING", ["--crs", "4326", "a.map"], {"a.map": NO_DATUM + "LABELITEM 'NAME' CLASS LABEL END END END END"}, make=small, lines=('TEXT "Genève 0"',), notes=("read as ISO-8859-1",)),
+    Case("a filter", ["--crs", "4326", "--keep", "USE", "a.map"], {"a.map": NO_DATUM + 'FILTER ("[USE]" = "Wald") CLASS STYLE COLOR 1 2 3 END END END END'}, make=small, lines=('ITEMS "Wald"',), absent=('ITEMS "Fels"',)),
+    Case("an expression that can't be read", ["--crs", "4326", "a.map"], {"a.map": NO_DATUM + "CLASS EXPRESSION ([POP] 3 4) STYLE COLOR 1 2 3 END END END END"}, make=small,
          error=r"layer c: shape 1: MapServer can't choose its class: .*repair the EXPRESSION"),
-    Case("PROJECTION AUTO", ["--crs", "4326", "a.map"], {"a.map": NO_DATUM + "PROJECTION AUTO END CLASS STYLE COLOR 1 2 3 END END END END"}, make=agency, notes=("layer c: changed: PROJECTION AUTO: its datum is left out",)),
-    Case("shapes outside of the extent", ["--crs", "4326", "a.map"], {"a.map": NO_DATUM.replace("2700000 1250000", "2620000 1220000") + "CLASS STYLE COLOR 1 2 3 END END END END"}, make=agency,
+    Case("shapes outside of the extent", ["--crs", "4326", "a.map"], {"a.map": NO_DATUM.replace("2700000 1250000", "2620000 1220000") + "CLASS STYLE COLOR 1 2 3 END END END END"}, make=small,
          notes=("layer c: left out: shapes outside of the extent .7 times", "of 8 shapes 1 were carried, 7 left out")),
-    Case("shapes outside of the extent, of other kinds", ["--crs", "4326", "a.map"], {"a.map": NET}, make=agency,
+    Case("shapes outside of the extent, of other kinds", ["--crs", "4326", "a.map"], {"a.map": NET}, make=small,
          notes=("layer t: left out: shapes outside of the extent .6 times", "layer s: left out: shapes outside of the extent .2 times", "layer u: left out: shapes outside of the extent .8 times")),
-    Case("a report", ["--crs", "4326", "--report", "lost.txt", "agency.map"], make=agency, notes=("layer roads: left out: PATTERN 4 2 of STYLE .net.inc, line 10",)),
 ]  # fmt: skip
-
-for case in LOST:
-    case.files["b.inc"] = "\nANGLE 30\n"
 
 CASES = FILES + SYSTEMS + CLASSES + LABELS + LOST + AGENCY
