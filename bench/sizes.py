@@ -1,6 +1,6 @@
 #!/usr/bin/env python3
 """Measures what grows with its input at three sizes, each twice the one before: the instructions where
-valgrind is there, else the time.
+valgrind is there, else the time; in one case the memory.
 
 Cases, all of them where none is named:
     canon     `wfarm canon` of a mapfile of 131,072 bytes, the longest there is
@@ -12,10 +12,11 @@ Cases, all of them where none is named:
     start     `wfarm serve` with one node starts on a tape of 4,096 maps of 2 KB, and shortens it: the time
     promise, accept, published   1,024 messages to an acceptor with 4,096 votes, the most there are: a
               Promise, an Accept that replaces a vote, a published sequence, whose vote goes
+    memory    the heap's peak, counted by valgrind, of `wfarm draw` of 1,024 by 1,024 pixels with 2,000 labels
 
-Of each the cost of the least input is taken off. From `tape` on, but for `start`, the built program of the
-farm's cases (wf_test_farm) is asked; what the same tape takes with a bad first byte, or the votes alone, is
-taken off.
+Of each but `memory` the cost of the least input is taken off. From `tape` on, but for `start` and `memory`,
+the built program of the farm's cases (wf_test_farm) is asked; what the same tape takes with a bad first byte,
+or the votes alone, is taken off.
 """
 
 import pathlib
@@ -26,8 +27,8 @@ import tempfile
 import time
 from functools import partial
 
-from farmkit.command import GROWTH, add_cases, add_program, parser
-from farmkit.measure import grows_well, instructions, ran, ratios, shortest
+from farmkit.command import GROWTH, add_cases, add_program, lacks, parser, tell_missing
+from farmkit.measure import grows_well, instructions, most_held, ran, ratios, shortest
 from farmkit.processes import serve_words
 from farmkit.repository import TOP, built
 from farmkit.tapes import ACCEPTED, PROMISED, PUBLISHED, record, tape_of
@@ -68,11 +69,14 @@ def mapfile(size):
 
 def cost_of(whole, least=None):
     """What a run costs more than another one, each given by its words, its input and what it writes: the
-    milliseconds, and the instructions."""
+    milliseconds, and the instructions, with their units."""
     runs = [each for each in (whole, least) if each is not None]
     spent = [shortest(lambda: ran(*each), RUNS) for each in runs]
     counted = [instructions(*each) for each in runs]
-    return spent[0] - sum(spent[1:]), counted[0] - sum(counted[1:]) if all(counted) else None
+    costs = [(spent[0] - sum(spent[1:]), "ms")]
+    if all(counted):
+        costs.append(((counted[0] - sum(counted[1:])) / 1e6, "million instructions"))
+    return costs
 
 
 def canon(options):
@@ -82,10 +86,14 @@ def canon(options):
             for size in (LONGEST // 4, LONGEST // 2, LONGEST)]
 
 
+def map_of(kind, styling, features):
+    return (f'MAP NAME "sizes" EXTENT 0 0 100 100 PROJECTION "init=epsg:3857" END LAYER NAME a TYPE {kind}\n'
+            f"CLASS {styling} END\n{''.join(features)}END END\n").encode()
+
+
 def draw(options, kind, styling, features, width=512, height=512):
     """What a picture costs more than one of a pixel."""
-    text = (f'MAP NAME "sizes" EXTENT 0 0 100 100 PROJECTION "init=epsg:3857" END LAYER NAME a TYPE {kind}\n'
-            f"CLASS {styling} END\n{''.join(features)}END END\n").encode()
+    text = map_of(kind, styling, features)
     words = [[options.program, "draw", QUERY.format(*sides)] for sides in ((width, height), (1, 1))]
     return cost_of((words[0], text), (words[1], text))
 
@@ -113,6 +121,20 @@ def labels(options):
 def pixels(options):
     return [(f"{width} by {height}", partial(draw, options, "POLYGON", STYLE, squares(100), width, height))
             for width, height in ((500, 250), (500, 500), (1000, 500))]
+
+
+def memory(options):
+    if missing := lacks("valgrind"):
+        sys.exit(tell_missing(missing))
+    names = [f'FEATURE TEXT "{k % 100}" POINTS {k % 50 * 2 + 0.5} {k // 50 * 2.5 + 0.5} END END\n'
+             for k in range(2_000)]
+    text = map_of("POINT", "LABEL SIZE TINY END", names)
+
+    def peak(height):
+        held = most_held([options.program, "draw", QUERY.format(1_024, height)], text)
+        return [(held / 1e6, "million bytes")]
+
+    return [(f"1024 by {height}", partial(peak, height)) for height in (256, 512, 1_024)]
 
 
 def script(options):
@@ -211,7 +233,8 @@ def start(options):
         with tempfile.NamedTemporaryFile() as file:
             tape_of(options.program, pathlib.Path(file.name), maps)
             whole = pathlib.Path(file.name).read_bytes()
-        return min(started(options.program, whole) - started(options.program, b"") for _ in range(RUNS)), None
+        spent = min(started(options.program, whole) - started(options.program, b"") for _ in range(RUNS))
+        return [(spent, "ms")]
 
     return [(f"{maps} maps", partial(cost, maps)) for maps in (1024, 2048, 4096)]
 
@@ -219,17 +242,18 @@ def start(options):
 CASES = {each.__name__: each for each in (canon, features, labels, pixels, script, tape, held, start)} | {
     name: partial(messages, form) for name, form in (("promise", "prepare {spread} {round} 0"),
                                                      ("accept", "accept {spread} {round} 0 b"),
-                                                     ("published", "publish {next} a"))}
+                                                     ("published", "publish {next} a"))
+} | {"memory": memory}
 
 
 def measure(name, sizes):
     """Prints a line a size, and the ratios; whether they are as they should be."""
     costs = []
     for size, cost in sizes:
-        spent, count = cost()
-        told = "" if count is None else f"  {count / 1e6:9.3f} million instructions"
-        print(f"{name:8} {size:>12}  {spent:8.3f} ms{told}", flush=True)
-        costs.append(max(count or spent, 0))
+        told = cost()
+        amounts = "  ".join(f"{amount:9.3f} {unit}" for amount, unit in told)
+        print(f"{name:8} {size:>12}  {amounts}", flush=True)
+        costs.append(max(told[-1][0], 0))
     print("   ratios {:.2f}, {:.2f}".format(*ratios(costs)))
     return grows_well(costs)
 

@@ -7,12 +7,14 @@ import shutil
 import statistics
 import subprocess
 import sys
+import tempfile
 import time
 from collections.abc import Callable, Sequence
 from typing import Any, TypeVar
 
 T = TypeVar("T")
 CALLGRIND = ["valgrind", "--tool=callgrind", "--callgrind-out-file=/dev/null"]
+MASSIF = ["valgrind", "--tool=massif", "--peak-inaccuracy=0"]
 # the most that twice the input may cost
 MOST_GROWTH = 3
 
@@ -58,6 +60,13 @@ def instructions(words: Sequence[str | pathlib.Path], given: bytes = b"",
         return None
     found = re.search(rb"Collected : (\d+)", ran([*CALLGRIND, *words], given, wanted).stderr)
     return int(found[1]) if found else None
+
+
+def most_held(words: Sequence[str | pathlib.Path], given: bytes = b"") -> int:
+    """The most bytes that such a run has allocated at a time, counted by valgrind."""
+    with tempfile.NamedTemporaryFile("r") as file:
+        ran([*MASSIF, f"--massif-out-file={file.name}", *words], given)
+        return max(int(held) for held in re.findall(r"(?m)^mem_heap_B=(\d+)$", file.read()))
 
 
 def rate(address: str, path: str, seconds: int, clients: int = 1) -> tuple[float, int, str | None]:
