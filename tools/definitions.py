@@ -26,7 +26,7 @@ DEFINED = re.compile(r"(?:(?:unfoldable|abbrev|opaque) )?pub (?!use )(?:(?:recor
 INNER = re.compile(r"  (?:(?:unfoldable|abbrev|opaque) pub|pub (?:record|data)) (\S+)")
 TYPE = re.compile(r"^pub (?:struct|enum|trait) (\w+)", re.MULTILINE)
 # words and types that may stand in several crates: most mean one thing at several layers
-MOST_SHARED = 73
+MOST_SHARED = 51
 
 IMPORT = re.compile(r"ghost use Rattle\.(wf\w*)\.specs\.((?:\w+\.)*\w+)\.\{([^}]*)\}")
 FUNCTION = re.compile(r"^[ ]*(pub (?:const )?fn|fn) (\w+)")

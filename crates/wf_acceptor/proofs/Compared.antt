@@ -11,7 +11,7 @@ use Rattle.wf_def.specs.Definition.{Definition}
 use Rattle.wf_model.specs.DurableState.{raised}
 use Rattle.wf_journal.specs.declared.record.Record.TheVariants.{Accepted}
 use Rattle.wf_acceptor.specs.Acceptor.{Part}
-use Rattle.wf_acceptor.specs.Comparison.{Agrees, AreSameBut, HasAllBut}
+use Rattle.wf_acceptor.specs.Comparison.{KeepsPart, AreSameBut, HasAllBut}
 use Rattle.wf_acceptor.specs.Prepared.{with_open, with_promise, with_published}
 
 -- ---- entry by entry
@@ -65,12 +65,12 @@ same_votes votes others same = map.same_map nat_cmp_total map.nat_cmp-IsAntisymm
 part_is : (new wanted : Part) → new.id ≡ wanted.id → new.published ≡ wanted.published → new.promise ≡ wanted.promise → new.votes ≡ wanted.votes → new ≡ wanted
 part_is new wanted id published promise votes = λ i. record { id = id i; published = published i; promise = promise i; votes = votes i }
 
-pub agrees_as_promised : (old new : Part) (b : Ballot) → Agrees (raised old.promise b) old.published None old new → new ≡ with_promise old b
+pub agrees_as_promised : (old new : Part) (b : Ballot) → KeepsPart (raised old.promise b) old.published None old new → new ≡ with_promise old b
 unfolding AreSameBut
 agrees_as_promised old new b is =
     part_is new (with_promise old b) is.id is.up_to is.promised (same_votes new.votes old.votes (λ s. is.votes s (none-some s)))
 
-pub agrees_as_same : (old new : Part) → Agrees old.promise old.published None old new → new ≡ old
+pub agrees_as_same : (old new : Part) → KeepsPart old.promise old.published None old new → new ≡ old
 unfolding AreSameBut
 agrees_as_same old new is = part_is new old is.id is.up_to is.promised (same_votes new.votes old.votes (λ s. is.votes s (none-some s)))
 
@@ -78,7 +78,7 @@ agrees_as_same old new is = part_is new old is.id is.up_to is.promised (same_vot
 other_slot : (s t : ℕ) → nat_eq t s ≡ false → Some s ≡ Some t → ⊥
 other_slot s t other at = grind (arith, other, at)
 
-pub agrees_as_voted : (old new : Part) (s : ℕ) (b : Ballot) (d : Definition) → Agrees (raised old.promise b) old.published (Some s) old new → map.get new.votes s ≡ Some (b, d) →
+pub agrees_as_voted : (old new : Part) (s : ℕ) (b : Ballot) (d : Definition) → KeepsPart (raised old.promise b) old.published (Some s) old new → map.get new.votes s ≡ Some (b, d) →
     new ≡ with_open old (Accepted s b d)
 unfolding AreSameBut
 agrees_as_voted old new s b d is voted =
@@ -88,7 +88,7 @@ agrees_as_voted old new s b d is voted =
       at t true here = rw here (ap (map.get new.votes) (eqb-true t s here) ∙ voted)
       at t false other = rw other (is.votes t (other_slot s t other))
 
-pub agrees_as_published : (old new : Part) (s : ℕ) → Agrees old.promise s (Some s) old new → map.get new.votes s ≡ None → new ≡ with_published old s
+pub agrees_as_published : (old new : Part) (s : ℕ) → KeepsPart old.promise s (Some s) old new → map.get new.votes s ≡ None → new ≡ with_published old s
 unfolding AreSameBut
 agrees_as_published old new s is gone =
     part_is new (with_published old s) is.id is.up_to is.promised

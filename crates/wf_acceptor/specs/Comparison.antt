@@ -15,7 +15,7 @@ AreSameBut but votes others = (s : ℕ) → (but ≡ Some s → ⊥) → get vot
 
 -- The new part is of the same node, has this promise and this number of published definitions, and
 -- the old one's votes, except at the slot.
-pub record Agrees (promise : Option Ballot) (published : ℕ) (but : Option ℕ) (old new : Part) : Type 0 where
+pub record KeepsPart (promise : Option Ballot) (published : ℕ) (but : Option ℕ) (old new : Part) : Type 0 where
   pub id : new.id ≡ old.id
   pub promised : new.promise ≡ promise
   pub up_to : new.published ≡ published

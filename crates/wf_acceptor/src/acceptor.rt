@@ -81,7 +81,7 @@ impl Acceptor {
     ghost use Rattle.wf_codec.specs.Message.{view_vote};
     ghost use Rattle.wf_journal.specs.Record.{view as record_view};
     ghost use Rattle.wf_acceptor.specs.Acceptor.{votes_of, ActsFor, Applies, IsNextSlot, HasRoomFor};
-    ghost use Rattle.wf_acceptor.specs.Comparison.{Agrees};
+    ghost use Rattle.wf_acceptor.specs.Comparison.{KeepsPart};
     ghost use Rattle.wf_acceptor.specs.AcceptorAnswer.{accept_transition, prepare_transition, AnswersAlways, Stores};
     ghost use Rattle.wf_acceptor.specs.Prepared.{nack_of, promising, replying, unprepared, voting, with_promise, with_open, with_entry, with_entry_at, with_published};
 
@@ -284,7 +284,7 @@ impl Acceptor {
         but: Option<Slot>,
     ) -> bool
         ensures { IsTrue result →
-            Agrees promise (unwrap_or published 0) but other.now.part self.now.part }
+            KeepsPart promise (unwrap_or published 0) but other.now.part self.now.part }
     {
         self.id == other.id
             && self.promise == promise

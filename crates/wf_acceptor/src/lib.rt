@@ -13,7 +13,7 @@
 //!
 //! Not here: storing records (the node writes an answer's record to its tape, then has it applied),
 //! and answers for a published slot. That a call takes hardly longer with more votes, since one is
-//! found by binary search, is measured (`bench/votes.py`), not proved.
+//! found by binary search, is measured (`bench/sizes.py`), not proved.
 #![tactic(auto)]
 
 mod acceptor;

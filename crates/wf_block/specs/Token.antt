@@ -51,31 +51,31 @@ is_plain b =
     not (is_quote b || is_hash b || b == 92 || b == 40 || b == 41 || b == 91 || b == 93 || b == 123 || b == 125)
 
 -- the state of the automaton
-pub data State : Type 0 where
+pub data TokenState : Type 0 where
   -- between tokens, where one may begin
-  Between : State
+  Between : TokenState
   -- after a `/` between tokens: it begins a comment, or is a word's first byte
-  BehindSlash : State
-  LineComment : State
-  BlockComment : State
+  BehindSlash : TokenState
+  LineComment : TokenState
+  BlockComment : TokenState
   -- after a `*` in a block comment
-  BehindStar : State
+  BehindStar : TokenState
   -- in a word, after these bytes of it
-  InWord : List ℕ → State
+  InWord : List ℕ → TokenState
   -- in a string in this quote, after these bytes of it
-  InString : ℕ → List ℕ → State
+  InString : ℕ → List ℕ → TokenState
   -- in a list, after these bytes of it
-  InList : List ℕ → State
+  InList : List ℕ → TokenState
 
 -- the effect of one byte: a new state, the end of a token and a new state, or the text has no
 -- tokens
-pub data Step : Type 0 where
-  Goes : State → Step
-  Ends : Token → State → Step
-  Rejects : Step
+pub data ByteStep : Type 0 where
+  Goes : TokenState → ByteStep
+  Ends : Token → TokenState → ByteStep
+  Rejects : ByteStep
 
 -- the step between tokens
-unfoldable pub step_between : ℕ → Step
+unfoldable pub step_between : ℕ → ByteStep
 step_between b =
     if is_white b then Goes Between else
     if is_hash b then Goes LineComment else
@@ -85,7 +85,7 @@ step_between b =
     if opens_list b then Goes (InList []) else Rejects
 
 -- a word ends before white space, `#` or a quote; that byte then counts as one between tokens
-unfoldable pub step_in_word : List ℕ → ℕ → Step
+unfoldable pub step_in_word : List ℕ → ℕ → ByteStep
 step_in_word w b =
     if is_plain b then Goes (InWord (w ++ b ∷ [])) else
     if is_white b then Ends (Word w) Between else
@@ -93,20 +93,20 @@ step_in_word w b =
     if is_quote b then Ends (Word w) (InString b []) else Rejects
 
 -- a string ends at the next quote of its kind, and its bytes are a valid text
-unfoldable pub step_in_string : ℕ → List ℕ → ℕ → Step
+unfoldable pub step_in_string : ℕ → List ℕ → ℕ → ByteStep
 step_in_string q s b =
     if b == q
     then (if is_text s then Ends (Quoted s) Between else Rejects)
     else Goes (InString q (s ++ b ∷ []))
 
 -- a list ends at the next `}`, and its bytes are a valid list: quotes and `#` are bytes like others
-unfoldable pub step_in_list : List ℕ → ℕ → Step
+unfoldable pub step_in_list : List ℕ → ℕ → ByteStep
 step_in_list s b =
     if closes_list b
     then (if is_value_list s then Ends (Braced s) Between else Rejects)
     else Goes (InList (s ++ b ∷ []))
 
-unfoldable pub step : State → ℕ → Step
+unfoldable pub step : TokenState → ℕ → ByteStep
 step Between b = step_between b
 step BehindSlash b = if is_star b then Goes BlockComment else step_in_word (47 ∷ []) b
 step LineComment b = if ends_line b then Goes Between else Goes LineComment
@@ -119,7 +119,7 @@ step (InList s) b = step_in_list s b
 
 -- at the end of the text: a word and a line comment end there, a string, a list and a block comment
 -- don't
-unfoldable pub at_end : State → Option (List Token)
+unfoldable pub at_end : TokenState → Option (List Token)
 at_end Between = Some []
 at_end BehindSlash = Some (Word (47 ∷ []) ∷ [])
 at_end LineComment = Some []
@@ -139,13 +139,13 @@ abbrev pub prepend_all : List Token → Option (List Token) → Option (List Tok
 prepend_all [] rest = rest
 prepend_all (t ∷ ts) rest = prepend t (prepend_all ts rest)
 
-abbrev pub follow : Step → (State → Option (List Token)) → Option (List Token)
+abbrev pub follow : ByteStep → (TokenState → Option (List Token)) → Option (List Token)
 follow (Goes p) rest = rest p
 follow (Ends t p) rest = prepend t (rest p)
 follow Rejects rest = None
 
 -- the tokens of the rest of a text, from a state
-unfoldable pub tokens_from : State → List ℕ → Option (List Token)
+unfoldable pub tokens_from : TokenState → List ℕ → Option (List Token)
 tokens_from p [] = at_end p
 tokens_from p (b ∷ bs) = follow (step p b) (λ q. tokens_from q bs)
 

@@ -12,7 +12,7 @@ use Rattle.wf_node.specs.Node.{Node, stored_of}
 use Rattle.wf_node.specs.Step.{transition_of, stored_next}
 use Rattle.wf_delivery.specs.Delivery.{IsNodeBy, ShowsNode, AnyPart}
 use Rattle.wf_tape.specs.declared.tape.Tape.{Ghosts as Tape}
-use Rattle.wf_career.specs.Run.{Input, Act, Run, last_of, last, End, Between, Within, Failed, FailedAt, HasLeft, AreDone, IsRun}
+use Rattle.wf_career.specs.Run.{Input, Act, Run, last_of, last, RunEnd, Between, Within, Failed, FailedAt, HasLeft, AreDone, IsRun}
 use Rattle.wf_career.specs.Career.{Ended, IsRunEnded, AreRuns, values_after, values_of, Item, items_by, items_at, items_in}
 use Rattle.wf_career.proofs.Lists.{Grow}
 use Rattle.wf_career.proofs.Lives.{running, down, shown_by, shown, shown_running, shown_halted, Reachable, reachable_nowhere, reachable_both, reachable_stopped, reachable_restarted, reachable_unchanged, reachable_cut, takes_grown, last_id, AreKept, kept_before, kept_after, failed_last, acts_reachable}
@@ -60,7 +60,7 @@ module _ {T : Type 0} (tapes : Tape T) where
 -- ---- a run that has ended
 
 -- What is left of a run stands for this, and the run leads to it, from what it was opened from.
-record Finishes {T : Type 0} (n i : ℕ) (stored : DurableState Definition) (run : Run T) (end : End) (left : List ℕ) : Type 0 where
+record Finishes {T : Type 0} (n i : ℕ) (stored : DurableState Definition) (run : Run T) (end : RunEnd) (left : List ℕ) : Type 0 where
   next : DurableState Definition
   stands : StandsFor next left
   reachable : Reachable n i (down stored) (items_by i run.acts ++ items_at i end) (down next)
@@ -93,7 +93,7 @@ module _ {T : Type 0} (tapes : Tape T) (n i : ℕ) (bytes : List ℕ) (stored : 
   ids : ((last run).id ≡ i) × ((last run).n ≡ n)
   ids = let at_last = last_id tapes run.first run.acts is.done in (at_last.0 ∙ is.opened.id, at_last.1 ∙ is.opened.among)
 
-  finishes : (end : End) (left : List ℕ) → HasLeft run end left → Finishes n i stored run end left
+  finishes : (end : RunEnd) (left : List ℕ) → HasLeft run end left → Finishes n i stored run end left
   finishes Between left (runs, stands) =
       let at_last = last run in
       record {

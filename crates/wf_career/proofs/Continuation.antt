@@ -4,7 +4,7 @@ use Rattle.std.proofs.lemmas.Bool.{cases_eq}
 use Rattle.wf_codec.specs.declared.message.Message.{Message}
 use Rattle.wf_node.specs.Node.{Node}
 use Rattle.wf_tape.specs.declared.tape.Tape.{Ghosts as Tape}
-use Rattle.wf_career.specs.Run.{Act, Run, last, End, Between, Within, Failed, HasLeft, IsAct, IsOpenedFrom}
+use Rattle.wf_career.specs.Run.{Act, Run, last, RunEnd, Between, Within, Failed, HasLeft, IsAct, IsOpenedFrom}
 use Rattle.wf_career.specs.RunTheorems.{done_more}
 use Rattle.wf_career.specs.Career.{Ended, Career, AreRuns, IsCareer, Item, items_of, items_by, items_at, items_in, IsOneOf, AreInTurn, IsFarm}
 use Rattle.wf_career.specs.Theorems.{outputs_in}
@@ -58,7 +58,7 @@ module _ {T : Type 0} where
   in_started i (first ∷ ended) node = ap (λ xs. items_by i first.run.acts ++ (items_at i first.end ++ xs)) (in_started i ended node)
 
   -- the current run has ended
-  in_ended : (i : ℕ) (ended : List (Ended T)) (run : Run T) (end : End) (bytes : List ℕ) →
+  in_ended : (i : ℕ) (ended : List (Ended T)) (run : Run T) (end : RunEnd) (bytes : List ℕ) →
       items_in i (ended ++ record { run = run; end = end; left = bytes } ∷ []) None ≡ items_in i ended (Some run) ++ items_at i end
   unfolding items_in
   in_ended i [] run end bytes = ap (λ xs. items_by i run.acts ++ xs) (append-nil (items_at i end))
@@ -81,7 +81,7 @@ module _ {T : Type 0} (tapes : Tape T) (n i : ℕ) where
   runs_started bytes [] node are opened = record { opened = opened; done = tt }
   runs_started bytes (first ∷ ended) node are opened = (are.0, runs_started first.left ended node are.1 opened)
 
-  runs_ended : (bytes : List ℕ) (ended : List (Ended T)) (run : Run T) (end : End) (left_now : List ℕ) → AreRuns tapes n i bytes ended (Some run) → HasLeft run end left_now →
+  runs_ended : (bytes : List ℕ) (ended : List (Ended T)) (run : Run T) (end : RunEnd) (left_now : List ℕ) → AreRuns tapes n i bytes ended (Some run) → HasLeft run end left_now →
       AreRuns tapes n i bytes (ended ++ record { run = run; end = end; left = left_now } ∷ []) None
   runs_ended bytes [] run end left_now are left_it = (record { run = are; left = left_it }, tt)
   runs_ended bytes (first ∷ ended) run end left_now are left_it = (are.0, runs_ended first.left ended run end left_now are.1 left_it)
@@ -154,15 +154,15 @@ module _ {T : Type 0} (tapes : Tape T) (n i : ℕ) (careers : ℕ → Career T) 
       (runs_more tapes n i [] ended_now run act (runs_own less (Some run) now) is) received
       (ap (λ xs. xs ++ record { process = i; takes = act.input; outputs = act.outputs } ∷ []) (item_own less (Some run) now) ∙ sym (in_more i ended_now run act))
 
-  abbrev ended_by : Run T → End → List ℕ → Career T
+  abbrev ended_by : Run T → RunEnd → List ℕ → Career T
   ended_by run end bytes = record { ended = ended_now ++ record { run = run; end = end; left = bytes } ∷ []; now = None }
 
-  ends_quietly : (run : Run T) (end : End) (bytes : List ℕ) → i < n → (careers i).now ≡ Some run → HasLeft run end bytes → items_at i end ≡ [] → IsFarm tapes n (with_career careers i (ended_by run end bytes)) items
+  ends_quietly : (run : Run T) (end : RunEnd) (bytes : List ℕ) → i < n → (careers i).now ≡ Some run → HasLeft run end bytes → items_at i end ≡ [] → IsFarm tapes n (with_career careers i (ended_by run end bytes)) items
   ends_quietly run end bytes less now left_it quiet =
       goes_quietly (ended_by run end bytes) less (runs_ended tapes n i [] ended_now run end bytes (runs_own less (Some run) now) left_it)
       (item_own less (Some run) now ∙ sym (append-nil (items_in i ended_now (Some run))) ∙ ap (λ xs. items_in i ended_now (Some run) ++ xs) (sym quiet) ∙ sym (in_ended i ended_now run end bytes))
 
-  ends : (run : Run T) (end : End) (bytes : List ℕ) → i < n → (careers i).now ≡ Some run → HasLeft run end bytes → IsCutBy items end →
+  ends : (run : Run T) (end : RunEnd) (bytes : List ℕ) → i < n → (careers i).now ≡ Some run → HasLeft run end bytes → IsCutBy items end →
       IsFarm tapes n (with_career careers i (ended_by run end bytes)) (items ++ items_at i end)
   ends run Between bytes less now left_it cut = subst (IsFarm tapes n (with_career careers i (ended_by run Between bytes))) (sym (append-nil items)) (ends_quietly run Between bytes less now left_it refl)
   ends run (Within input) bytes less now left_it cut =

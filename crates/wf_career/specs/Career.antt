@@ -6,14 +6,14 @@ use Rattle.wf_model.specs.Chosen.{IsIn}
 use Rattle.wf_model.specs.declared.action.Action.TheVariants as action
 use Rattle.wf_node.specs.Node.{Node}
 use Rattle.wf_tape.specs.declared.tape.Tape.{Ghosts as Tape}
-use Rattle.wf_career.specs.Run.{Input, Act, Run, End, Between, Within, Failed, HasLeft, IsRun}
+use Rattle.wf_career.specs.Run.{Input, Act, Run, RunEnd, Between, Within, Failed, HasLeft, IsRun}
 
 -- ---- one process
 
 -- a run that has ended, and the bytes that the next one is opened from
 pub record Ended (T : Type 0) : Type 0 where
   pub run : Run T
-  pub end : End
+  pub end : RunEnd
   pub left : List ℕ
 
 -- the runs that have ended, the first one first, and the one that goes on, if one does
@@ -72,7 +72,7 @@ unfoldable pub items_by : {T : Type 0} → ℕ → List (Act T) → List Item
 items_by i [] = []
 items_by i (act ∷ acts) = record { process = i; takes = act.input; outputs = act.outputs } ∷ items_by i acts
 
-abbrev pub items_at : ℕ → End → List Item
+abbrev pub items_at : ℕ → RunEnd → List Item
 items_at i Between = []
 items_at i (Within input) = record { process = i; takes = input; outputs = [] } ∷ []
 items_at i (Failed input) = []

@@ -3,7 +3,7 @@
 use Rattle.std.specs.Prelude.{◌≡◌, ℕ, ◌<◌, ◌==◌, ⊤, List, [], ◌∷◌, ◌++◌, Some, None, if◌then◌else◌}
 use Rattle.wf_node.specs.Node.{Node}
 use Rattle.wf_tape.specs.declared.tape.Tape.{Ghosts as Tape}
-use Rattle.wf_career.specs.Run.{Act, Run, last, End, Between, Within, Failed, HasLeft, IsAct, IsOpenedFrom}
+use Rattle.wf_career.specs.Run.{Act, Run, last, RunEnd, Between, Within, Failed, HasLeft, IsAct, IsOpenedFrom}
 use Rattle.wf_career.specs.Career.{Ended, Career, Item, items_at, IsOneOf, IsFarm}
 use Rattle.wf_career.specs.Theorems.{outputs_in}
 
@@ -41,13 +41,13 @@ StepGoesOn {T} tapes = (n i : ℕ) (careers : ℕ → Career T) (items : List It
     (items ++ record { process = i; takes = act.input; outputs = act.outputs } ∷ [])
 
 -- the input within whose step a run is cut was sent too
-abbrev pub IsCutBy : List Item → End → Type 0
+abbrev pub IsCutBy : List Item → RunEnd → Type 0
 IsCutBy items Between = ⊤
 IsCutBy items (Within input) = IsOneOf (outputs_in items) input
 IsCutBy items (Failed input) = ⊤
 
 -- A process that runs ends.
 abbrev pub EndGoesOn : {T : Type 0} → Tape T → Type 0
-EndGoesOn {T} tapes = (n i : ℕ) (careers : ℕ → Career T) (items : List Item) (run : Run T) (end : End) (bytes : List ℕ) → IsFarm tapes n careers items → i < n → (careers i).now ≡ Some run →
+EndGoesOn {T} tapes = (n i : ℕ) (careers : ℕ → Career T) (items : List Item) (run : Run T) (end : RunEnd) (bytes : List ℕ) → IsFarm tapes n careers items → i < n → (careers i).now ≡ Some run →
     HasLeft run end bytes → IsCutBy items end →
     IsFarm tapes n (with_career careers i (record { ended = (careers i).ended ++ record { run = run; end = end; left = bytes } ∷ []; now = None })) (items ++ items_at i end)

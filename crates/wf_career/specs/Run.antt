@@ -62,10 +62,10 @@ outputs (act ∷ acts) = act.outputs ++ outputs acts
 
 -- How a run ended: between two steps; within the step of an input; or after its tape had failed
 -- within the step of an input.
-pub data End : Type 0 where
-  Between : End
-  Within : (input : Input) → End
-  Failed : (input : Input) → End
+pub data RunEnd : Type 0 where
+  Between : RunEnd
+  Within : (input : Input) → RunEnd
+  Failed : (input : Input) → RunEnd
 
 -- The bytes stand for what the node has stored; or for what it has stored after this input's step,
 -- if the table doesn't reject that.
@@ -80,7 +80,7 @@ FailedAt node (act ∷ acts) input = ((node.halted ≡ false) × (act.after.halt
 
 -- What a run leaves on its tape, by how it ended. A halted node has stored what it had before the
 -- step within which its tape failed.
-abbrev pub HasLeft : {T : Type 0} → Run T → End → List ℕ → Type 0
+abbrev pub HasLeft : {T : Type 0} → Run T → RunEnd → List ℕ → Type 0
 HasLeft run Between bytes = ((last run).halted ≡ false) × StandsFor (stored_of (last run)) bytes
 HasLeft run (Within input) bytes = ((last run).halted ≡ false) × StandForEither (last run) input bytes
 HasLeft run (Failed input) bytes = FailedAt run.first run.acts input × StandForEither (last run) input bytes

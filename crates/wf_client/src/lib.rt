@@ -35,4 +35,4 @@ pub use client::{Client, ClientPhase};
 pub use limits::BUDGET_BYTES;
 pub use partial_request::Incoming;
 pub use response_buffer::Outgoing;
-pub use slots::{slot_index, weight};
+pub use slots::{first_free, slot_index, weight};

@@ -9,7 +9,7 @@ use Rattle.wf_frame.specs.Layout.{Layout, fits}
 use Rattle.wf_frame.specs.Layout as layouts
 use Rattle.wf_frame.specs.Row.{Row, end_definitions, layout_of, read_row}
 use Rattle.wf_frame.specs.RowTheorems.{row_checked}
-use Rattle.wf_frame.specs.Frame.{Found, body_front, length_front, kind_front, frame_front}
+use Rattle.wf_frame.specs.Frame.{FrameFound, body_front, length_front, kind_front, frame_front}
 use Rattle.wf_model.specs.Message.{Message}
 use Rattle.wf_codec.specs.declared.fault.DecodeFault.{DecodeFault}
 use Rattle.wf_codec.specs.declared.fault.DecodeFault.TheVariants.{Short, BadVersion, BadKind, BadField, NotCanonical, TooLong, Memory}
@@ -17,13 +17,13 @@ use Rattle.wf_codec.specs.KindTable.{kinds, most_body_bytes}
 use Rattle.wf_codec.specs.Message.{texts, HasOne, HasOneOf}
 use Rattle.wf_codec.specs.Encoding.{message_version, format}
 use Rattle.wf_codec.specs.Fault.{texts_of_kind, behind_header, body_in, check_longest, check_length, check_whole, check_fields, first_failing, first_fault, texts_in, layout_in, length_in, CarriesText, CarriesNoText, HasFault, IsNoText}
-use Rattle.wf_codec.specs.Stages.{decode_fault, ReadsAs}
+use Rattle.wf_codec.specs.Stages.{decode_fault, ReadsBodyAs}
 use Rattle.wf_codec.specs.Theorem.{IsValidated}
 
 -- ---- the frame
 
 -- the checks and the text agree with the frame that was split off
-abbrev FrameIsChecked : Option DecodeFault → List (List ℕ) → Result Found FrameFault → Type 0
+abbrev FrameIsChecked : Option DecodeFault → List (List ℕ) → Result FrameFound FrameFault → Type 0
 FrameIsChecked fault text (Ok found) = (layout : Layout) × (layout_of kinds found.1 ≡ Some layout) × (fault ≡ check_fields (Some layout) found.2) × (text ≡ layouts.texts_in layout found.2)
 FrameIsChecked fault text (Err e) = fault ≡ Some (decode_fault e)
 
@@ -31,7 +31,7 @@ alone : (o : Option DecodeFault) → first_failing (o ∷ []) ≡ o
 alone None = refl
 alone (Some e) = refl
 
-version_checked : (b : Bool) (checks : List (Option DecodeFault)) (text : List (List ℕ)) (r : Result Found FrameFault) → FrameIsChecked (first_failing checks) text r →
+version_checked : (b : Bool) (checks : List (Option DecodeFault)) (text : List (List ℕ)) (r : Result FrameFound FrameFault) → FrameIsChecked (first_failing checks) text r →
     FrameIsChecked (first_failing (cond b None (Some BadVersion) ∷ checks)) text (cond b r (Err frames.BadVersion))
 version_checked true checks text r checked = checked
 version_checked false checks text r checked = refl
@@ -121,7 +121,7 @@ abbrev pub IsFirst : {X : Type 0} → Result X DecodeFault → List ℕ → Type
 IsFirst result bytes = MatchResult result (λ x. first_fault bytes ≡ None) (λ e. HasFault bytes e)
 
 body_answered : {X : Type 0} (view : X → Message Definition) (result : Result X DecodeFault) (bytes : List ℕ) (byte : ℕ) (body : List ℕ) → BeginsWithFrame bytes byte body →
-    ReadsAs view result (read_row kinds byte body) → IsFirst result bytes
+    ReadsBodyAs view result (read_row kinds byte body) → IsFirst result bytes
 body_answered view (Ok x) bytes byte body begins reads = (fields_there bytes byte body (texts (view x)) begins reads.0).0
 body_answered view (Err Short) bytes byte body begins reads = absurd reads
 body_answered view (Err BadVersion) bytes byte body begins reads = absurd reads
@@ -138,7 +138,7 @@ frame_fault bytes frames.BadKind is = is
 frame_fault bytes frames.TooLong is = is
 frame_fault bytes frames.BadLength is = is
 
-frame_answered : {X : Type 0} (view : X → Message Definition) (result : Result (X × ℕ) DecodeFault) (bytes : List ℕ) (r : Result Found FrameFault) →
+frame_answered : {X : Type 0} (view : X → Message Definition) (result : Result (X × ℕ) DecodeFault) (bytes : List ℕ) (r : Result FrameFound FrameFault) →
     FrameIsChecked (first_fault bytes) (texts_in bytes) r → IsValidated view result r → IsFirst result bytes
 frame_answered view result bytes (Ok found) checked validated =
     body_answered (λ x. view x.0) result bytes found.1 found.2 (record { layout = checked.0; known = checked.1; fault = checked.2; text = checked.3 }) validated.0

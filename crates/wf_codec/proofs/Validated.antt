@@ -11,7 +11,7 @@ use Rattle.wf_canon.specs.TextMeaning.{OneTextOneMap}
 use Rattle.wf_frame.specs.declared.fault.FrameFault.{FrameFault}
 use Rattle.wf_frame.specs.declared.fault.FrameFault.TheVariants as frames
 use Rattle.wf_ballot.specs.Field.{frame}
-use Rattle.wf_frame.specs.Frame.{Found, frame_front}
+use Rattle.wf_frame.specs.Frame.{FrameFound, frame_front}
 use Rattle.wf_frame.specs.FrameTheorems as frame_theorems
 use Rattle.wf_frame.specs.Row.{Row, row_bytes, read_row}
 use Rattle.wf_frame.specs.RowTheorems.{row_stands}
@@ -22,7 +22,7 @@ use Rattle.wf_codec.specs.KindTable.{kinds}
 use Rattle.wf_codec.specs.Message.{texts, HasDefinition, IsMessage}
 use Rattle.wf_codec.specs.Encoding.{message_version, header_length, format, text_spelling, spelling, Spells}
 use Rattle.wf_codec.specs.FormatTheorems.{is_format}
-use Rattle.wf_codec.specs.Stages.{decode_fault, ReadsAs}
+use Rattle.wf_codec.specs.Stages.{decode_fault, ReadsBodyAs}
 use Rattle.wf_codec.specs.Theorem.{OneSpelling, NoneBeginsAnother, NoneIsEmpty, BeginsWith, BeginsWithNone, NeverBegins, IsLastingFault, IsUnfinished, IsReadAs, IsValidated}
 use Rattle.wf_codec.proofs.Texts.{texts_apart, text_is_definition, not_bad, row_of_message, body_of_message}
 use Rattle.wf_codec.proofs.Encoded.{length-text_spelling}
@@ -45,17 +45,17 @@ one_spelling m a b spells_a spells_b = spells_a.spelled ∙ sym spells_b.spelled
 some_same : {A : Type 0} (x y : A) → Some x ≡ Some y → x ≡ y
 some_same x y e = cc
 
-abbrev ok : Found → Result Found FrameFault
+abbrev ok : FrameFound → Result FrameFound FrameFault
 ok x = Ok x
 
-ok_same : (x y : Found) → ok x ≡ ok y → x ≡ y
+ok_same : (x y : FrameFound) → ok x ≡ ok y → x ≡ y
 ok_same x y e = cc
 
 pub none_is_empty : NoneIsEmpty
 none_is_empty m bytes spells = omega (arith, ap length spells.spelled, length-text_spelling (texts m))
 
 -- what is read of a frame
-abbrev read_of : Found → Option (Row (List ℕ))
+abbrev read_of : FrameFound → Option (Row (List ℕ))
 read_of found = read_row kinds found.1 found.2
 
 pub none_begins_another : OneTextOneMap → NoneBeginsAnother
@@ -74,7 +74,7 @@ none_begins_another one_map m n a b after_a after_b spells_a spells_b e =
 
 -- ---- the result of decode
 
-begins_by : {X : Type 0} (view : X → Message Definition) (x : X × ℕ) (bytes : List ℕ) (r : Result Found FrameFault) → frame_front format bytes ≡ r → AreBytes bytes →
+begins_by : {X : Type 0} (view : X → Message Definition) (x : X × ℕ) (bytes : List ℕ) (r : Result FrameFound FrameFault) → frame_front format bytes ≡ r → AreBytes bytes →
     IsValidated view (Ok x) r → BeginsWith bytes (view x.0) x.1
 unfolding text_spelling
 begins_by view x bytes (Err fault) is fits validated = absurd cc
@@ -112,7 +112,7 @@ has_bytes view (Ok x) bytes begins = counted bytes (view x.0) x.1 begins
 has_bytes view (Err e) bytes begins = tt
 
 read_by : {X : Type 0} → OneTextOneMap → (view : X → Message Definition) (result : Result (X × ℕ) DecodeFault) (m : Message Definition) (k : ℕ) → IsMessage m →
-    ReadsAs (λ x. view x.0) result (Some (texts m)) → IfOk result (λ x. x.1 ≡ k) → IsReadAs view result m k
+    ReadsBodyAs (λ x. view x.0) result (Some (texts m)) → IfOk result (λ x. x.1 ≡ k) → IsReadAs view result m k
 read_by one_map view (Ok x) m k is_message reads count = (texts_apart one_map (view x.0) m reads.1 is_message (some_same (texts (view x.0)) (texts m) (sym reads.0)), count)
 read_by one_map view (Err Short) m k is_message reads count = absurd reads
 read_by one_map view (Err BadVersion) m k is_message reads count = absurd reads
@@ -127,16 +127,16 @@ pub whole_is_read : {X : Type 0} → OneTextOneMap → (view : X → Message Def
     (m : Message Definition) (spelled after : List ℕ) → Spells m spelled → bytes ≡ spelled ++ after → IsReadAs view result m (length spelled)
 whole_is_read one_map view result bytes validated m spelled after spells e =
     let cut : IsValidated view result (Ok (message_version, (texts m).byte, row_bytes (texts m))) =
-    subst (λ (r : Result Found FrameFault). IsValidated view result r) (cut_of m spelled after bytes spells e) validated in
-    let reads : ReadsAs (λ x. view x.0) result (Some (texts m)) =
-    subst (λ (o : Option (Row (List ℕ))). ReadsAs (λ x. view x.0) result o) (row_of_message m spells.is_message) cut.0 in
+    subst (λ (r : Result FrameFound FrameFault). IsValidated view result r) (cut_of m spelled after bytes spells e) validated in
+    let reads : ReadsBodyAs (λ x. view x.0) result (Some (texts m)) =
+    subst (λ (o : Option (Row (List ℕ))). ReadsBodyAs (λ x. view x.0) result o) (row_of_message m spells.is_message) cut.0 in
     let count : header_length + length (row_bytes (texts m)) ≡ length spelled = sym (length-text_spelling (texts m)) ∙ ap length (sym spells.spelled) in
     subst (λ (k : ℕ). IsReadAs view result m k) count (read_by one_map view result m (header_length + length (row_bytes (texts m))) spells.is_message reads cut.1)
 
 rejection_not_short : (e : DecodeFault) → IsLastingFault e → e ≡ Short → ⊥
 rejection_not_short e rejection short = subst IsLastingFault short rejection
 
-never_rejected : {X : Type 0} (view : X → Message Definition) (e : DecodeFault) (m : Message Definition) → IsLastingFault e → IsMessage m → ReadsAs (λ (x : X × ℕ). view x.0) (Err e) (Some (texts m)) → ⊥
+never_rejected : {X : Type 0} (view : X → Message Definition) (e : DecodeFault) (m : Message Definition) → IsLastingFault e → IsMessage m → ReadsBodyAs (λ (x : X × ℕ). view x.0) (Err e) (Some (texts m)) → ⊥
 never_rejected view Short m rejection is_message reads = reads
 never_rejected view BadVersion m rejection is_message reads = reads
 never_rejected view BadKind m rejection is_message reads = reads
@@ -156,7 +156,7 @@ err_same d e same = cc
 
 -- A frame that is split off bytes is split off longer bytes too; if it is rejected, longer bytes
 -- are rejected too.
-rejected_by : {X : Type 0} (view : X → Message Definition) (e : DecodeFault) (bytes : List ℕ) (r : Result Found FrameFault) → frame_front format bytes ≡ r → AreBytes bytes →
+rejected_by : {X : Type 0} (view : X → Message Definition) (e : DecodeFault) (bytes : List ℕ) (r : Result FrameFound FrameFault) → frame_front format bytes ≡ r → AreBytes bytes →
     IsValidated view (Err e) r → IsLastingFault e → NeverBegins bytes
 rejected_by {X} view e bytes (Err fault) is fits validated rejection more m spelled after spells same =
     let fault_is : e ≡ decode_fault fault = err_same {X = X × ℕ} e (decode_fault fault) validated in
@@ -171,7 +171,7 @@ rejected_by {X} view e bytes (Ok found) is fits validated rejection more m spell
     let cut = cut_of m spelled after (bytes ++ more) spells same in
     let same_frame = ok_same (found.0, found.1, found.2) (message_version, (texts m).byte, row_bytes (texts m)) (sym again ∙ cut) in
     let read = ap read_of same_frame ∙ row_of_message m spells.is_message in
-    never_rejected view e m rejection spells.is_message (subst (λ (o : Option (Row (List ℕ))). ReadsAs (λ (x : X × ℕ). view x.0) (Err e) o) read validated.0)
+    never_rejected view e m rejection spells.is_message (subst (λ (o : Option (Row (List ℕ))). ReadsBodyAs (λ (x : X × ℕ). view x.0) (Err e) o) read validated.0)
 
 -- rejected bytes never begin with a message, whatever follows
 pub refused : {X : Type 0} (view : X → Message Definition) (result : Result (X × ℕ) DecodeFault) (bytes : List ℕ) → AreBytes bytes → IsValidated view result (frame_front format bytes) →
@@ -186,13 +186,13 @@ is_short frames.BadKind e = absurd cc
 is_short frames.TooLong e = absurd cc
 is_short frames.BadLength e = absurd cc
 
-abbrev frame_error : FrameFault → Result Found FrameFault
+abbrev frame_error : FrameFault → Result FrameFound FrameFault
 frame_error fault = Err fault
 
-short_by : {X : Type 0} (view : X → Message Definition) (result : Result (X × ℕ) DecodeFault) (r : Result Found FrameFault) → IsValidated view result r → result ≡ Err Short → r ≡ Err frames.Short
+short_by : {X : Type 0} (view : X → Message Definition) (result : Result (X × ℕ) DecodeFault) (r : Result FrameFound FrameFault) → IsValidated view result r → result ≡ Err Short → r ≡ Err frames.Short
 short_by {X} view result (Err fault) validated short = ap frame_error (is_short fault (err_same {X = X × ℕ} (decode_fault fault) Short (sym validated ∙ short)))
 short_by {X} view result (Ok found) validated short =
-    absurd (subst (λ (a : Result (X × ℕ) DecodeFault). ReadsAs (λ (x : X × ℕ). view x.0) a (read_row kinds found.1 found.2)) short validated.0)
+    absurd (subst (λ (a : Result (X × ℕ) DecodeFault). ReadsBodyAs (λ (x : X × ℕ). view x.0) a (read_row kinds found.1 found.2)) short validated.0)
 
 -- if Short is returned, more bytes are needed
 pub short_unfinished : {X : Type 0} (view : X → Message Definition) (result : Result (X × ℕ) DecodeFault) (bytes : List ℕ) → IsValidated view result (frame_front format bytes) → IsErrOf result Short → IsUnfinished bytes
@@ -202,7 +202,7 @@ short_unfinished view result bytes validated short =
 -- and conversely
 pub unfinished_short : {X : Type 0} (view : X → Message Definition) (result : Result (X × ℕ) DecodeFault) (bytes : List ℕ) → IsValidated view result (frame_front format bytes) → IsUnfinished bytes → IsErrOf result Short
 unfinished_short view result bytes validated unfinished =
-    subst (λ (r : Result Found FrameFault). IsValidated view result r) (frame_theorems.unfinished_is_short format is_format bytes unfinished) validated
+    subst (λ (r : Result FrameFound FrameFault). IsValidated view result r) (frame_theorems.unfinished_is_short format is_format bytes unfinished) validated
 
 not_read_short : {X : Type 0} (view : X → Message Definition) (result : Result (X × ℕ) DecodeFault) (m : Message Definition) (k : ℕ) → result ≡ Err Short → IsReadAs view result m k → ⊥
 not_read_short {X} view result m k short is_read =

@@ -54,9 +54,9 @@ ReadsReport slot (Err Memory) cut = IsSomeAnd cut (λ votes. HasOne (votes_defin
 ReadsReport slot (Err fault) cut = ⊥
 
 -- the result of a function that reads a body, mapped by view, compared with the row of the body
-abbrev pub ReadsAs : {X : Type 0} → (X → Message Definition) → Result X DecodeFault → Option (Row (List ℕ)) → Type 0
-ReadsAs view (Ok x) read = (read ≡ Some (texts (view x))) × IsMessage (view x)
-ReadsAs view (Err BadField) read = read ≡ None
-ReadsAs view (Err NotCanonical) read = IsSomeAnd read (λ r. HasOneOf IsNoText (end_definitions r.ending))
-ReadsAs view (Err Memory) read = IsSomeAnd read (λ r. HasOne (end_definitions r.ending))
-ReadsAs view (Err fault) read = ⊥
+abbrev pub ReadsBodyAs : {X : Type 0} → (X → Message Definition) → Result X DecodeFault → Option (Row (List ℕ)) → Type 0
+ReadsBodyAs view (Ok x) read = (read ≡ Some (texts (view x))) × IsMessage (view x)
+ReadsBodyAs view (Err BadField) read = read ≡ None
+ReadsBodyAs view (Err NotCanonical) read = IsSomeAnd read (λ r. HasOneOf IsNoText (end_definitions r.ending))
+ReadsBodyAs view (Err Memory) read = IsSomeAnd read (λ r. HasOne (end_definitions r.ending))
+ReadsBodyAs view (Err fault) read = ⊥

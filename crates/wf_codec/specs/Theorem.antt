@@ -3,7 +3,7 @@
 use Rattle.std.specs.Prelude.{◌≡◌, ℕ, ◌+◌, ◌≤◌, List, ◌++◌, length, take, true, Some, Result, Err, IfOk, IsSomeAnd, MatchResult}
 use Rattle.wf_frame.specs.Layout.{Layout, fits}
 use Rattle.wf_frame.specs.Row.{layout_of, read_row}
-use Rattle.wf_frame.specs.Frame.{Found}
+use Rattle.wf_frame.specs.Frame.{FrameFound}
 use Rattle.wf_frame.specs.Frame as frames
 use Rattle.wf_frame.specs.declared.fault.FrameFault.{FrameFault}
 use Rattle.wf_model.specs.Message.{Message}
@@ -13,7 +13,7 @@ use Rattle.wf_codec.specs.declared.fault.DecodeFault.TheVariants.{Short, Memory}
 use Rattle.wf_codec.specs.KindTable.{kinds}
 use Rattle.wf_codec.specs.Encoding.{header_length, format, Spells}
 use Rattle.wf_codec.specs.Message.{HasDefinition}
-use Rattle.wf_codec.specs.Stages.{decode_fault, ReadsAs}
+use Rattle.wf_codec.specs.Stages.{decode_fault, ReadsBodyAs}
 
 -- a message has exactly one encoding
 abbrev pub OneSpelling : Type 0
@@ -64,7 +64,7 @@ abbrev pub IsReadAs : {X : Type 0} → (X → Message Definition) → Result (X 
 IsReadAs view result m k = MatchResult result (λ x. (view x.0 ≡ m) × (x.1 ≡ k)) (λ e. (e ≡ Memory) × HasDefinition m)
 
 -- The result of the decoder's parts: the frame's error, or else the message of the body.
-abbrev pub IsValidated : {X : Type 0} → (X → Message Definition) → Result (X × ℕ) DecodeFault → Result Found FrameFault → Type 0
+abbrev pub IsValidated : {X : Type 0} → (X → Message Definition) → Result (X × ℕ) DecodeFault → Result FrameFound FrameFault → Type 0
 IsValidated view result split = MatchResult split
-    (λ frame. ReadsAs (λ x. view x.0) result (read_row kinds frame.1 frame.2) × IfOk result (λ x. x.1 ≡ header_length + length frame.2))
+    (λ frame. ReadsBodyAs (λ x. view x.0) result (read_row kinds frame.1 frame.2) × IfOk result (λ x. x.1 ≡ header_length + length frame.2))
     (λ fault. result ≡ Err (decode_fault fault))

@@ -35,7 +35,7 @@ impl Message {
     ghost use Rattle.wf_codec.specs.KindTable.{kinds, most_body_bytes};
     ghost use Rattle.wf_codec.specs.Message.{view, row, texts, HasDefinition, IsMessage};
     ghost use Rattle.wf_codec.specs.Encoding.{written_end};
-    ghost use Rattle.wf_codec.specs.Stages.{ReadsAs};
+    ghost use Rattle.wf_codec.specs.Stages.{ReadsBodyAs};
 
     /// A copy. The only error is allocation failure, for a message with a definition.
     pub fn copy(&self) -> Result<Message, AllocError>
@@ -114,7 +114,7 @@ impl Message {
     /// The message of the kind with this byte whose body this is.
     #[tactic(auto, unfolding(wf_frame::specs::Row::read_row, wf_frame::specs::Row::layout_of))]
     pub(crate) fn read(alloc: Global, kind: u8, body: &[u8]) -> Result<Message, DecodeFault>
-        ensures { ReadsAs view result (read_row kinds kind body.now) }
+        ensures { ReadsBodyAs view result (read_row kinds kind body.now) }
     {
         match kind {
             1 => Message::read_prepare(body),
@@ -130,7 +130,7 @@ impl Message {
 
     #[tactic(auto, unfolding(wf_frame::specs::Row::read_row, wf_frame::specs::Row::layout_of))]
     fn read_prepare(body: &[u8]) -> Result<Message, DecodeFault>
-        ensures { ReadsAs view result (read_row kinds 1 body.now) }
+        ensures { ReadsBodyAs view result (read_row kinds 1 body.now) }
     {
         let Some((slot, rest)) = split_slot(body) else {
             return Err(DecodeFault::BadField);
@@ -143,7 +143,7 @@ impl Message {
 
     #[tactic(auto, unfolding(wf_frame::specs::Row::read_row, wf_frame::specs::Row::layout_of, wf_frame::specs::Report::report_of))]
     fn read_promise(alloc: Global, body: &[u8]) -> Result<Message, DecodeFault>
-        ensures { ReadsAs view result (read_row kinds 2 body.now) }
+        ensures { ReadsBodyAs view result (read_row kinds 2 body.now) }
     {
         let Some((node, rest)) = split_node(body) else {
             return Err(DecodeFault::BadField);
@@ -160,7 +160,7 @@ impl Message {
 
     #[tactic(auto, unfolding(wf_frame::specs::Row::read_row, wf_frame::specs::Row::layout_of))]
     fn read_accept(alloc: Global, body: &[u8]) -> Result<Message, DecodeFault>
-        ensures { ReadsAs view result (read_row kinds 3 body.now) }
+        ensures { ReadsBodyAs view result (read_row kinds 3 body.now) }
     {
         let Some((slot, rest)) = split_slot(body) else {
             return Err(DecodeFault::BadField);
@@ -174,7 +174,7 @@ impl Message {
 
     #[tactic(auto, unfolding(wf_frame::specs::Row::read_row, wf_frame::specs::Row::layout_of))]
     fn read_accepted(body: &[u8]) -> Result<Message, DecodeFault>
-        ensures { ReadsAs view result (read_row kinds 4 body.now) }
+        ensures { ReadsBodyAs view result (read_row kinds 4 body.now) }
     {
         let Some((node, rest)) = split_node(body) else {
             return Err(DecodeFault::BadField);
@@ -190,7 +190,7 @@ impl Message {
 
     #[tactic(auto, unfolding(wf_frame::specs::Row::read_row, wf_frame::specs::Row::layout_of))]
     fn read_nack(body: &[u8]) -> Result<Message, DecodeFault>
-        ensures { ReadsAs view result (read_row kinds 5 body.now) }
+        ensures { ReadsBodyAs view result (read_row kinds 5 body.now) }
     {
         let Some((node, rest)) = split_node(body) else {
             return Err(DecodeFault::BadField);
@@ -209,7 +209,7 @@ impl Message {
 
     #[tactic(auto, unfolding(wf_frame::specs::Row::read_row, wf_frame::specs::Row::layout_of))]
     fn read_chosen(alloc: Global, body: &[u8]) -> Result<Message, DecodeFault>
-        ensures { ReadsAs view result (read_row kinds 6 body.now) }
+        ensures { ReadsBodyAs view result (read_row kinds 6 body.now) }
     {
         let Some((slot, text)) = split_slot(body) else {
             return Err(DecodeFault::BadField);
@@ -220,7 +220,7 @@ impl Message {
 
     #[tactic(auto, unfolding(wf_frame::specs::Row::read_row, wf_frame::specs::Row::layout_of))]
     fn read_ask(body: &[u8]) -> Result<Message, DecodeFault>
-        ensures { ReadsAs view result (read_row kinds 7 body.now) }
+        ensures { ReadsBodyAs view result (read_row kinds 7 body.now) }
     {
         let Some((slot, _)) = split_slot(body) else {
             return Err(DecodeFault::BadField);

@@ -31,7 +31,7 @@ pub use Rattle.wf_node.specs.TapeWrites.{bytes_of}
 pub use Rattle.wf_node.specs.declared.fault.NodeFault.{NodeFault}
 pub use Rattle.wf_tape.specs.MemoryTape.{IsImageNow}
 pub use Rattle.wf_tape.specs.Tape.{IsExtended, IsUnchanged}
-pub use Rattle.wf_delivery.specs.Delivery.{AnyPart, AreChanged, AreDelivered, AreHandedOut, AreNodes, Changed, First, HaveCome, IsDelivered, IsDelivery, IsGiven, IsHanded, IsNodeBy, IsOne, IsReachableByDeliveries, Next, Refines, StandFor, StandInTurn, Unchanged}
+pub use Rattle.wf_delivery.specs.Delivery.{AnyPart, AreChanged, AreDelivered, AreHandedOut, AreNodes, Changed, First, ComeSoFar, IsDelivered, IsDelivery, IsGiven, IsHanded, IsNodeBy, IsOne, IsReachableByDeliveries, Next, Refines, StandFor, StandInTurn, Unchanged}
 unfoldable pub use Rattle.wf_delivery.specs.Delivery.{AreDeliveries, KeepHalted, ReachByDeliveries, MayLeaveOfEach, StandAmong, TakeOne}
 pub use Rattle.wf_delivery.specs.DeliveryTheorems.{each_grows_itself, halted_itself, halted_twice, keeps_turn, keeps_turn_itself, keeps_turn_twice}
 pub use Rattle.wf_delivery.specs.SturdyTheorems.{any_sturdy, still_runs}

@@ -1,7 +1,7 @@
 -- A step of one of the nodes that a caller holds is an event of the world that they are; so is a
 -- delivery, and so are many.
 use Rattle.std.proofs.Common.{◌≡◌, ◌≢◌, ◌⊎◌, ℕ, ◌+◌, ◌≤◌, nat_lt, Bool, true, false, List, [], ◌∷◌, ◌++◌, map, length, slice_get, slice_set, Option, Some, None, Result, Ok, Err, IfOk, IfErr, OnOk, refl, sym, ap, subst, ◌∙◌, inl, inr, arith, length-append, length-set, Vec}
-use Rattle.wf_delivery.proofs.Common.{both_ways, cases_eq, false≢true, nat_tests, append-nil, length-map, map-append, same_Some, Ballot, Message, Definition, definition_eq, IsBeginning, DurableState, Record, published, with_record, Action, Input, StepRejection, most_reports, store, World, Event, Turn, deliver, Torn, Before, After, input_of, turn_of, turn, stored_after, kept_part, after_turn, after_torn, with_node, happens, steps, IsGrown, grown_itself, transition_grown, same_grown, EachStandsFor, Node, stored_of, volatile_of, transition_of, step_rejection_at, IsTransition, IsSameNode, bytes_of, NodeFault, IsExtended, IsUnchanged, PumpProgress, Answers, MayBeLost, Takes, is_halt, is_memory, reports_halt, AnyPart, StandFor, IsNodeBy, AreNodes, Refines, StandAmong, StandInTurn, MayLeaveOfEach, IsDelivery, AreDeliveries, IsReachableByDeliveries, ReachByDeliveries, TakeOne, KeepHalted, IsOne, IsGiven, IsHanded, First, Next, AreHandedOut, HaveCome, IsDelivered, AreCounted, counted, next, still_runs, halted_itself, halted_twice, keeps_turn, keeps_turn_itself, keeps_turn_twice, get_set_same, get_set_other, set_there, AreChanged, Changed, Unchanged}
+use Rattle.wf_delivery.proofs.Common.{both_ways, cases_eq, false≢true, nat_tests, append-nil, length-map, map-append, same_Some, Ballot, Message, Definition, definition_eq, IsBeginning, DurableState, Record, published, with_record, Action, Input, StepRejection, most_reports, store, World, Event, Turn, deliver, Torn, Before, After, input_of, turn_of, turn, stored_after, kept_part, after_turn, after_torn, with_node, happens, steps, IsGrown, grown_itself, transition_grown, same_grown, EachStandsFor, Node, stored_of, volatile_of, transition_of, step_rejection_at, IsTransition, IsSameNode, bytes_of, NodeFault, IsExtended, IsUnchanged, PumpProgress, Answers, MayBeLost, Takes, is_halt, is_memory, reports_halt, AnyPart, StandFor, IsNodeBy, AreNodes, Refines, StandAmong, StandInTurn, MayLeaveOfEach, IsDelivery, AreDeliveries, IsReachableByDeliveries, ReachByDeliveries, TakeOne, KeepHalted, IsOne, IsGiven, IsHanded, First, Next, AreHandedOut, ComeSoFar, IsDelivered, AreCounted, counted, next, still_runs, halted_itself, halted_twice, keeps_turn, keeps_turn_itself, keeps_turn_twice, get_set_same, get_set_other, set_there, AreChanged, Changed, Unchanged}
 use Rattle.wf_codec.specs.Message as message
 use Rattle.wf_model.specs.Fits.{TransitionsAreShort}
 use Rattle.wf_model.specs.DurableState as part
@@ -446,7 +446,7 @@ left_before tapes nodes after left keeps may = λ i node at halted. may i node (
 
 module _ {T : Type 0} (tapes : Tape T) (nodes : List (Node T)) (messages : List Message) where
   -- Nothing is delivered yet.
-  pub come_start : HaveCome tapes nodes messages (record { whole = 0; some = 0; done = 0 }) 0 nodes messages
+  pub come_start : ComeSoFar tapes nodes messages (record { whole = 0; some = 0; done = 0 }) 0 nodes messages
   come_start = record {
     any = reaches_nowhere AnyPart nodes messages;
     on_tape = λ h left may. reaches_nowhere (StandFor left) nodes messages;
@@ -457,8 +457,8 @@ module _ {T : Type 0} (tapes : Tape T) (nodes : List (Node T)) (messages : List 
 
   module _ (p : PumpProgress) (lost : ℕ) (loses : Bool) (middle after : List (Node T)) (outputs more : List Message) where
     -- One more delivery.
-    pub come_on : HaveCome tapes nodes messages p lost middle outputs → IsOne tapes middle outputs after more → IsHanded tapes p.some p.whole loses middle outputs after more →
-        HaveCome tapes nodes messages (next (length nodes) p) (counted lost loses) after more
+    pub come_on : ComeSoFar tapes nodes messages p lost middle outputs → IsOne tapes middle outputs after more → IsHanded tapes p.some p.whole loses middle outputs after more →
+        ComeSoFar tapes nodes messages (next (length nodes) p) (counted lost loses) after more
     come_on come one handed = record {
       any = subst (λ d. ReachByDeliveries AnyPart d nodes messages after more) (sym (done_on (length nodes) p)) (reaches_on AnyPart p.done nodes middle after messages outputs more come.any one.any);
       on_tape = λ h left left_after.
@@ -470,7 +470,7 @@ module _ {T : Type 0} (tapes : Tape T) (nodes : List (Node T)) (messages : List 
     }
 
   -- The deliveries lead to what they left, and were made in this order.
-  module _ (p : PumpProgress) (lost : ℕ) (after : List (Node T)) (more : List Message) (come : HaveCome tapes nodes messages p lost after more) (counts : AreCounted (length nodes) 0 p lost (length more)) where
+  module _ (p : PumpProgress) (lost : ℕ) (after : List (Node T)) (more : List Message) (come : ComeSoFar tapes nodes messages p lost after more) (counts : AreCounted (length nodes) 0 p lost (length more)) where
     pub come_done : IsDelivered tapes nodes messages p.done after
     come_done = record {
       any = record { sent = more; reach = come.any };

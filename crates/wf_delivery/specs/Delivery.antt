@@ -177,7 +177,7 @@ module _ {T : Type 0} (tapes : Tape T) where
   IsGiven i k lost nodes sent nodes_after sent_after = IsOne tapes nodes sent nodes_after sent_after × IsHanded tapes i k lost nodes sent nodes_after sent_after
 
   -- for the crate's own contracts: the deliveries have come this far
-  pub record HaveCome (nodes : List (Node T)) (messages : List Message) (p : PumpProgress) (lost : ℕ) (nodes_after : List (Node T)) (sent : List Message) : Type 0 where
+  pub record ComeSoFar (nodes : List (Node T)) (messages : List Message) (p : PumpProgress) (lost : ℕ) (nodes_after : List (Node T)) (sent : List Message) : Type 0 where
     pub any : ReachByDeliveries AnyPart p.done nodes messages nodes_after sent
     pub on_tape : tapes.durable → (left : ℕ → List ℕ) → MayLeaveOfEach tapes nodes_after left → ReachByDeliveries (StandFor left) p.done nodes messages nodes_after sent
     pub halted : KeepHalted nodes nodes_after

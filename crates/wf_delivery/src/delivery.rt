@@ -5,7 +5,7 @@ ghost use Rattle.wf_codec.specs.Message.{view as view_message};
 ghost use Rattle.wf_model.specs.Table.{most_reports, Deliver};
 ghost use Rattle.wf_node.specs.Input.{view};
 ghost use Rattle.wf_node.specs.Step.{TakesMemory};
-ghost use Rattle.wf_delivery.specs.Delivery.{AnyPart, AreChanged, AreDelivered, AreHandedOut, EachGrows, HaveCome, IsDelivered, IsGiven, KeepHalted, MayLeaveOfEach, StandFor, StandInTurn};
+ghost use Rattle.wf_delivery.specs.Delivery.{AnyPart, AreChanged, AreDelivered, AreHandedOut, EachGrows, ComeSoFar, IsDelivered, IsGiven, KeepHalted, MayLeaveOfEach, StandFor, StandInTurn};
 ghost use Rattle.wf_delivery.specs.NodeInput.{Answers, IsCutWithin, IsSturdy, MayBeLost, Takes, is_halt, is_memory, reports_halt};
 ghost use Rattle.wf_delivery.specs.Progress.{AreCounted, most_deliveries};
 
@@ -107,7 +107,7 @@ fn deliver_rounds<E: Recipient<T>, T: Tape>(
 ) -> Delivered
     requires some { 0 < length entries.old }
     requires in_turn { StandInTurn (E.nodes entries.old) }
-    ensures come { HaveCome T.Tape (E.nodes entries.old) sent.old.items result.progress result.lost
+    ensures come { ComeSoFar T.Tape (E.nodes entries.old) sent.old.items result.progress result.lost
         (E.nodes entries.new) sent.new.items }
     ensures counts { AreCounted (length entries.old) 0 result.progress result.lost
         (length sent.new.items) }

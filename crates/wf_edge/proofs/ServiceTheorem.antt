@@ -18,7 +18,7 @@ use Rattle.wf_edge.specs.Page.{service_page, IsServicePage, IsServiceGiven}
 use Rattle.wf_http.specs.Front.{IsHeadError}
 use Rattle.wf_edge.specs.Request.{Request, IsRejected, by_head, by_check, by_body, body_bytes}
 use Rattle.wf_http.specs.Response.{Response, response_bytes}
-use Rattle.wf_edge.specs.RequestEffect.{HasRequest, Gives, GivesTo, Responds}
+use Rattle.wf_edge.specs.RequestEffect.{HasRequest, GivesReply, GivesTo, Responds}
 use Rattle.wf_http.specs.Target.{query_of}
 use Rattle.wf_http.specs.declared.fault.RequestFault.{RequestFault}
 use Rattle.wf_http.specs.declared.fault.RequestFault.TheVariants as fault
@@ -119,7 +119,7 @@ module _ (input query : List ℕ) (service : AsksMapService input query) where
 
   module _ {T A : Type 0} (tapes : Tape T) where
     page_arrived : (arrived : Result Request RequestFault) (before after : Node T) (sent : Vec Message A) (answer : Result Response ErrorResponse) (response : Response)
-        → HasRequest input arrived → Gives tapes arrived before answer sent after → response ≡ response_of answer → response.status ≢ 503
+        → HasRequest input arrived → GivesReply tapes arrived before answer sent after → response ≡ response_of answer → response.status ≢ 503
         → IsServicePage before.parts.history query response
     page_arrived (Ok arrived) before after sent answer response asks given is calm =
         let same : service.request.head ≡ arrived.head = one_head input service.begins.rest asks.rest service.request.head arrived.head service.begins.head asks.head in

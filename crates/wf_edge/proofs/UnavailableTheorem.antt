@@ -17,7 +17,7 @@ use Rattle.wf_node.specs.declared.fault.NodeFault.TheVariants as node
 use Rattle.wf_edge.specs.ErrorResponse.{error_of_result, http_error_status, response_of, status_of}
 use Rattle.wf_edge.specs.Page.{accepted_page, bad_map_page, status_at, status_page}
 use Rattle.wf_edge.specs.Publish.{IsPublished}
-use Rattle.wf_edge.specs.RequestEffect.{HasRequest, Gives, GivesTo, ReportsPublish}
+use Rattle.wf_edge.specs.RequestEffect.{HasRequest, GivesReply, GivesTo, ReportsPublish}
 use Rattle.wf_edge.specs.Unavailable.{MayBeUnavailable, OnlyTheseAreUnavailable, BeginsWithPublish, by_body, by_map, by_service, by_step}
 use Rattle.wf_edge.specs.declared.error_response.ErrorResponse.{ErrorResponse}
 use Rattle.wf_edge.specs.declared.error_response.ErrorResponse.TheVariants as error_response
@@ -90,7 +90,7 @@ module _ {T : Type 0} (A : Type 0) (tapes : Tape T) (input : List ℕ) (before a
 
   -- a request, or that there is none
   of_arrived : (arrived : Result Request RequestFault) (answer : Result Response ErrorResponse) (sent : Vec Message A) → HasRequest input arrived
-      → Gives tapes arrived before answer sent after → (response_of answer).status ≡ 503 → Allowed
+      → GivesReply tapes arrived before answer sent after → (response_of answer).status ≡ 503 → Allowed
   of_arrived (Ok request) answer sent asks given unavailable = of_request request.asked request answer sent refl asks given unavailable
   of_arrived (Err (fault.Rejected r)) answer sent asks given unavailable = no_rejection r (status_is answer (Err (error_response.Rejected r)) given.0 unavailable)
   of_arrived (Err fault.Memory) answer sent asks given unavailable = by_body asks

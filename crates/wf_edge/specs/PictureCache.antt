@@ -5,7 +5,7 @@ use Rattle.wf_def.specs.Definition.{Definition}
 use Rattle.wf_edge.specs.ResponseEnd.{Completes}
 use Rattle.wf_edge.specs.ErrorResponse.{response_of}
 use Rattle.wf_edge.specs.Request.{Request}
-use Rattle.wf_edge.specs.RequestEffect.{Answers}
+use Rattle.wf_edge.specs.RequestEffect.{AnswersRequest}
 use Rattle.wf_edge.specs.declared.error_response.ErrorResponse.{ErrorResponse}
 use Rattle.wf_edge.specs.declared.outcome.Outcome.{Outcome}
 use Rattle.wf_edge.specs.declared.resource.RequestedResource.{RequestedResource}
@@ -23,24 +23,24 @@ module _ {P : Type 0} (changes : List Definition → List ℕ → P → P → Ty
   ChangesFor history query (Err error_response) old new = new ≡ old
 
   -- only a query to the map service needs them
-  abbrev pub Changes : RequestedResource → List Definition → List ℕ → Result Response ErrorResponse → P → P → Type 0
-  Changes asked.Wms history query answer old new = ChangesFor history query answer old new
-  Changes asked.Status history query answer old new = new ≡ old
-  Changes (asked.Publish bytes) history query answer old new = new ≡ old
+  abbrev pub ChangesPictures : RequestedResource → List Definition → List ℕ → Result Response ErrorResponse → P → P → Type 0
+  ChangesPictures asked.Wms history query answer old new = ChangesFor history query answer old new
+  ChangesPictures asked.Status history query answer old new = new ≡ old
+  ChangesPictures (asked.Publish bytes) history query answer old new = new ≡ old
 
   -- A request that only reads was answered from a list of published maps and a status, and its
   -- response written: that is the change.
   pub record IsReadBy {K : Type 0} (sinks : Sink K) (request : Request) (history : List Definition) (status : Status) (sink sink_after : K) (old new : P) (completion : Outcome) : Type 0 where
     pub answer : Result Response ErrorResponse
-    pub answers : Answers request.asked (query_of request.head.target) history status answer
+    pub answers : AnswersRequest request.asked (query_of request.head.target) history status answer
     pub completes : Completes sinks (response_of answer) sink sink_after completion
-    pub changed : Changes request.asked history (query_of request.head.target) answer old new
+    pub changed : ChangesPictures request.asked history (query_of request.head.target) answer old new
 
   -- a request changes nothing, or it is one query to the map service
   abbrev pub ChangesOnce : List Definition → P → P → Type 0
   ChangesOnce history old new = (new ≡ old) ⊎ ((query : List ℕ) × changes history query old new)
 
-  changed_once : (kind : RequestedResource) (history : List Definition) (query : List ℕ) (answer : Result Response ErrorResponse) (old new : P) → Changes kind history query answer old new →
+  changed_once : (kind : RequestedResource) (history : List Definition) (query : List ℕ) (answer : Result Response ErrorResponse) (old new : P) → ChangesPictures kind history query answer old new →
       ChangesOnce history old new
   changed_once asked.Wms history query (Ok page) old new changed = inr (query, changed)
   changed_once asked.Wms history query (Err error_response) old new changed = inl changed

@@ -52,10 +52,10 @@ IsPublish (asked.Publish bytes) = Unit {0}
 
 -- the answer to a request that only reads, by what it asks for and its query, from a list of
 -- published maps and a status
-abbrev pub Answers : RequestedResource → List ℕ → List Definition → Status → Result Response ErrorResponse → Type 0
-Answers asked.Wms query history status answer = IsServiceGiven history query answer
-Answers asked.Status query history status answer = answer ≡ Ok (status_page status)
-Answers (asked.Publish bytes) query history status answer = ⊥
+abbrev pub AnswersRequest : RequestedResource → List ℕ → List Definition → Status → Result Response ErrorResponse → Type 0
+AnswersRequest asked.Wms query history status answer = IsServiceGiven history query answer
+AnswersRequest asked.Status query history status answer = answer ≡ Ok (status_page status)
+AnswersRequest (asked.Publish bytes) query history status answer = ⊥
 
 -- the node is unchanged, and sends nothing
 pub record IsUnmoved {T A : Type 0} (before : Node T) (sent : Vec Message A) (after : Node T) : Type 0 where
@@ -76,7 +76,7 @@ HandsOut (Err why) sent = sent.items ≡ []
 -- response written.
 pub record IsReadAnswered {K : Type 0} (sinks : Sink K) (request : Request) (history : List Definition) (status : Status) (old new : K) (completion : Outcome) : Type 0 where
   pub answer : Result Response ErrorResponse
-  pub answers : Answers request.asked (query_of request.head.target) history status answer
+  pub answers : AnswersRequest request.asked (query_of request.head.target) history status answer
   pub completes : Completes sinks (response_of answer) old new completion
 
 module _ {T A : Type 0} (tapes : Tape T) where
@@ -95,19 +95,19 @@ module _ {T A : Type 0} (tapes : Tape T) where
 
   -- the reply to what was read: a rejection and allocation failure are reported, and leave the node
   -- unchanged
-  abbrev pub Gives : Result Request RequestFault → Node T → Result Response ErrorResponse → Vec Message A → Node T → Type 0
-  Gives (Ok request) before answer sent after = GivesTo request.asked request before answer sent after
-  Gives (Err (fault.Rejected r)) before answer sent after = (answer ≡ Err (error_response.Rejected r)) × IsUnmoved before sent after
-  Gives (Err fault.Memory) before answer sent after = (answer ≡ Err error_response.Unavailable) × IsUnmoved before sent after
-  Gives (Err fault.NoRequest) before answer sent after = ⊥
-  Gives (Err fault.ReadFailed) before answer sent after = ⊥
+  abbrev pub GivesReply : Result Request RequestFault → Node T → Result Response ErrorResponse → Vec Message A → Node T → Type 0
+  GivesReply (Ok request) before answer sent after = GivesTo request.asked request before answer sent after
+  GivesReply (Err (fault.Rejected r)) before answer sent after = (answer ≡ Err (error_response.Rejected r)) × IsUnmoved before sent after
+  GivesReply (Err fault.Memory) before answer sent after = (answer ≡ Err error_response.Unavailable) × IsUnmoved before sent after
+  GivesReply (Err fault.NoRequest) before answer sent after = ⊥
+  GivesReply (Err fault.ReadFailed) before answer sent after = ⊥
 
   -- A response to the input, with its effect on the node and the messages that the node sends.
   pub record Responds (input : Option (List ℕ)) (before : Node T) (response : Response) (sent : Vec Message A) (after : Node T) : Type 0 where
     pub arrived : Result Request RequestFault
     pub asks : IfSome input (λ bytes. HasRequest bytes arrived)
     pub answer : Result Response ErrorResponse
-    pub gives : Gives arrived before answer sent after
+    pub gives : GivesReply arrived before answer sent after
     pub is : response ≡ response_of answer
 
   -- ---- what one request may do to a node, whether or not the input is known

@@ -13,7 +13,7 @@ use Rattle.wf_edge.specs.Page.{status_at}
 use Rattle.wf_edge.specs.Publish.{IsPublished}
 use Rattle.wf_edge.specs.Completion.{IsCompleted, IsErrorCompleted, CountsCompleting}
 use Rattle.wf_edge.specs.Receipt.{CountsReceiving}
-use Rattle.wf_edge.specs.RequestEffect.{Answers, HasRequest, IsPublish, IsReadAnswered, ReportsPublish, GivesPublish, GivesTo, Gives, IsServed, MovesOnce, Stays, Proposes, IsOutcome}
+use Rattle.wf_edge.specs.RequestEffect.{AnswersRequest, HasRequest, IsPublish, IsReadAnswered, ReportsPublish, GivesPublish, GivesTo, GivesReply, IsServed, MovesOnce, Stays, Proposes, IsOutcome}
 use Rattle.wf_http.specs.declared.fault.RequestFault.{RequestFault}
 use Rattle.wf_http.specs.declared.fault.RequestFault.TheVariants as fault
 use Rattle.wf_edge.specs.declared.error_response.ErrorResponse.{ErrorResponse}
@@ -59,7 +59,7 @@ module _ {T A : Type 0} (tapes : Tape T) where
 
   -- a response that is written is the outcome
   completion_outcome : (input old new : Option (List ℕ)) (arrived : Result Request RequestFault) (before after : Node T) (answer : Result Response ErrorResponse)
-      (sent : Vec Message A) (completion : Outcome) → IfSome input (λ bytes. HasRequest bytes arrived) → Gives tapes arrived before answer sent after
+      (sent : Vec Message A) (completion : Outcome) → IfSome input (λ bytes. HasRequest bytes arrived) → GivesReply tapes arrived before answer sent after
       → IsCompleted (response_of answer) old new completion → IsOutcome tapes input old new before sent after completion
   completion_outcome input old new arrived before after answer sent (outcome.Sent status count) asks given written = record {
     response = response_of answer;
@@ -103,7 +103,7 @@ module _ {T A : Type 0} (tapes : Tape T) where
     }
 
     answer_given : (kind : RequestedResource) (request : Request) (old new : K) (node : Node T) (answer : Result Response ErrorResponse)
-        (completion : Outcome) → kind ≡ request.asked → Answers kind (query_of request.head.target) node.parts.history (status_at node) answer
+        (completion : Outcome) → kind ≡ request.asked → AnswersRequest kind (query_of request.head.target) node.parts.history (status_at node) answer
         → Completes sinks (response_of answer) old new completion
         → (sent : Vec Message A) → sent.items ≡ [] → IsServed tapes sinks request old new node sent node completion
     answer_given asked.Wms request old new node answer completion is answers completes sent quiet =
@@ -119,7 +119,7 @@ module _ {T A : Type 0} (tapes : Tape T) where
         → (sent : Vec Message A) → sent.items ≡ [] → IsServed tapes sinks request old new node sent node completion
     read_served request old new node history status completion same is read =
         answer_given request.asked request old new node read.answer completion refl
-        (subst₂ (λ (h : List Definition) (s : Status). Answers request.asked (query_of request.head.target) h s read.answer) same is read.answers) read.completes
+        (subst₂ (λ (h : List Definition) (s : Status). AnswersRequest request.asked (query_of request.head.target) h s read.answer) same is read.answers) read.completes
 
     -- a publish was answered, and the response written
     pub publish_served : (kind : RequestedResource) (request : Request) (old new : K) (before after : Node T) (answer : Result Response ErrorResponse)

@@ -10,7 +10,7 @@ use Rattle.wf_http.specs.Front.{CountsReads}
 use Rattle.wf_http.specs.Response.{Response}
 use Rattle.wf_edge.specs.ReceiptTheorems.{fault_reads}
 use Rattle.wf_edge.specs.Completion.{CountsCompleting, IsErrorCompleted}
-use Rattle.wf_edge.specs.RequestEffect.{HasRequest, Gives, IsEnding, IsServed, Serves}
+use Rattle.wf_edge.specs.RequestEffect.{HasRequest, GivesReply, IsEnding, IsServed, Serves}
 use Rattle.wf_edge.specs.RequestEffectTheorems.{fault_outcome, served_moves, served_outcome, served_reads, served_writes, unmoved_moves}
 use Rattle.wf_http.specs.declared.fault.RequestFault.{RequestFault}
 use Rattle.wf_http.specs.declared.fault.RequestFault.TheVariants as fault
@@ -25,7 +25,7 @@ use Rattle.wf_tape.specs.declared.tape.Tape.{Ghosts as Tape}
 module _ {K : Type 0} (sinks : Sink K) where
   module _ {T A : Type 0} (tapes : Tape T) where
     completion_ending : (input : Option (List ℕ)) (old new : K) (arrived : Result Request RequestFault) (before after : Node T) (answer : Result Response ErrorResponse)
-        (sent : Vec Message A) (completion : Outcome) → IfSome input (λ bytes. HasRequest bytes arrived) → Gives tapes arrived before answer sent after
+        (sent : Vec Message A) (completion : Outcome) → IfSome input (λ bytes. HasRequest bytes arrived) → GivesReply tapes arrived before answer sent after
         → IsEnded sinks (response_of answer) old new completion
         → IsEnding tapes sinks input old new before sent after completion
     completion_ending input old new arrived before after answer sent (outcome.Sent status count) asks given ended = ended

@@ -1,11 +1,11 @@
 //! Answers that leave a node as it is.
 ghost use Rattle.std.specs.Prelude.{◌≡◌};
 ghost use Rattle.wf_http.specs.Target.{query_of};
-ghost use Rattle.wf_edge.specs.PictureCache.{Changes, IsReadBy};
+ghost use Rattle.wf_edge.specs.PictureCache.{ChangesPictures, IsReadBy};
 ghost use Rattle.wf_edge.specs.ResponseEnd.{Completes};
 ghost use Rattle.wf_edge.specs.ErrorResponse.{response_of};
 ghost use Rattle.wf_edge.specs.Page.{service_page, status_at, status_page, accepted_page, bad_map_page};
-ghost use Rattle.wf_edge.specs.RequestEffect.{Answers, IsReadAnswered, IsReading};
+ghost use Rattle.wf_edge.specs.RequestEffect.{AnswersRequest, IsReadAnswered, IsReading};
 
 use crate::completion::write_response;
 use crate::error_report::respond_to_error;
@@ -64,9 +64,9 @@ fn page_for<P: Pictures>(
 ) -> Result<Page, ErrorResponse>
     requires reads { IsReading request.now.asked }
     requires cached { P.cached pictures.old history.now.definitions }
-    ensures answers { Answers request.now.asked (query_of request.now.head.target)
+    ensures answers { AnswersRequest request.now.asked (query_of request.now.head.target)
         history.now.definitions status result }
-    ensures changed { Changes P.changes request.now.asked history.now.definitions
+    ensures changed { ChangesPictures P.changes request.now.asked history.now.definitions
         (query_of request.now.head.target) result pictures.old pictures.new }
     ensures cached { P.cached pictures.new history.now.definitions }
     ensures capacity { P.capacity pictures.new ≡ P.capacity pictures.old }

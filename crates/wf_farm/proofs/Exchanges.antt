@@ -2,7 +2,7 @@
 -- nodes.
 use Rattle.std.proofs.Common.{◌≡◌, ℕ, zero, suc, ◌∷◌, slice_index_or, ◌≤◌, Bool, false, List, [], length-set, slice_get, slice_set, Some, refl, sym, ap, subst, ◌∙◌, arith, Vec}
 use Rattle.wf_farm.proofs.Common.{Global, none-some, same_Some, Message, Definition, Input, Node, NodeHost, Running, Stopped, StandAmong, IsAskedByClient, IsReadyFor, IsSturdy, ReachabilityGoesOn, IsSoundFarm, Takes, AreReachableFrom, AreReachableSending, KeepEntries, KeepsEntry, nodes_of, set_there, keep_set, length-nodes, nodes_get, nodes_set}
-use Rattle.wf_farm.specs.Hosts.{AreMembers}
+use Rattle.wf_farm.specs.Hosts.{AreAtTheirIndex}
 use Rattle.wf_delivery.proofs.Deliveries.{stays_itself}
 use Rattle.wf_farm.proofs.Nodes.{in_turn_of, member_of, reached_reachable, running_stopped, set_members}
 use Rattle.wf_tape.specs.declared.tape.Tape.{Ghosts as Tape}
@@ -47,7 +47,7 @@ asked_as tapes asks hosts i client next before after outputs at is = record {
 }
 
 module _ {T : Type 0} (tapes : Tape T) (hosts : List (NodeHost T)) (i : ℕ) (before after : Node T) (outputs : List Message) (at : slice_get hosts i ≡ Some (Running before))
-    (members : AreMembers tapes.durable tapes.images tapes.never_fails hosts) (reaches : ReachabilityGoesOn tapes before outputs after) where
+    (members : AreAtTheirIndex tapes.durable tapes.images tapes.never_fails hosts) (reaches : ReachabilityGoesOn tapes before outputs after) where
   -- The nodes are led on, and these messages were sent.
   pub asked_reaches : AreReachableSending tapes (nodes_of hosts) outputs (nodes_of (slice_set hosts i (Running after)))
   unfolding ReachabilityGoesOn

@@ -5,7 +5,7 @@ use Rattle.wf_farm.proofs.Common.{both_ways, cases_eq, false≢true, append-nil,
 use Rattle.wf_codec.specs.Message as message
 use Rattle.wf_model.specs.World as world
 use Rattle.wf_delivery.specs.Delivery as delivering
-use Rattle.wf_farm.specs.Hosts.{IsHostNode, AreNodes, IsMember, AreMembers}
+use Rattle.wf_farm.specs.Hosts.{IsHostNode, AreNodes, IsMember, AreAtTheirIndex}
 use Rattle.wf_farm.proofs.Entries.{all_nodes, as_many, node_at}
 use Rattle.wf_delivery.proofs.Stored.{one_stand}
 use Rattle.wf_tape.specs.declared.tape.Tape.{Ghosts as Tape}
@@ -18,8 +18,8 @@ module _ {T : Type 0} (durable : Type 0) (images : T → List ℕ → Type 0) (n
   turn_by n i (Stopped tape) is = (refl, refl)
 
   -- members are in turn
-  pub in_turn_of : (hosts : List (NodeHost T)) → AreMembers durable images never_fails hosts → StandInTurn (nodes_of hosts)
-  unfolding StandAmong AreMembers
+  pub in_turn_of : (hosts : List (NodeHost T)) → AreAtTheirIndex durable images never_fails hosts → StandInTurn (nodes_of hosts)
+  unfolding StandAmong AreAtTheirIndex
   in_turn_of hosts are = λ i node at.
       let back = nodes_back hosts i node at in
       let turn = turn_by (length hosts) i back.0 (are i back.0 back.1) in
@@ -30,16 +30,16 @@ module _ {T : Type 0} (durable : Type 0) (images : T → List ℕ → Type 0) (n
   outside_member outside n i (Stopped tape) turn = λ h. absurd (outside h)
 
   -- nodes in turn are members, where the tapes aren't known to be durable
-  pub outside_members : (durable → ⊥) → (hosts : List (NodeHost T)) → StandInTurn (nodes_of hosts) → AreMembers durable images never_fails hosts
-  unfolding StandAmong AreMembers
+  pub outside_members : (durable → ⊥) → (hosts : List (NodeHost T)) → StandInTurn (nodes_of hosts) → AreAtTheirIndex durable images never_fails hosts
+  unfolding StandAmong AreAtTheirIndex
   outside_members outside hosts turns = λ i host at.
       let turn = turns i (node_in (length hosts) i host) (nodes_get hosts i host at) in
       outside_member outside (length hosts) i host (turn.0, turn.1 ∙ length-nodes hosts)
 
   -- A member that replaces one.
   pub set_members : (hosts : List (NodeHost T)) (i : ℕ) (host next : NodeHost T) → slice_get hosts i ≡ Some host → IsMember durable images never_fails (length hosts) i next →
-      AreMembers durable images never_fails hosts → AreMembers durable images never_fails (slice_set hosts i next)
-  unfolding AreMembers
+      AreAtTheirIndex durable images never_fails hosts → AreAtTheirIndex durable images never_fails (slice_set hosts i next)
+  unfolding AreAtTheirIndex
   set_members hosts i host next at is are = λ j p e. subst (λ n. IsMember durable images never_fails n j p) (sym (length-set hosts i next)) (elim (cases_eq j i) [
     | inl same ↦ subst (λ k. IsMember durable images never_fails (length hosts) k p) (sym same)
         (subst (λ q. IsMember durable images never_fails (length hosts) i q) (get_set_same hosts i next host p at (subst (λ k. slice_get (slice_set hosts i next) k ≡ Some p) same e)) is)
@@ -47,8 +47,8 @@ module _ {T : Type 0} (durable : Type 0) (images : T → List ℕ → Type 0) (n
   ])
 
   -- The member at an index.
-  pub member_of : (hosts : List (NodeHost T)) (i : ℕ) (host : NodeHost T) → slice_get hosts i ≡ Some host → AreMembers durable images never_fails hosts → IsMember durable images never_fails (length hosts) i host
-  unfolding AreMembers
+  pub member_of : (hosts : List (NodeHost T)) (i : ℕ) (host : NodeHost T) → slice_get hosts i ≡ Some host → AreAtTheirIndex durable images never_fails hosts → IsMember durable images never_fails (length hosts) i host
+  unfolding AreAtTheirIndex
   member_of hosts i host at are = are i host at
 
 -- ---- entries that may have changed
@@ -118,7 +118,7 @@ module _ {T : Type 0} (durable : Type 0) (images : T → List ℕ → Type 0) (n
   any_node n i (Stopped tape) shown member h is = (is.0, (shown.stored.history, refl), tt)
 
   -- Its nodes are reached.
-  pub reached_any : (hosts : List (NodeHost T)) (sent : List Message) (complete : Bool) → AreMembers durable images never_fails hosts → durable → IsReachable images complete hosts sent → AreReachable AnyPart (nodes_of hosts)
+  pub reached_any : (hosts : List (NodeHost T)) (sent : List Message) (complete : Bool) → AreAtTheirIndex durable images never_fails hosts → durable → IsReachable images complete hosts sent → AreReachable AnyPart (nodes_of hosts)
   reached_any hosts sent complete members h reached =
       let w = after definition_eq (length hosts) reached.events in
       record {
@@ -139,7 +139,7 @@ module _ {T : Type 0} (durable : Type 0) (images : T → List ℕ → Type 0) (n
 -- ---- a farm over durable tapes is led on from where it was reached
 
 module _ {T : Type 0} (tapes : Tape T) (durable : tapes.durable) (hosts next : List (NodeHost T)) (keep : KeepHosts hosts next) (long : length next ≡ length hosts)
-    (members : AreMembers tapes.durable tapes.images tapes.never_fails hosts) (next_members : AreMembers tapes.durable tapes.images tapes.never_fails next) where
+    (members : AreAtTheirIndex tapes.durable tapes.images tapes.never_fails hosts) (next_members : AreAtTheirIndex tapes.durable tapes.images tapes.never_fails next) where
   -- what a crash may leave of each stopped node's tape
   left_by : (i : ℕ) (there : Option (NodeHost T)) → slice_get next i ≡ there → List ℕ
   left_by i None e = []

@@ -137,16 +137,16 @@ its_member : (n i : ℕ) (host : MemoryHost) → IsHostOf n i host → NeverFail
 its_member n i (Running node) is never = (is.0, is.1, λ durable. (is.2, never))
 its_member n i (Stopped kept) is never = λ durable. (never, (kept.bytes, content_is_image kept))
 
-pub members_of : (hosts : List MemoryHost) → entries.AreMembers (Unit {0}) IsImageNow NeverFails hosts → AreSoundHosts hosts
-unfolding AreSoundHosts entries.AreMembers
+pub members_of : (hosts : List MemoryHost) → entries.AreAtTheirIndex (Unit {0}) IsImageNow NeverFails hosts → AreSoundHosts hosts
+unfolding AreSoundHosts entries.AreAtTheirIndex
 members_of hosts are = λ i host at. one_member (length hosts) i host (are i host at)
 
-pub sturdy_of : (hosts : List MemoryHost) → entries.AreMembers (Unit {0}) IsImageNow NeverFails hosts → FailsOnly None hosts
-unfolding FailsOnly entries.AreMembers
+pub sturdy_of : (hosts : List MemoryHost) → entries.AreAtTheirIndex (Unit {0}) IsImageNow NeverFails hosts → FailsOnly None hosts
+unfolding FailsOnly entries.AreAtTheirIndex
 sturdy_of hosts are = λ i host at other. its_tape (length hosts) i host (are i host at)
 
-as_members : (hosts : List MemoryHost) → AreSoundHosts hosts → FailsOnly None hosts → entries.AreMembers (Unit {0}) IsImageNow NeverFails hosts
-unfolding AreSoundHosts FailsOnly entries.AreMembers
+as_members : (hosts : List MemoryHost) → AreSoundHosts hosts → FailsOnly None hosts → entries.AreAtTheirIndex (Unit {0}) IsImageNow NeverFails hosts
+unfolding AreSoundHosts FailsOnly entries.AreAtTheirIndex
 as_members hosts are sturdy = λ i host at. its_member (length hosts) i host (are i host at) (sturdy i host at (λ is. none-some i is))
 
 -- A farm after a run is a farm, if no tape of it fails.

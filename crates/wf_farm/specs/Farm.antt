@@ -10,7 +10,7 @@ use Rattle.wf_farm.specs.declared.fault.FarmFault.TheVariants.{Memory, NoNode, C
 use Rattle.wf_farm.specs.Cluster as cluster
 use Rattle.wf_farm.specs.Cluster.{Moves}
 use Rattle.wf_farm.specs.NodeHost.{MemoryHost}
-use Rattle.wf_farm.specs.Hosts.{AreNodes, AreMembers}
+use Rattle.wf_farm.specs.Hosts.{AreNodes, AreAtTheirIndex}
 
 -- Its nodes' entries and the messages sent; the number of the first message not pumped yet; the
 -- rejection of the last run's last event, if it was rejected; and whether these are all messages
@@ -54,7 +54,7 @@ pub record IsReachable {T : Type 0} (images : T → List ℕ → Type 0) (comple
 pub record IsSoundFarm {T : Type 0} (durable : Type 0) (images : T → List ℕ → Type 0) (never_fails : T → Type 0) (hosts : List (NodeHost T)) (sent : List Message) (pumped : ℕ) (complete : Bool) : Type 0 where
   pub some : 1 ≤ length hosts
   pub most : length hosts ≤ 64
-  pub members : AreMembers durable images never_fails hosts
+  pub members : AreAtTheirIndex durable images never_fails hosts
   pub pumped_within : pumped ≤ length sent
   pub reached : durable → IsReachable images complete hosts sent
 

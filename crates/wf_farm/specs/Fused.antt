@@ -20,23 +20,23 @@ use Rattle.wf_delivery.specs.Rounds.{deliveries}
 -- ---- the events of such a run
 
 -- a step of a node
-pub record Step : Type 0 where
+pub record FusedStep : Type 0 where
   pub node : ℕ
   pub action : Action Definition ℕ
 
 -- the step of an event, also of one that is a crash within a step; a stop and a restart are none
-unfoldable pub step_of : Event Definition → Option Step
+unfoldable pub step_of : Event Definition → Option FusedStep
 step_of (world.Act i action) = Some (record { node = i; action = action })
 step_of (world.Stop i) = None
 step_of (world.Restart i) = None
 step_of (world.Torn i action kept) = Some (record { node = i; action = action })
 
 -- the node crashes within the step, and restarts
-abbrev pub crash_within : world.Kept → Step → List (Event Definition)
+abbrev pub crash_within : world.Kept → FusedStep → List (Event Definition)
 crash_within kept step = world.Torn step.node step.action kept ∷ world.Restart step.node ∷ []
 
 -- the same, if there is a step, and in place of an event
-abbrev pub crash_if : world.Kept → Option Step → List (Event Definition)
+abbrev pub crash_if : world.Kept → Option FusedStep → List (Event Definition)
 crash_if kept None = []
 crash_if kept (Some step) = crash_within kept step
 

@@ -29,5 +29,5 @@ module _ {T : Type 0} (durable : Type 0) (images : T → List ℕ → Type 0) (n
   IsMember n i (Stopped tape) = durable → never_fails tape × ((left : List ℕ) × images tape left)
 
   -- each entry has the node of its index
-  unfoldable pub AreMembers : List (NodeHost T) → Type 0
-  AreMembers hosts = (i : ℕ) (host : NodeHost T) → slice_get hosts i ≡ Some host → IsMember (length hosts) i host
+  unfoldable pub AreAtTheirIndex : List (NodeHost T) → Type 0
+  AreAtTheirIndex hosts = (i : ℕ) (host : NodeHost T) → slice_get hosts i ≡ Some host → IsMember (length hosts) i host

@@ -8,7 +8,7 @@ use Rattle.wf_node.specs.VolatileState.{VolatileState, Idle}
 use Rattle.wf_farm.specs.declared.cluster.NodeHost.{NodeHost}
 use Rattle.wf_farm.specs.declared.cluster.NodeHost.TheVariants.{Running, Stopped}
 use Rattle.wf_farm.specs.Farm.{Farm}
-use Rattle.wf_farm.specs.Hosts.{AreMembers, IsMember}
+use Rattle.wf_farm.specs.Hosts.{AreAtTheirIndex, IsMember}
 use Rattle.wf_tape.specs.declared.tape.Tape.{Ghosts as Tape}
 
 -- what a stopped node shows: nothing stored, and no proposal or leadership
@@ -63,5 +63,5 @@ module _ {T : Type 0} (tapes : Tape T) where
   -- So have as many entries as before.
   pub record KeepEntries (before after : List (NodeHost T)) : Type 0 where
     pub as_many : length after ≡ length before
-    pub members : AreMembers tapes.durable tapes.images tapes.never_fails before → AreMembers tapes.durable tapes.images tapes.never_fails after
+    pub members : AreAtTheirIndex tapes.durable tapes.images tapes.never_fails before → AreAtTheirIndex tapes.durable tapes.images tapes.never_fails after
     pub kept : KeepHosts before after

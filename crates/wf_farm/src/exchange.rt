@@ -10,7 +10,7 @@ ghost use Rattle.wf_delivery.specs.NodeInput.{IsSturdy};
 ghost use Rattle.wf_farm.specs.Exchange.{IsAskedByClient, IsExchange, IsReadyFor, ReachabilityGoesOn};
 ghost use Rattle.wf_delivery.specs.Reachability.{AreReachableFrom, AreReachableSending, AreReachable, HaveOneHistory};
 ghost use Rattle.wf_farm.specs.Nodes.{KeepEntries, KeepHosts, RunsAt, nodes_in, nodes_of};
-ghost use Rattle.wf_farm.specs.Hosts.{AreMembers};
+ghost use Rattle.wf_farm.specs.Hosts.{AreAtTheirIndex};
 
 use crate::cluster::{Cluster, NodeHost};
 use crate::farm::Farm;
@@ -120,7 +120,7 @@ fn exchange_in<C: NodeClient<T>, T: Tape>(
     requires within { number < length hosts.old }
     requires runs { RunsAt hosts.old number }
     requires ready { IsReadyFor C.ready client.old hosts.old number }
-    requires members { AreMembers T.durable T.images T.never_fails hosts.old }
+    requires members { AreAtTheirIndex T.durable T.images T.never_fails hosts.old }
     ensures exchange { IsExchange T.Tape C.asks number client.old (nodes_of hosts.old) result
         client.new (nodes_of hosts.new) }
     ensures reachable { AreReachableFrom T.Tape (nodes_of hosts.old) (nodes_of hosts.new) }
@@ -140,7 +140,7 @@ fn ask_node<C: NodeClient<T>, T: Tape>(
     requires within { number < length hosts.old }
     requires runs { RunsAt hosts.old number }
     requires ready { IsReadyFor C.ready client.old hosts.old number }
-    requires members { AreMembers T.durable T.images T.never_fails hosts.old }
+    requires members { AreAtTheirIndex T.durable T.images T.never_fails hosts.old }
     ensures asked { IsAskedByClient C.asks number client.old (nodes_of hosts.old) result
         client.new (nodes_of hosts.new) }
     ensures only_sends { AreReachableSending T.Tape (nodes_of hosts.old) result.items

@@ -82,6 +82,19 @@ pub no_lower_both : (known claimed : Option Ballot) → IsNoLower known (higher_
 no_lower_both known None = no_lower_self known
 no_lower_both known (Some b) = no_lower_raised known b
 
+above_by : (p b : Ballot) (t : Bool) → below p b ≡ t → IsNoLower (Some b) (cond t (Some b) (Some p))
+above_by p b true above = below-irreflexive b
+above_by p b false above = above
+
+above_raised : (promise : Option Ballot) (b : Ballot) → IsNoLower (Some b) (raised promise b)
+unfolding raised
+above_raised None b = below-irreflexive b
+above_raised (Some p) b = above_by p b (below p b) refl
+
+no_lower_claimed : (known claimed : Option Ballot) → IsNoLower claimed (higher_promise known claimed)
+no_lower_claimed known None = tt
+no_lower_claimed known (Some b) = above_raised known b
+
 -- ---- a vote
 
 pub no_lower_vote_self : (vote : Option HighestVote) → IsNoLowerVote vote vote
@@ -100,10 +113,25 @@ pub no_lower_vote_both : (known claimed : Option HighestVote) → IsNoLowerVote 
 no_lower_vote_both known None = no_lower_vote_self known
 no_lower_vote_both known (Some v) = no_lower_vote_raised known v
 
+above_vote_by : (k v : HighestVote) (t : Bool) → vote_below k v ≡ t → IsNoLowerVote (Some v) (cond t (Some v) (Some k))
+above_vote_by k v true above = vote_below-irreflexive v
+above_vote_by k v false above = above
+
+above_vote_raised : (vote : Option HighestVote) (v : HighestVote) → IsNoLowerVote (Some v) (raised_vote vote v)
+above_vote_raised None v = vote_below-irreflexive v
+above_vote_raised (Some k) v = above_vote_by k v (vote_below k v) refl
+
+no_lower_vote_claimed : (known claimed : Option HighestVote) → IsNoLowerVote claimed (higher_vote known claimed)
+no_lower_vote_claimed known None = tt
+no_lower_vote_claimed known (Some v) = above_vote_raised known v
+
 -- ---- both together
 
 pub by_together : (a b : Reach) → IsReachNoLess a (together a b)
 by_together a b = record { tried = omega arith; promised = no_lower_both a.promise b.promise; voted = no_lower_vote_both a.vote b.vote; up_to = omega arith }
+
+pub claimed_by_together : (a b : Reach) → IsReachNoLess b (together a b)
+claimed_by_together a b = record { tried = omega arith; promised = no_lower_claimed a.promise b.promise; voted = no_lower_vote_claimed a.vote b.vote; up_to = omega arith }
 
 raised_in_range : (p b : Ballot) (t : Bool) → IsBallot p → IsBallot b → IsPromise (cond t (Some b) (Some p))
 raised_in_range p b true of_p of_b = of_b

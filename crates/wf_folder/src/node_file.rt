@@ -76,13 +76,14 @@ impl NodeFile {
 
     /// The file once the node is known to have been so far, with the digest of its history up to
     /// what it has published: nothing that was known falls.
-    #[tactic(auto, using(crate::proofs::Raised::is_known, crate::proofs::Raised::by_together))]
+    #[tactic(auto, using(crate::proofs::Raised::is_known, crate::proofs::Raised::by_together, crate::proofs::Raised::claimed_by_together))]
     pub fn raise(&self, reach: &Reach, digest: [u8; 32]) -> NodeFile
         requires { IsNodeFile self.now }
         ensures value { result ≡
             record self.now { known = raised_known self.now.known reach.now digest } }
         ensures file { IsNodeFile result }
         ensures kept { IsReachNoLess self.now.known.reach result.known.reach }
+        ensures raised { IsReachNoLess reach.now result.known.reach }
     {
         let known = raise_known(&self.known, reach, digest);
         NodeFile { known, ..*self }

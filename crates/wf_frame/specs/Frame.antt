@@ -32,34 +32,34 @@ header_length = 6
 -- ---- how a frame is read, each byte as soon as it is there
 
 -- a version, the byte of a kind, and a body
-abbrev pub Found : Type 0
-Found = ℕ × ℕ × List ℕ
+abbrev pub FrameFound : Type 0
+FrameFound = ℕ × ℕ × List ℕ
 
 -- after the length: the body, if that many bytes are there
-unfoldable pub body_front : Format → ℕ → ℕ → Layout → ℕ → List ℕ → Result Found FrameFault
+unfoldable pub body_front : Format → ℕ → ℕ → Layout → ℕ → List ℕ → Result FrameFound FrameFault
 body_front format version byte layout n bytes =
     if nat_lt format.longest n then Err TooLong
     else if fits layout n then (if nat_lt (length bytes) n then Err Short else Ok (version, byte, take n bytes))
     else Err BadLength
 
 -- after the kind's byte
-unfoldable pub length_front : Format → ℕ → ℕ → Option Layout → List ℕ → Result Found FrameFault
+unfoldable pub length_front : Format → ℕ → ℕ → Option Layout → List ℕ → Result FrameFound FrameFault
 length_front format version byte None bytes = Err BadKind
 length_front format version byte (Some layout) (a ∷ b ∷ c ∷ d ∷ bytes) = body_front format version byte layout (from_be_bytes w32 (a ∷ b ∷ c ∷ d ∷ [])) bytes
 length_front format version byte (Some layout) _ = Err Short
 
 -- after the version
-unfoldable pub kind_front : Format → ℕ → List ℕ → Result Found FrameFault
+unfoldable pub kind_front : Format → ℕ → List ℕ → Result FrameFound FrameFault
 kind_front format version [] = Err Short
 kind_front format version (byte ∷ bytes) = length_front format version byte (format.layout version byte) bytes
 
 -- the version, the kind and the body of the frame at the front of bytes
-unfoldable pub frame_front : Format → List ℕ → Result Found FrameFault
+unfoldable pub frame_front : Format → List ℕ → Result FrameFound FrameFault
 frame_front format [] = Err Short
 frame_front format (version ∷ bytes) = if format.is_read version then kind_front format version bytes else Err BadVersion
 
 -- the result of a function that splits a frame, mapped by view, is this one, or this error
-abbrev pub IsSplitAs : {X : Type 0} → (X → Found) → Result X FrameFault → Result Found FrameFault → Type 0
+abbrev pub IsSplitAs : {X : Type 0} → (X → FrameFound) → Result X FrameFault → Result FrameFound FrameFault → Type 0
 IsSplitAs view result split = MatchResult result (λ x. split ≡ Ok (view x)) (λ fault. split ≡ Err fault)
 
 -- ---- part of a frame

@@ -12,7 +12,7 @@ use Rattle.wf_ballot.specs.FrontTheorems.{four_bytes, AreBytes-take}
 use Rattle.wf_frame.specs.declared.fault.FrameFault.{FrameFault}
 use Rattle.wf_frame.specs.declared.fault.FrameFault.TheVariants.{Short, BadVersion, TooLong, BadLength}
 use Rattle.wf_frame.specs.Layout.{Layout, fits, body_bytes, body_texts, read_body}
-use Rattle.wf_frame.specs.Frame.{Format, IsFormat, HasBody, Found, body_front, length_front, kind_front, frame_front, LacksBody, IsUnfinishedFrame}
+use Rattle.wf_frame.specs.Frame.{Format, IsFormat, HasBody, FrameFound, body_front, length_front, kind_front, frame_front, LacksBody, IsUnfinishedFrame}
 use Rattle.wf_frame.specs.Theorem.{IsFramed, FramesAreRead, BodiesAreRead, Payload, IsPayload, NoneBeginsAnother}
 use Rattle.wf_frame.specs.ReportTheorems.{AreBytes-rest}
 use Rattle.wf_frame.specs.LayoutTheorems.{body_fits, body_again, body_stands, body_checked}
@@ -84,16 +84,16 @@ size_stands format v k (Some layout) (a ∷ b ∷ []) version byte body fit e = 
 size_stands format v k (Some layout) (a ∷ b ∷ c ∷ []) version byte body fit e = absurd cc
 size_stands format v k (Some layout) (a ∷ b ∷ c ∷ d ∷ bytes) version byte body fit e =
     let n : ℕ = from_be_bytes w32 (a ∷ b ∷ c ∷ d ∷ []) in
-    let stands = tests_passed {A = Found} (ltb format.longest n) (fits layout n) (ltb (length bytes) n) (v, k, take n bytes) (version, byte, body) e in
+    let stands = tests_passed {A = FrameFound} (ltb format.longest n) (fits layout n) (ltb (length bytes) n) (v, k, take n bytes) (version, byte, body) e in
     let number = four_bytes a b c d bytes fit in
-    let same_body : take n bytes ≡ body = ap (λ (x : Found). x.2) stands.2 in
+    let same_body : take n bytes ≡ body = ap (λ (x : FrameFound). x.2) stands.2 in
     let enough = ltb-false (length bytes) n stands.1 in
     let same_length : length body ≡ n = omega (arith, ap length same_body, length-take n bytes) in
     let front : to_be_bytes w32 (length body) ≡ a ∷ b ∷ c ∷ d ∷ [] = ap (to_be_bytes w32) same_length ∙ number.0 in
     let back : body ++ drop n bytes ≡ bytes = ap (λ (t : List ℕ). t ++ drop n bytes) (sym same_body) ∙ take-append-drop n bytes in
     record {
-      version_is = ap (λ (x : Found). x.0) stands.2;
-      byte_is = ap (λ (x : Found). x.1) stands.2;
+      version_is = ap (λ (x : FrameFound). x.0) stands.2;
+      byte_is = ap (λ (x : FrameFound). x.1) stands.2;
       layout = layout;
       has_kind = refl;
       sized = record {
@@ -119,9 +119,9 @@ pub frame_stands : (format : Format) (bytes : List ℕ) (version byte : ℕ) (bo
     IsFramed format bytes version byte body
 unfolding frame_front kind_front frame
 frame_stands format [] version byte body fit e = absurd cc
-frame_stands format (v ∷ []) version byte body fit e = let passes = passed {A = Found} (format.is_read v) BadVersion (Err Short) (version, byte, body) e in absurd cc
+frame_stands format (v ∷ []) version byte body fit e = let passes = passed {A = FrameFound} (format.is_read v) BadVersion (Err Short) (version, byte, body) e in absurd cc
 frame_stands format (v ∷ k ∷ bytes) version byte body fit e =
-    let passes = passed {A = Found} (format.is_read v) BadVersion (length_front format v k (format.layout v k) bytes) (version, byte, body) e in
+    let passes = passed {A = FrameFound} (format.is_read v) BadVersion (length_front format v k (format.layout v k) bytes) (version, byte, body) e in
     let split = size_stands format v k (format.layout v k) bytes version byte body (AreBytes-rest (v ∷ k ∷ []) bytes fit) passes.1 in
     record {
       rest = split.sized.rest;
@@ -148,7 +148,7 @@ length_goes_on format v k (Some layout) (a ∷ b ∷ []) more fault e not_short 
 length_goes_on format v k (Some layout) (a ∷ b ∷ c ∷ []) more fault e not_short = let short : fault ≡ Short = cc in absurd (not_short short)
 length_goes_on format v k (Some layout) (a ∷ b ∷ c ∷ d ∷ bytes) more fault e not_short =
     let n : ℕ = from_be_bytes w32 (a ∷ b ∷ c ∷ d ∷ []) in
-    tests_go_on {A = Found} (ltb format.longest n) (fits layout n) (ltb (length bytes) n) (ltb (length (bytes ++ more)) n) (v, k, take n bytes) (v, k, take n (bytes ++ more)) fault e not_short
+    tests_go_on {A = FrameFound} (ltb format.longest n) (fits layout n) (ltb (length bytes) n) (ltb (length (bytes ++ more)) n) (v, k, take n bytes) (v, k, take n (bytes ++ more)) fault e not_short
 
 kind_goes_on : (format : Format) (version : ℕ) (bytes more : List ℕ) (fault : FrameFault) → kind_front format version bytes ≡ Err fault → (fault ≡ Short → ⊥) →
     kind_front format version (bytes ++ more) ≡ Err fault
@@ -183,7 +183,7 @@ length_short format v k layout (a ∷ b ∷ []) e = inl (omega arith)
 length_short format v k layout (a ∷ b ∷ c ∷ []) e = inl (omega arith)
 length_short format v k layout (a ∷ b ∷ c ∷ d ∷ bytes) e =
     let n : ℕ = from_be_bytes w32 (a ∷ b ∷ c ∷ d ∷ []) in
-    let stands = tests_short {A = Found} (ltb format.longest n) (fits layout n) (ltb (length bytes) n) (v, k, take n bytes) e in
+    let stands = tests_short {A = FrameFound} (ltb format.longest n) (fits layout n) (ltb (length bytes) n) (v, k, take n bytes) e in
     let few : length bytes < n = ltb-true (length bytes) n stands.1 in
     inr (stands.0, omega (arith, few))
 
@@ -199,9 +199,9 @@ version_short false r e = absurd cc
 pub short_is_unfinished : (format : Format) (bytes : List ℕ) → frame_front format bytes ≡ Err Short → IsUnfinishedFrame format bytes
 unfolding frame_front kind_front
 short_is_unfinished format [] e = tt
-short_is_unfinished format (version ∷ []) e = (version_short {A = Found} (format.is_read version) (Err Short) e).0
+short_is_unfinished format (version ∷ []) e = (version_short {A = FrameFound} (format.is_read version) (Err Short) e).0
 short_is_unfinished format (version ∷ byte ∷ bytes) e =
-    let v = version_short {A = Found} (format.is_read version) (length_front format version byte (format.layout version byte) bytes) e in
+    let v = version_short {A = FrameFound} (format.is_read version) (length_front format version byte (format.layout version byte) bytes) e in
     (v.0, kind_short format version byte (format.layout version byte) bytes v.1)
 
 body_is_short : (format : Format) → IsFormat format → (v k : ℕ) (layout : Layout) (n : ℕ) (bytes : List ℕ) → format.layout v k ≡ Some layout → fits layout n ≡ true → length bytes < n →
@@ -237,9 +237,9 @@ frames_are_read format is = record {
 
 -- No frame is a prefix of another's: bytes that begin with both are cut into one.
 pub one_frame : (format : Format) → IsFormat format → (v k version byte : ℕ) (x y after_x after_y : List ℕ) → HasBody format v k x → HasBody format version byte y →
-    frame v k x ++ after_x ≡ frame version byte y ++ after_y → ◌≡◌ {A = Found} (v, k, x) (version, byte, y)
+    frame v k x ++ after_x ≡ frame version byte y ++ after_y → ◌≡◌ {A = FrameFound} (v, k, x) (version, byte, y)
 one_frame format is v k version byte x y after_x after_y has_x has_y e =
-    ok_is {A = Found} (v, k, x) (version, byte, y) (sym (frame_again format is v k x after_x has_x) ∙ ap (frame_front format) e ∙ frame_again format is version byte y after_y has_y)
+    ok_is {A = FrameFound} (v, k, x) (version, byte, y) (sym (frame_again format is v k x after_x has_x) ∙ ap (frame_front format) e ∙ frame_again format is version byte y after_y has_y)
 
 -- ---- bodies
 
@@ -258,7 +258,7 @@ abbrev read_as : ℕ → ℕ → List ℕ → Option Layout → Option Payload
 read_as version byte bytes None = None
 read_as version byte bytes (Some layout) = read_body layout bytes (λ body. record { version = version; byte = byte; layout = layout; body = body })
 
-abbrev read_payload : Format → Found → Option Payload
+abbrev read_payload : Format → FrameFound → Option Payload
 read_payload format found = read_as found.0 found.1 found.2 (format.layout found.0 found.1)
 
 some_same : {A : Type 0} (x y : A) → Some x ≡ Some y → x ≡ y

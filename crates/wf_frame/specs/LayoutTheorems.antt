@@ -13,8 +13,8 @@ use Rattle.wf_ballot.specs.FieldTheorems.{length-node_bytes, length-seq_bytes, l
 use Rattle.wf_frame.specs.Field.{Field, NodeField, SlotField, RoundField, BallotField, Value, IsValue, value_bytes, width, front_value}
 use Rattle.wf_frame.specs.Report.{Report, report_of, votes_definitions, texts_of_read}
 use Rattle.wf_frame.specs.ReportTheorems.{AreBytes-rest, report_stands, report_again, report_length}
-use Rattle.wf_frame.specs.BodyEnd.{Ending, Nothing, Text, Votes, End, IsEnd, end_bytes, least_end, most_end, end_texts, front_end, has_end, texts_in_end}
-use Rattle.wf_frame.specs.Layout.{Layout, ends_at, Parts, Body, AreParts, IsBody, parts_bytes, body_bytes, end_of, body_texts, widths, fits, read_parts, read_body, has_parts, has_fields, texts_in}
+use Rattle.wf_frame.specs.BodyEnd.{BodyEnding, Nothing, Text, Votes, End, IsEnd, end_bytes, least_end, most_end, end_texts, front_end, has_end, texts_in_end}
+use Rattle.wf_frame.specs.Layout.{Layout, ends_at, BodyParts, Body, AreParts, IsBody, parts_bytes, body_bytes, end_of, body_texts, widths, fits, read_parts, read_body, has_parts, has_fields, texts_in}
 
 -- ---- fields
 
@@ -71,24 +71,24 @@ behind BallotField bytes x e = behind_ballot bytes x e
 
 -- ---- endings
 
-end_lengths : (ending : Ending) (end : End ending) → IsEnd ending end → (least_end ending ≤ length (end_bytes ending end)) × (length (end_bytes ending end) ≤ most_end ending)
+end_lengths : (ending : BodyEnding) (end : End ending) → IsEnd ending end → (least_end ending ≤ length (end_bytes ending end)) × (length (end_bytes ending end) ≤ most_end ending)
 end_lengths Nothing end is = (omega arith, omega arith)
 end_lengths (Text most) text is = (is.least, is.within)
 end_lengths (Votes most) report is = report_length most report is
 
-end_fits : (ending : Ending) (fields n : ℕ) (end : End ending) → n ≡ fields + length (end_bytes ending end) → IsEnd ending end → ends_at ending fields n ≡ true
+end_fits : (ending : BodyEnding) (fields n : ℕ) (end : End ending) → n ≡ fields + length (end_bytes ending end) → IsEnd ending end → ends_at ending fields n ≡ true
 end_fits ending fields n end e is =
     let (least, within) = end_lengths ending end is in
     and_from (leb (fields + least_end ending) n) (leb n (fields + most_end ending)) (le-leb (fields + least_end ending) n (omega (arith, e, least))) (le-leb n (fields + most_end ending) (omega (arith, e, within)))
 
-end_within : (ending : Ending) (fields n : ℕ) → ends_at ending fields n ≡ true → n ≤ fields + most_end ending
+end_within : (ending : BodyEnding) (fields n : ℕ) → ends_at ending fields n ≡ true → n ≤ fields + most_end ending
 end_within ending fields n has = leb-true n (fields + most_end ending) (and_parts (leb (fields + least_end ending) n) (leb n (fields + most_end ending)) has).1
 
 -- the most bytes of a body
 pub fits_most : (layout : Layout) (n : ℕ) → fits layout n ≡ true → n ≤ widths layout.fields + most_end layout.ending
 fits_most layout n has = end_within layout.ending (widths layout.fields) n has
 
-end_again : (ending : Ending) (end : End ending) → IsEnd ending end → front_end ending (end_bytes ending end) ≡ Some end
+end_again : (ending : BodyEnding) (end : End ending) → IsEnd ending end → front_end ending (end_bytes ending end) ≡ Some end
 end_again Nothing end is = refl
 end_again (Text most) text is = refl
 end_again (Votes most) report is = report_again most report is
@@ -98,7 +98,7 @@ some_is P x y e p = let same : x ≡ y = cc in subst P same p
 
 -- an ending that is read has these bytes: by the length that the body can have, nothing follows the
 -- last field
-end_stands : (ending : Ending) (fields : ℕ) (bytes : List ℕ) (end : End ending) → AreBytes bytes → ends_at ending fields (fields + length bytes) ≡ true → front_end ending bytes ≡ Some end →
+end_stands : (ending : BodyEnding) (fields : ℕ) (bytes : List ℕ) (end : End ending) → AreBytes bytes → ends_at ending fields (fields + length bytes) ≡ true → front_end ending bytes ≡ Some end →
     bytes ≡ end_bytes ending end
 end_stands Nothing fields bytes end fit has e = nil_from_length bytes (omega (arith, end_within Nothing fields (fields + length bytes) has))
 end_stands (Text most) fields bytes text fit has e = some_is (λ x. bytes ≡ x) bytes text e refl
@@ -115,14 +115,14 @@ report_checked : (most : ℕ) (read : Option Report) → option_map (λ (r : Rep
 report_checked most None = refl
 report_checked most (Some report) = refl
 
-end_checked : (ending : Ending) (bytes : List ℕ) → option_map (end_texts ending) (front_end ending bytes) ≡ cond (has_end ending bytes) (Some (texts_in_end ending bytes)) None
+end_checked : (ending : BodyEnding) (bytes : List ℕ) → option_map (end_texts ending) (front_end ending bytes) ≡ cond (has_end ending bytes) (Some (texts_in_end ending bytes)) None
 end_checked Nothing bytes = refl
 end_checked (Text most) bytes = refl
 end_checked (Votes most) bytes = report_checked most (report_of most bytes)
 
 -- ---- bodies
 
-parts_length : (fields : List Field) (ending : Ending) (parts : Parts fields ending) → length (parts_bytes fields ending parts) ≡ widths fields + length (end_bytes ending (end_of fields ending parts))
+parts_length : (fields : List Field) (ending : BodyEnding) (parts : BodyParts fields ending) → length (parts_bytes fields ending parts) ≡ widths fields + length (end_bytes ending (end_of fields ending parts))
 parts_length [] ending end = omega arith
 parts_length (field ∷ fields) ending parts =
     omega (arith, length-append (value_bytes field parts.0) (parts_bytes fields ending parts.1), value_length field parts.0, parts_length fields ending parts.1)
@@ -131,7 +131,7 @@ parts_length (field ∷ fields) ending parts =
 pub body_length : (layout : Layout) (body : Body layout) → length (body_bytes layout body) ≡ widths layout.fields + length (end_bytes layout.ending (end_of layout.fields layout.ending body))
 body_length layout body = parts_length layout.fields layout.ending body
 
-end_is : (fields : List Field) (ending : Ending) (parts : Parts fields ending) → AreParts fields ending parts → IsEnd ending (end_of fields ending parts)
+end_is : (fields : List Field) (ending : BodyEnding) (parts : BodyParts fields ending) → AreParts fields ending parts → IsEnd ending (end_of fields ending parts)
 end_is [] ending end are = are
 end_is (field ∷ fields) ending parts are = end_is fields ending parts.1 are.1
 
@@ -140,7 +140,7 @@ pub body_fits : (layout : Layout) (body : Body layout) → IsBody layout body �
 body_fits layout body is =
     end_fits layout.ending (widths layout.fields) (length (body_bytes layout body)) (end_of layout.fields layout.ending body) (body_length layout body) (end_is layout.fields layout.ending body is)
 
-parts_again : {B : Type 0} (fields : List Field) (ending : Ending) (parts : Parts fields ending) (payload : Parts fields ending → B) → AreParts fields ending parts →
+parts_again : {B : Type 0} (fields : List Field) (ending : BodyEnding) (parts : BodyParts fields ending) (payload : BodyParts fields ending → B) → AreParts fields ending parts →
     read_parts fields ending (parts_bytes fields ending parts) payload ≡ Some (payload parts)
 parts_again [] ending end payload are = ap (option_map payload) (end_again ending end are)
 parts_again (field ∷ fields) ending parts payload are =
@@ -152,8 +152,8 @@ pub body_again : {B : Type 0} (layout : Layout) (body : Body layout) (payload : 
 body_again layout body payload is = parts_again layout.fields layout.ending body payload is
 
 -- parts with these bytes, of which this is made
-pub record StandsFor {B : Type 0} (fields : List Field) (ending : Ending) (bytes : List ℕ) (payload : Parts fields ending → B) (made : B) : Type 0 where
-  pub parts : Parts fields ending
+pub record IsMadeOf {B : Type 0} (fields : List Field) (ending : BodyEnding) (bytes : List ℕ) (payload : BodyParts fields ending → B) (made : B) : Type 0 where
+  pub parts : BodyParts fields ending
   pub spelled : bytes ≡ parts_bytes fields ending parts
   pub makes : payload parts ≡ made
 
@@ -161,8 +161,8 @@ mapped_some : {A B P : Type 0} (f : A → B) (o : Option A) (y : B) → option_m
 mapped_some f None y e go = absurd cc
 mapped_some f (Some x) y e go = let same : f x ≡ y = cc in go x refl same
 
-parts_stand : {B : Type 0} (fields : List Field) (ending : Ending) (before : ℕ) (bytes : List ℕ) (payload : Parts fields ending → B) (made : B) → AreBytes bytes →
-    ends_at ending (before + widths fields) (before + length bytes) ≡ true → read_parts fields ending bytes payload ≡ Some made → StandsFor fields ending bytes payload made
+parts_stand : {B : Type 0} (fields : List Field) (ending : BodyEnding) (before : ℕ) (bytes : List ℕ) (payload : BodyParts fields ending → B) (made : B) → AreBytes bytes →
+    ends_at ending (before + widths fields) (before + length bytes) ≡ true → read_parts fields ending bytes payload ≡ Some made → IsMadeOf fields ending bytes payload made
 parts_stand [] ending before bytes payload made fit has e =
     let none_before : before + 0 ≡ before = omega arith in
     mapped_some payload (front_end ending bytes) made e (λ end is same.
@@ -189,7 +189,7 @@ parts_stand (field ∷ fields) ending before bytes payload made fit has e =
 
 -- what is read from bytes of a length that the layout allows has those bytes
 pub body_stands : {B : Type 0} (layout : Layout) (bytes : List ℕ) (payload : Body layout → B) (made : B) → AreBytes bytes → fits layout (length bytes) ≡ true →
-    read_body layout bytes payload ≡ Some made → StandsFor layout.fields layout.ending bytes payload made
+    read_body layout bytes payload ≡ Some made → IsMadeOf layout.fields layout.ending bytes payload made
 body_stands layout bytes payload made fit has e =
     let fields : 0 + widths layout.fields ≡ widths layout.fields = omega arith in
     let count : 0 + length bytes ≡ length bytes = omega arith in
@@ -200,8 +200,8 @@ map_map : {A B C : Type 0} (f : A → B) (g : B → C) (h : A → C) (o : Option
 map_map f g h None same = refl
 map_map f g h (Some x) same = ap Some (same x)
 
-parts_checked : {B : Type 0} (fields : List Field) (ending : Ending) (offset : ℕ) (body : List ℕ) (payload : Parts fields ending → B) (text : B → List (List ℕ)) →
-    ((parts : Parts fields ending) → text (payload parts) ≡ end_texts ending (end_of fields ending parts)) →
+parts_checked : {B : Type 0} (fields : List Field) (ending : BodyEnding) (offset : ℕ) (body : List ℕ) (payload : BodyParts fields ending → B) (text : B → List (List ℕ)) →
+    ((parts : BodyParts fields ending) → text (payload parts) ≡ end_texts ending (end_of fields ending parts)) →
     option_map text (read_parts fields ending (drop offset body) payload) ≡ cond (has_parts fields ending offset body) (Some (texts_in_end ending (drop (offset + widths fields) body))) None
 parts_checked [] ending offset body payload text agrees =
     let none_after : offset ≡ offset + 0 = omega arith in

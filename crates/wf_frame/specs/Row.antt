@@ -7,8 +7,8 @@ use Rattle.wf_ballot.specs.Ballot.{Ballot, IsBallot}
 use Rattle.wf_model.specs.Message.{Vote}
 use Rattle.wf_frame.specs.Field.{Field, FieldValue, IsValue, value_bytes, field_of, value_of, value_with}
 use Rattle.wf_frame.specs.Report.{AreVotesOf, report_bytes, votes_in_report, votes_definitions, votes_with}
-use Rattle.wf_frame.specs.BodyEnd.{Ending, Nothing, Text, Votes, End}
-use Rattle.wf_frame.specs.Layout.{Layout, Parts, Body, end_of, read_body}
+use Rattle.wf_frame.specs.BodyEnd.{BodyEnding, Nothing, Text, Votes, End}
+use Rattle.wf_frame.specs.Layout.{Layout, BodyParts, Body, end_of, read_body}
 
 -- what a body ends with, with definitions of any type: nothing, a definition, or the votes of a
 -- promise at a slot and a ballot
@@ -67,7 +67,7 @@ unfoldable pub row_bytes : Row (List ℕ) → List ℕ
 row_bytes row = fields_bytes row.fields ++ row_end_bytes row.ending
 
 -- the layout of its body, where a text has at most so many bytes
-abbrev pub row_ending : {V : Type 0} → ℕ → RowEnd V → Ending
+abbrev pub row_ending : {V : Type 0} → ℕ → RowEnd V → BodyEnding
 row_ending most NoEnd = Nothing
 row_ending most (TextEnd d) = Text most
 row_ending most (VotesEnd s b votes) = Votes most
@@ -77,11 +77,11 @@ row_layout most row = record { fields = map field_of row.fields; ending = row_en
 
 -- ---- how it is read
 
-abbrev pub values_in : (fields : List Field) (ending : Ending) → Parts fields ending → List FieldValue
+abbrev pub values_in : (fields : List Field) (ending : BodyEnding) → BodyParts fields ending → List FieldValue
 values_in [] ending end = []
 values_in (field ∷ fields) ending parts = value_with field parts.0 ∷ values_in fields ending parts.1
 
-abbrev pub end_from : (ending : Ending) → End ending → RowEnd (List ℕ)
+abbrev pub end_from : (ending : BodyEnding) → End ending → RowEnd (List ℕ)
 end_from Nothing end = NoEnd
 end_from (Text most) text = TextEnd text
 end_from (Votes most) report = VotesEnd report.slot report.ballot report.votes

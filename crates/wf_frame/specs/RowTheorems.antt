@@ -5,8 +5,8 @@ use Rattle.std.specs.Prelude.{option_map, option_and_then}
 use Rattle.wf_ballot.specs.Front.{AreBytes}
 use Rattle.wf_frame.specs.Field.{Field, NodeField, SlotField, RoundField, BallotField, FieldValue, NodeValue, SlotValue, RoundValue, BallotValue, Value, value_bytes, field_of, value_of, value_with}
 use Rattle.wf_frame.specs.Report.{IsBoundedText}
-use Rattle.wf_frame.specs.BodyEnd.{Ending, Nothing, Text, Votes, End, end_texts, most_end}
-use Rattle.wf_frame.specs.Layout.{Layout, Parts, Body, AreParts, parts_bytes, body_bytes, end_of, widths, fits, read_body, has_fields, texts_in}
+use Rattle.wf_frame.specs.BodyEnd.{BodyEnding, Nothing, Text, Votes, End, end_texts, most_end}
+use Rattle.wf_frame.specs.Layout.{Layout, BodyParts, Body, AreParts, parts_bytes, body_bytes, end_of, widths, fits, read_body, has_fields, texts_in}
 use Rattle.wf_frame.specs.Row.{Row, RowEnd, NoEnd, TextEnd, VotesEnd, end_definitions, AreInRange, IsRowOf, fields_bytes, row_end_bytes, row_bytes, row_ending, row_layout, values_in, end_from, row_from, layout_of, read_row}
 use Rattle.wf_frame.specs.LayoutTheorems.{value_length, fits_most, body_fits, body_again, body_stands, body_checked}
 
@@ -17,7 +17,7 @@ end_parts most NoEnd = tt
 end_parts most (TextEnd text) = text
 end_parts most (VotesEnd s b votes) = record { slot = s; ballot = b; votes = votes }
 
-abbrev row_parts : (most : ℕ) (values : List FieldValue) (end : RowEnd (List ℕ)) → Parts (map field_of values) (row_ending most end)
+abbrev row_parts : (most : ℕ) (values : List FieldValue) (end : RowEnd (List ℕ)) → BodyParts (map field_of values) (row_ending most end)
 row_parts most [] end = end_parts most end
 row_parts most (v ∷ values) end = (value_of v, row_parts most values end)
 
@@ -67,7 +67,7 @@ same_bytes SlotField slot = refl
 same_bytes RoundField round = refl
 same_bytes BallotField ballot = refl
 
-from_bytes : (fields : List Field) (ending : Ending) (parts : Parts fields ending) →
+from_bytes : (fields : List Field) (ending : BodyEnding) (parts : BodyParts fields ending) →
     fields_bytes (values_in fields ending parts) ++ row_end_bytes (end_from ending (end_of fields ending parts)) ≡ parts_bytes fields ending parts
 from_bytes [] Nothing end = refl
 from_bytes [] (Text most) text = refl
@@ -141,7 +141,7 @@ row_stands kinds byte layout bytes r known fit has e =
       stands.spelled ∙ sym (read_bytes byte layout stands.parts) ∙ ap row_bytes stands.makes,
     )
 
-same_texts : (fields : List Field) (ending : Ending) (parts : Parts fields ending) → end_definitions (end_from ending (end_of fields ending parts)) ≡ end_texts ending (end_of fields ending parts)
+same_texts : (fields : List Field) (ending : BodyEnding) (parts : BodyParts fields ending) → end_definitions (end_from ending (end_of fields ending parts)) ≡ end_texts ending (end_of fields ending parts)
 same_texts [] Nothing end = refl
 same_texts [] (Text most) text = refl
 same_texts [] (Votes most) report = refl

@@ -8,11 +8,11 @@ use Rattle.wf_actor.specs.declared.actor.Actor.{Actor}
 use Rattle.wf_actor.specs.declared.actor.Origin.{Origin}
 use Rattle.wf_career.specs.Career.{Career}
 use Rattle.wf_career.specs.Continuation.{left}
-use Rattle.wf_career.specs.Run.{Act, Between, End, Failed, Within, given_to}
+use Rattle.wf_career.specs.Run.{Act, Between, RunEnd, Failed, Within, given_to}
 use Rattle.wf_career.specs.Theorems.{outputs_in}
 use Rattle.wf_codec.specs.declared.message.Message.{Message}
 use Rattle.wf_tape.specs.declared.tape.Tape.{Ghosts as Tape}
-use Rattle.wf_histories.specs.Advance.{ActAdvances, HasBegun, NothingAdvances, ReadsAfter, RunAdvances, StartAdvances, in_next_run, last_cut, one_act_more, run_in, with_folder}
+use Rattle.wf_histories.specs.Advance.{ActAdvances, IsInFirstRun, NothingAdvances, ReadsAfter, RunAdvances, StartAdvances, in_next_run, last_cut, one_act_more, run_in, with_folder}
 use Rattle.wf_histories.specs.Carried.{ArePeersSent, AreSentBefore}
 use Rattle.wf_histories.specs.Nodes.{AreNodeProcesses, AreOnFolder, HasEndedBefore, NodeProcess, cut_before, cut_step, made_by, steps_on}
 use Rattle.wf_histories.specs.Runs.{LivesOf, made_of, steps_made, steps_over}
@@ -105,7 +105,7 @@ module _ {T : Type 0} (tapes : Tape T) where
       ∙ ap (λ (made : ℕ). steps_made i (made_of tapes ended now p.lives 0 made)) none
       ∙ none_made i ended now p.lives
 
-  pub begun_on : (n i : ℕ) (bytes : List ℕ) (processes : List (NodeProcess tapes)) (p : NodeProcess tapes) → AreOnFolder tapes n i bytes processes → HasBegun tapes n i bytes processes p
+  pub begun_on : (n i : ℕ) (bytes : List ℕ) (processes : List (NodeProcess tapes)) (p : NodeProcess tapes) → AreOnFolder tapes n i bytes processes → IsInFirstRun tapes n i bytes processes p
       → AreOnFolder tapes n i bytes (processes ++ p ∷ [])
   unfolding ReadsAfter
   begun_on n i bytes [] p are begun = (begun.is, begun.reads, tt, tt)
@@ -125,7 +125,7 @@ module _ {T : Type 0} (tapes : Tape T) where
       ∙ ap (λ xs. steps_made i (made_by tapes one) ++ xs) (sym (append_assoc (cut_step i one.end one.cut_from) (steps_on tapes i (next ∷ later)) (last_cut tapes i (next ∷ later))))
       ∙ sym (append_assoc (steps_made i (made_by tapes one)) (cut_step i one.end one.cut_from ++ steps_on tapes i (next ∷ later)) (last_cut tapes i (next ∷ later)))
 
-  own_cut : (i : ℕ) (end : End) (origin : Origin) → AreStepsOf i (cut_step i end origin)
+  own_cut : (i : ℕ) (end : RunEnd) (origin : Origin) → AreStepsOf i (cut_step i end origin)
   own_cut i Between origin = tt
   own_cut i (Within input) origin = (refl, tt)
   own_cut i (Failed input) origin = tt
@@ -171,7 +171,7 @@ module _ {T : Type 0} (tapes : Tape T) where
       ∙ sym (append_assoc first (steps_made i old) (record { process = i; takes = act.input; origin = origin; outputs = act.outputs } ∷ []))
       ∙ ap (λ xs. xs ++ record { process = i; takes = act.input; origin = origin; outputs = act.outputs } ∷ []) (sym (append_assoc first (steps_over i old.over) (steps_by i old.last.run.acts old.last.origins)))
 
-  cut_one_more : (i : ℕ) (earlier : List (NodeProcess tapes)) (p q : NodeProcess tapes) (end : End) (origin : Origin) → cut_before tapes i (earlier ++ q ∷ []) end origin ≡ cut_before tapes i (earlier ++ p ∷ []) end origin
+  cut_one_more : (i : ℕ) (earlier : List (NodeProcess tapes)) (p q : NodeProcess tapes) (end : RunEnd) (origin : Origin) → cut_before tapes i (earlier ++ q ∷ []) end origin ≡ cut_before tapes i (earlier ++ p ∷ []) end origin
   cut_one_more i [] p q end origin = refl
   cut_one_more i (first ∷ earlier) p q end origin = refl
 

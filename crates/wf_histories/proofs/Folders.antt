@@ -6,7 +6,7 @@ use Rattle.wf_actor.specs.declared.actor.Actor.{Actor}
 use Rattle.wf_actor.specs.declared.actor.Origin.{Origin}
 use Rattle.wf_career.specs.Career.{AreRuns, Ended, items_at, items_by, items_in, values_in, values_of}
 use Rattle.wf_career.specs.CrashImages.{ComparisonLeaves}
-use Rattle.wf_career.specs.Run.{Between, End, Failed, IsOpenedFrom, IsRun, Run, Within, outputs}
+use Rattle.wf_career.specs.Run.{Between, RunEnd, Failed, IsOpenedFrom, IsRun, Run, Within, outputs}
 use Rattle.wf_codec.specs.declared.message.Message.{Message}
 use Rattle.wf_voter.specs.Continuation.{AreRunsFrom}
 use Rattle.wf_node.specs.Node.{stored_of}
@@ -20,18 +20,18 @@ use Rattle.wf_histories.proofs.Careers.{IsCareerWith, career_with}
 use Rattle.wf_histories.proofs.Carried.{come_both}
 use Rattle.wf_histories.proofs.Left.{left_before}
 
-items_cut : (i : ℕ) (end : End) (origin : Origin) → items (cut_step i end origin) ≡ items_at i end
+items_cut : (i : ℕ) (end : RunEnd) (origin : Origin) → items (cut_step i end origin) ≡ items_at i end
 items_cut i Between origin = refl
 items_cut i (Within input) origin = refl
 items_cut i (Failed input) origin = refl
 
-own_cut : (i : ℕ) (emitted : List Message) (end : End) (origin : Origin) → IsCutGiven emitted end origin → AreOwn emitted (cut_step i end origin)
+own_cut : (i : ℕ) (emitted : List Message) (end : RunEnd) (origin : Origin) → IsCutGiven emitted end origin → AreOwn emitted (cut_step i end origin)
 unfolding AreOwn
 own_cut i emitted Between origin given = tt
 own_cut i emitted (Within input) origin given = (given.0, tt)
 own_cut i emitted (Failed input) origin given = tt
 
-come_cut : (i : ℕ) (emitted : List Message) (end : End) (origin : Origin) → IsCutGiven emitted end origin → AreStepsCome (cut_step i end origin)
+come_cut : (i : ℕ) (emitted : List Message) (end : RunEnd) (origin : Origin) → IsCutGiven emitted end origin → AreStepsCome (cut_step i end origin)
 unfolding AreStepsCome
 come_cut i emitted Between origin given = tt
 come_cut i emitted (Within input) origin given = (given.1, tt)

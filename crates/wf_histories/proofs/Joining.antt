@@ -6,7 +6,7 @@ use Rattle.std.specs.Prelude.{map}
 use Rattle.wf_actor.specs.Farm.{Step, items}
 use Rattle.wf_actor.specs.declared.actor.Origin.{Origin}
 use Rattle.wf_actor.specs.declared.actor.Origin.TheVariants.{Own, Peer}
-use Rattle.wf_career.specs.Run.{Between, End, Failed, Input, Within, given_to}
+use Rattle.wf_career.specs.Run.{Between, RunEnd, Failed, Input, Within, given_to}
 use Rattle.wf_career.specs.Theorems.{outputs_in}
 use Rattle.wf_codec.specs.Message.{view}
 use Rattle.wf_codec.specs.declared.message.Message.{Message}
@@ -64,7 +64,7 @@ learns_still sent all among action.Retry learns = tt
 learns_still sent all among action.CatchUp learns = tt
 learns_still sent all among (action.Deliver m) learns = (among m learns.0, learns.1)
 
-end_still : (sent all : List Message) → AreAmong sent all → (end : End) → EndLearns sent end → EndLearns all end
+end_still : (sent all : List Message) → AreAmong sent all → (end : RunEnd) → EndLearns sent end → EndLearns all end
 end_still sent all among Between learns = tt
 end_still sent all among (Within input) learns = learns_still sent all among input learns
 end_still sent all among (Failed input) learns = tt

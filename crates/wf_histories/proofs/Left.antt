@@ -3,7 +3,7 @@
 use Rattle.std.proofs.Common.{◌≡◌, ℕ, ◌<◌, List, [], length, Some, refl, sym, ap, subst, ◌∙◌, inl, inr, arith, length-append}
 use Rattle.std.proofs.lemmas.Option.{same_Some}
 use Rattle.wf_ballot.specs.Field.{frame}
-use Rattle.wf_career.specs.Run.{Input, Run, last, End, Between, Within, Failed, HasLeft, IsOpenedFrom, StandForEither}
+use Rattle.wf_career.specs.Run.{Input, Run, last, RunEnd, Between, Within, Failed, HasLeft, IsOpenedFrom, StandForEither}
 use Rattle.wf_def.specs.Definition.{Definition}
 use Rattle.wf_journal.specs.Records.{AreReadOneWay, BeginsWithNone}
 use Rattle.wf_journal.specs.Encoding.{spelling, text_spelling}
@@ -18,7 +18,7 @@ module _ {T : Type 0} (left bytes : List ℕ) (before : StandsAsBefore left byte
   either_before node input (inl stands) = inl (before (stored_of node) stands)
   either_before node input (inr stands) = inr (stands.0, before _ stands.1)
 
-  pub left_before : (run : Run T) (end : End) → HasLeft run end left → HasLeft run end bytes
+  pub left_before : (run : Run T) (end : RunEnd) → HasLeft run end left → HasLeft run end bytes
   left_before run Between has = (has.0, before (stored_of (last run)) has.1)
   left_before run (Within input) has = (has.0, either_before (last run) input has.1)
   left_before run (Failed input) has = (has.0, either_before (last run) input has.1)

@@ -8,7 +8,7 @@ use Rattle.wf_actor.specs.declared.actor.Actor.{Actor}
 use Rattle.wf_actor.specs.declared.actor.Origin.{Origin}
 use Rattle.wf_actor.specs.declared.actor.Origin.TheVariants.{Own, Peer}
 use Rattle.wf_career.specs.Career.{Ended, Item, items_at, items_by, items_in}
-use Rattle.wf_career.specs.Run.{Act, Between, End, Failed, Input, Within, given_to, outputs}
+use Rattle.wf_career.specs.Run.{Act, Between, RunEnd, Failed, Input, Within, given_to, outputs}
 use Rattle.wf_codec.specs.declared.message.Message.{Message}
 use Rattle.wf_codec.specs.declared.message.Message.TheVariants as code
 use Rattle.wf_model.specs.Chosen.{IsIn}
@@ -211,12 +211,12 @@ module _ (sent : List Message) where
 
   -- ---- runs
 
-  pub end_items : (i : ℕ) (end : End) → EndLearns sent end → ItemsLearn (items_at i end)
+  pub end_items : (i : ℕ) (end : RunEnd) → EndLearns sent end → ItemsLearn (items_at i end)
   end_items i Between learns = tt
   end_items i (Within input) learns = (learns, tt)
   end_items i (Failed input) learns = tt
 
-  end_learns : (i : ℕ) (end : End) → ItemsLearn (items_at i end) → EndLearns sent end
+  end_learns : (i : ℕ) (end : RunEnd) → ItemsLearn (items_at i end) → EndLearns sent end
   end_learns i Between learn = tt
   end_learns i (Within input) learn = learn.0
   end_learns i (Failed input) learn = tt

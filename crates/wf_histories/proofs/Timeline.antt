@@ -7,7 +7,7 @@ use Rattle.std.specs.Prelude.{if◌then◌else◌}
 use Rattle.wf_actor.specs.Farm.{AreMembers, Step, items, steps_of}
 use Rattle.wf_actor.specs.declared.actor.Origin.{Origin}
 use Rattle.wf_career.specs.Career.{AreInTurn, IsOneOf}
-use Rattle.wf_career.specs.Run.{Act, Between, End, Failed, HasLeft, IsAct, IsOpenedFrom, Run, Within, last, last_of}
+use Rattle.wf_career.specs.Run.{Act, Between, RunEnd, Failed, HasLeft, IsAct, IsOpenedFrom, Run, Within, last, last_of}
 use Rattle.wf_codec.specs.declared.message.Message.{Message}
 use Rattle.wf_node.specs.Node.{Node}
 use Rattle.wf_rejoin_guard.specs.Learned.{AreLooselyPossible, IsGone, IsLooselyPossible}
@@ -30,12 +30,12 @@ of_members n p (step ∷ steps) more less are members = (subst (λ k. k < n) (sy
 still_turn : (n : ℕ) (sent : List Message) (rest : List Step) → AreInTurn n sent (items rest) → AreInTurn n (sent ++ []) (items rest)
 still_turn n sent rest turn = subst (λ (ms : List Message). AreInTurn n ms (items rest)) (sym (append-nil sent)) turn
 
-cut_of : (i : ℕ) (end : End) (origin : Origin) → AreStepsOf i (cut_step i end origin)
+cut_of : (i : ℕ) (end : RunEnd) (origin : Origin) → AreStepsOf i (cut_step i end origin)
 cut_of i Between origin = tt
 cut_of i (Within input) origin = (refl, tt)
 cut_of i (Failed input) origin = tt
 
-end_turn : (n : ℕ) (sent : List Message) (i : ℕ) (end : End) (origin : Origin) (rest : List Step) → AreInTurn n sent (items (cut_step i end origin ++ rest)) →
+end_turn : (n : ℕ) (sent : List Message) (i : ℕ) (end : RunEnd) (origin : Origin) (rest : List Step) → AreInTurn n sent (items (cut_step i end origin ++ rest)) →
     IsCutInputSent sent end × AreInTurn n (sent ++ []) (items rest)
 end_turn n sent i Between origin rest turn = (tt, still_turn n sent rest turn)
 end_turn n sent i (Within input) origin rest turn = (turn.1, turn.2)
@@ -174,7 +174,7 @@ module _ {T : Type 0} where
     MayAct (Up run) act = IsAct tapes (last run) act
     MayAct Lost act = ⊥
 
-    abbrev MayEnd : ProcessState T → End → List ℕ → Type 0
+    abbrev MayEnd : ProcessState T → RunEnd → List ℕ → Type 0
     MayEnd (Down bytes) end left = ⊥
     MayEnd (Up run) end left = HasLeft run end left
     MayEnd Lost end left = ⊥

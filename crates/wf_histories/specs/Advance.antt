@@ -39,7 +39,7 @@ module _ {T : Type 0} (tapes : Tape T) where
   last_cut i (first ∷ (next ∷ later)) = last_cut i (next ∷ later)
 
   -- It is one of node i's, in its first run, and has made no act.
-  pub record HasBegun (n i : ℕ) (left : List ℕ) (processes : List (NodeProcess tapes)) (p : NodeProcess tapes) : Type 0 where
+  pub record IsInFirstRun (n i : ℕ) (left : List ℕ) (processes : List (NodeProcess tapes)) (p : NodeProcess tapes) : Type 0 where
     pub is : IsProcessOf tapes n i p
     pub first : p.over ≡ 0
     pub none : p.made ≡ 0
@@ -47,7 +47,7 @@ module _ {T : Type 0} (tapes : Tape T) where
 
   abbrev pub StartAdvances : Type 0
   StartAdvances = (n i : ℕ) (before : ℕ → Career T) (sent : List Message) (folders : ℕ → List (NodeProcess tapes)) (steps : List Step) (p : NodeProcess tapes) →
-      AreNodeProcesses tapes n before sent folders steps → i < n → HasBegun n i (left (before i)) (folders i) p → AreSentBefore (sent ++ outputs_in (items steps)) (last_cut i (folders i)) →
+      AreNodeProcesses tapes n before sent folders steps → i < n → IsInFirstRun n i (left (before i)) (folders i) p → AreSentBefore (sent ++ outputs_in (items steps)) (last_cut i (folders i)) →
       AreNodeProcesses tapes n before sent (with_folder folders i (folders i ++ p ∷ [])) (steps ++ last_cut i (folders i))
 
   -- ---- an act

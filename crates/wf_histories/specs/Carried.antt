@@ -28,8 +28,8 @@ AreStepsCome (step ∷ steps) = AreCome step.origin (given_to step.takes) × Are
 
 -- All bytes that had come on the connection are a beginning of what was sent on some connection,
 -- into which only messages were put that are among these. Where these are all messages that any
--- node had returned by then, that is TCP's promise: a node puts in no others (`always_sent` of
--- `wf_wire`).
+-- node had returned by then, that is TCP's promise: what had come by then is a beginning of all
+-- that has come (`pop` of `wf_wire`), and a node puts in no others (`always_sent`).
 pub record IsSentBefore (sent : List Message) {peer : ℕ} {stream : List (Vec ℕ Global × ReceiverState)} {m : model.Message Definition} (come : HasComeFrom peer stream m) : Type 0 where
   pub bytes : List ℕ
   pub put : List (model.Message Definition)

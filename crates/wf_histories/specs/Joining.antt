@@ -11,7 +11,7 @@ use Rattle.wf_rejoin_guard.specs.Learned.{EndLearns}
 use Rattle.wf_store.specs.Call.{Call, replaced}
 use Rattle.wf_store.specs.declared.file_name.FileName.TheVariants.{Joins}
 use Rattle.wf_tape.specs.declared.tape.Tape.{Ghosts as Tape}
-use Rattle.wf_histories.specs.Advance.{HasBegun, HasNextRun, IsNextAct, in_next_run, one_act_more}
+use Rattle.wf_histories.specs.Advance.{IsInFirstRun, HasNextRun, IsNextAct, in_next_run, one_act_more}
 use Rattle.wf_histories.specs.Carried.{ArePeersSent, AreSentBefore}
 use Rattle.wf_histories.specs.Joiners.{HasEmptied, HaveJoined, HaveOnlyJoined}
 use Rattle.wf_histories.specs.Nodes.{AreOnFolder, NodeProcess, made_by}
@@ -28,7 +28,7 @@ module _ {T : Type 0} (tapes : Tape T) where
 
   -- the first one starts, on an empty tape
   abbrev pub FirstJoins : Type 0
-  FirstJoins = (n i : ℕ) (sent : List Message) (p : NodeProcess tapes) → HasBegun tapes n i [] [] p → IsSome p.has.plan.joining → AreJoining n i sent [] p
+  FirstJoins = (n i : ℕ) (sent : List Message) (p : NodeProcess tapes) → IsInFirstRun tapes n i [] [] p → IsSome p.has.plan.joining → AreJoining n i sent [] p
 
   -- it takes the next act of its run, and hears of peers what was sent before
   abbrev pub ActJoins : Type 0
@@ -47,12 +47,12 @@ module _ {T : Type 0} (tapes : Tape T) where
   -- it left, and joins,
   abbrev pub NextJoins : Type 0
   NextJoins = (n i : ℕ) (sent : List Message) (earlier : List (NodeProcess tapes)) (last p : NodeProcess tapes) → AreJoining n i sent earlier last → EndLearns sent last.end →
-      HasBegun tapes n i [] (earlier ++ last ∷ []) p → IsSome p.has.plan.joining → AreJoining n i sent (earlier ++ last ∷ []) p
+      IsInFirstRun tapes n i [] (earlier ++ last ∷ []) p → IsSome p.has.plan.joining → AreJoining n i sent (earlier ++ last ∷ []) p
 
   -- or need not join.
   abbrev pub NextVotes : Type 0
   NextVotes = (n i : ℕ) (sent : List Message) (earlier : List (NodeProcess tapes)) (last next : NodeProcess tapes) → AreJoining n i sent earlier last → EndLearns sent last.end →
-      HasBegun tapes n i [] (earlier ++ last ∷ []) next → HaveJoined tapes n i sent earlier last next
+      IsInFirstRun tapes n i [] (earlier ++ last ∷ []) next → HaveJoined tapes n i sent earlier last next
 
   -- A process whose calls have one by which the file `joins` was emptied, has emptied it.
   abbrev pub CallsShowEmptied : Type 0

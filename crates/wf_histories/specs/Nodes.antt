@@ -6,7 +6,7 @@ use Rattle.wf_actor.specs.Sent.{AreCome}
 use Rattle.wf_actor.specs.declared.actor.Origin.{Origin}
 use Rattle.wf_career.specs.Career.{Career, values}
 use Rattle.wf_career.specs.Continuation.{left}
-use Rattle.wf_career.specs.Run.{End, Between, Within, Failed, HasLeft, given_to, outputs}
+use Rattle.wf_career.specs.Run.{RunEnd, Between, Within, Failed, HasLeft, given_to, outputs}
 use Rattle.wf_codec.specs.declared.message.Message.{Message}
 use Rattle.wf_def.specs.Definition.{Definition}
 use Rattle.wf_line.specs.declared.node_line.NodeLine.{NodeLine}
@@ -26,7 +26,7 @@ StandsAsBefore old new = (stored : DurableState Definition) → StandsFor stored
 
 -- the step within which the process of node i ended, if it was within one: what it was given then
 -- came from there
-abbrev pub cut_step : ℕ → End → Origin → List Step
+abbrev pub cut_step : ℕ → RunEnd → Origin → List Step
 cut_step i Between origin = []
 cut_step i (Within input) origin = record { process = i; takes = input; origin = origin; outputs = [] } ∷ []
 cut_step i (Failed input) origin = []
@@ -34,7 +34,7 @@ cut_step i (Failed input) origin = []
 -- What that step was given is one of these messages, if it was the node's own, and came on a
 -- connection, if it was a peer's. Each step of a process requires that; but no clause says it of a
 -- step within which the process was killed, since that never returned.
-abbrev pub IsCutGiven : List Message → End → Origin → Type 0
+abbrev pub IsCutGiven : List Message → RunEnd → Origin → Type 0
 IsCutGiven emitted Between origin = ⊤
 IsCutGiven emitted (Within input) origin = AreOwnAmong emitted origin (given_to input) × AreCome origin (given_to input)
 IsCutGiven emitted (Failed input) origin = ⊤
@@ -55,7 +55,7 @@ module _ {T : Type 0} (tapes : Tape T) where
     pub come : ComesOf tapes has.on.voter.process.ended.items has.on.voter.process.actor
     pub over : ℕ
     pub made : ℕ
-    pub end : End
+    pub end : RunEnd
     pub cut_from : Origin
     pub left : List ℕ
 
@@ -86,7 +86,7 @@ module _ {T : Type 0} (tapes : Tape T) where
   AreOnFolder n i left [] = ⊤
   AreOnFolder n i left (p ∷ later) = IsProcessOf n i p × StandsAsBefore left (bytes_read p) × HasEndedBefore later p × AreOnFolder n i p.left later
 
-  abbrev pub cut_before : ℕ → List NodeProcess → End → Origin → List Step
+  abbrev pub cut_before : ℕ → List NodeProcess → RunEnd → Origin → List Step
   cut_before i [] end origin = []
   cut_before i (next ∷ later) end origin = cut_step i end origin
 

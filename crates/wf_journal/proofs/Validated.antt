@@ -10,7 +10,7 @@ use Rattle.wf_canon.specs.Canon.{most_canon_bytes}
 use Rattle.wf_canon.specs.TextMeaning.{OneTextOneMap}
 use Rattle.wf_frame.specs.declared.fault.FrameFault.{FrameFault}
 use Rattle.wf_frame.specs.declared.fault.FrameFault.TheVariants as frames
-use Rattle.wf_frame.specs.Frame.{Found, HasBody, frame_front}
+use Rattle.wf_frame.specs.Frame.{FrameFound, HasBody, frame_front}
 use Rattle.wf_frame.specs.Frame as parts
 use Rattle.wf_frame.specs.FrameTheorems as frame_theorems
 use Rattle.wf_frame.specs.Layout.{Layout, fits}
@@ -49,17 +49,17 @@ cut_of r spelled after bytes encodes e =
     let begins : bytes ≡ frame (version_byte encodes.version) (texts r).byte (row_bytes (texts r)) ++ after = e ∙ ap (λ (t : List ℕ). t ++ after) encodes.spelled in
     ap (frame_front format) begins ∙ frame_theorems.frame_again format is_format (version_byte encodes.version) (texts r).byte (row_bytes (texts r)) after (body_of_record encodes.version r encodes.is_record encodes.short)
 
-abbrev ok : Found → Result Found FrameFault
+abbrev ok : FrameFound → Result FrameFound FrameFault
 ok x = Ok x
 
-ok_same : (x y : Found) → ok x ≡ ok y → x ≡ y
+ok_same : (x y : FrameFound) → ok x ≡ ok y → x ≡ y
 ok_same x y e = cc
 
 some_same : (x y : Row (List ℕ)) → Some x ≡ Some y → x ≡ y
 some_same x y e = cc
 
 -- what is read of a frame
-abbrev read_of : Found → Option (Row (List ℕ))
+abbrev read_of : FrameFound → Option (Row (List ℕ))
 read_of found = read_row (kinds most_canon_bytes) found.1 found.2
 
 -- no encoding is a prefix of another's
@@ -76,7 +76,7 @@ none_begins_another one_map q r a b after_a after_b encodes_a encodes_b e =
     let same = frame_theorems.one_frame format is_format v (texts q).byte w (texts r).byte bytes_q bytes_r after_a after_b
     (body_of_record encodes_a.version q encodes_a.is_record encodes_a.short) (body_of_record encodes_b.version r encodes_b.is_record encodes_b.short) same_frames in
     let same_texts : texts q ≡ texts r = some_same (texts q) (texts r) (sym (row_of_record q encodes_a.is_record) ∙ ap read_of same ∙ row_of_record r encodes_b.is_record) in
-    let same_bytes : a ≡ b = encodes_a.spelled ∙ ap (λ (x : Found). frame x.0 x.1 x.2) same ∙ sym encodes_b.spelled in (
+    let same_bytes : a ≡ b = encodes_a.spelled ∙ ap (λ (x : FrameFound). frame x.0 x.1 x.2) same ∙ sym encodes_b.spelled in (
       texts_apart one_map q r encodes_a.is_record encodes_b.is_record same_texts,
       same_bytes,
       sym (drop-append_seam a after_a) ∙ ap (drop (length a)) e ∙ ap (λ (t : List ℕ). drop (length t) (b ++ after_b)) same_bytes ∙ drop-append_seam b after_b,
@@ -95,7 +95,7 @@ version_of v byte body has =
     option_and_then_some (λ version. layout_of (kinds (most_text version)) byte) (version_of_byte v) has.layout has.has_kind (λ version is goes.
     record { version = version; version_is = version_stands v version is; has_kind = goes })
 
-begins_by : {X : Type 0} (view : X → Record Definition) (x : X × ℕ) (bytes : List ℕ) (r : Result Found FrameFault) → frame_front format bytes ≡ r → AreBytes bytes →
+begins_by : {X : Type 0} (view : X → Record Definition) (x : X × ℕ) (bytes : List ℕ) (r : Result FrameFound FrameFault) → frame_front format bytes ≡ r → AreBytes bytes →
     IsRecordValidated view (Ok x) r → BeginsWith bytes (view x.0) x.1
 unfolding text_spelling
 begins_by view x bytes (Err fault) is are_bytes validated = absurd cc
@@ -144,10 +144,10 @@ is_short frames.BadKind e = absurd cc
 is_short frames.TooLong e = absurd cc
 is_short frames.BadLength e = absurd cc
 
-abbrev frame_error : FrameFault → Result Found FrameFault
+abbrev frame_error : FrameFault → Result FrameFound FrameFault
 frame_error fault = Err fault
 
-torn_by : {X : Type 0} (view : X → Record Definition) (result : Result (X × ℕ) RecordFault) (r : Result Found FrameFault) → IsRecordValidated view result r → result ≡ Err Torn → r ≡ Err frames.Short
+torn_by : {X : Type 0} (view : X → Record Definition) (result : Result (X × ℕ) RecordFault) (r : Result FrameFound FrameFault) → IsRecordValidated view result r → result ≡ Err Torn → r ≡ Err frames.Short
 torn_by {X} view result (Err fault) validated torn = ap frame_error (is_short fault (err_same {X = X × ℕ} (record_fault fault) Torn (sym validated ∙ torn)))
 torn_by {X} view result (Ok found) validated torn =
     absurd (subst (λ (a : Result (X × ℕ) RecordFault). ReadsBody (λ (x : X × ℕ). view x.0) a (read_of found)) torn (validated.0 most_canon_bytes))
@@ -187,7 +187,7 @@ not_torn_fault fault of_bytes torn = subst IsFaultOfBytes torn of_bytes
 frame_same : (d e : FrameFault) → frame_error d ≡ frame_error e → d ≡ e
 frame_same d e same = cc
 
-bad_by : {X : Type 0} (view : X → Record Definition) (fault : RecordFault) (bytes : List ℕ) (r : Result Found FrameFault) → frame_front format bytes ≡ r → IsRecordValidated view (Err fault) r →
+bad_by : {X : Type 0} (view : X → Record Definition) (fault : RecordFault) (bytes : List ℕ) (r : Result FrameFound FrameFault) → frame_front format bytes ≡ r → IsRecordValidated view (Err fault) r →
     IsFaultOfBytes fault → (bytes ≡ [] → ⊥) → IsBad bytes
 bad_by {X} view fault bytes (Err found) is validated of_bytes some =
     let same : fault ≡ record_fault found = err_same {X = X × ℕ} fault (record_fault found) validated in

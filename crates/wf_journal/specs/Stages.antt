@@ -3,7 +3,7 @@ use Rattle.std.specs.Prelude.{◌≡◌, ℕ, ◌+◌, List, length, Option, Som
 use Rattle.wf_frame.specs.declared.fault.FrameFault.{FrameFault}
 use Rattle.wf_frame.specs.declared.fault.FrameFault.TheVariants.{Short}
 use Rattle.wf_frame.specs.Row.{Row, read_row}
-use Rattle.wf_frame.specs.Frame.{Found}
+use Rattle.wf_frame.specs.Frame.{FrameFound}
 use Rattle.wf_model.specs.DurableState.{Record}
 use Rattle.wf_def.specs.Definition.{Definition}
 use Rattle.wf_canon.specs.Canon.{canon}
@@ -39,7 +39,7 @@ ReadsBody view (Err fault) read = ⊥
 
 -- The frame's error, or else the record of its body, and the length of the whole. What is read
 -- doesn't depend on how long a text may be.
-abbrev pub IsRecordValidated : {X : Type 0} → (X → Record Definition) → Result (X × ℕ) RecordFault → Result Found FrameFault → Type 0
+abbrev pub IsRecordValidated : {X : Type 0} → (X → Record Definition) → Result (X × ℕ) RecordFault → Result FrameFound FrameFault → Type 0
 IsRecordValidated view result split = MatchResult split
     (λ frame. ((most : ℕ) → ReadsBody (λ x. view x.0) result (read_row (kinds most) frame.1 frame.2)) × IfOk result (λ x. x.1 ≡ header_length + length frame.2))
     (λ fault. result ≡ Err (record_fault fault))

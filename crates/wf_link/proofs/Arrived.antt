@@ -12,10 +12,10 @@ use Rattle.wf_mail.specs.Inbox.{InboxState, Open, Failed, IsFed, pending_bytes}
 use Rattle.wf_mail.proofs.Split.{joined_reads}
 use Rattle.wf_mail.proofs.WholeMessages.{nothing_is_part}
 use Rattle.wf_mail.specs.Stream.{Reads, Splits}
-use Rattle.wf_link.specs.Arrival.{Arrives, HasReceived, HasTaken, HaveArrived, came_out}
+use Rattle.wf_link.specs.Arrival.{Arrives, HasArrived, HasTaken, HaveArrived, came_out}
 use Rattle.wf_link.specs.declared.receiver.Arrival.{Arrival}
 
-pub nothing_received : (arrival : Arrival) → arrival.inbox ≡ Open [] → arrival.messages.items ≡ [] → HasReceived [] arrival
+pub nothing_received : (arrival : Arrival) → arrival.inbox ≡ Open [] → arrival.messages.items ≡ [] → HasArrived [] arrival
 nothing_received arrival fresh none = record {
   rest = [];
   keeps = fresh;
@@ -58,7 +58,7 @@ arrived_none left arrival = record {
   bytes = [];
   size = refl;
   consumed = consumes_none left [] refl;
-  taken = λ earlier had. subst (λ (xs : List ℕ). HasReceived xs arrival) (sym (append-nil earlier)) had;
+  taken = λ earlier had. subst (λ (xs : List ℕ). HasArrived xs arrival) (sym (append-nil earlier)) had;
 }
 
 pub arrived_more : (count some all : ℕ) (left between left_after : Option (List ℕ)) (before middle after : Arrival) → all ≡ count + some → Arrives count left between before middle → Arrives some between left_after middle after
@@ -68,11 +68,11 @@ arrived_more count some all left between left_after before middle after sum firs
   bytes = first.bytes ++ second.bytes;
   size = length-append first.bytes second.bytes ∙ ap (λ n. n + length second.bytes) first.size ∙ ap (λ n. count + n) second.size ∙ sym sum;
   consumed = consumes_more left between left_after first.bytes second.bytes first.consumed second.consumed;
-  taken = λ earlier had. subst (λ (xs : List ℕ). HasReceived xs after) (append_assoc earlier first.bytes second.bytes) (second.taken (earlier ++ first.bytes) (first.taken earlier had));
+  taken = λ earlier had. subst (λ (xs : List ℕ). HasArrived xs after) (append_assoc earlier first.bytes second.bytes) (second.taken (earlier ++ first.bytes) (first.taken earlier had));
 }
 
 -- the first bytes of all
-pub first_arrived : (count : ℕ) (left left_after : Option (List ℕ)) (fresh arrival : Arrival) → HasReceived [] fresh → Arrives count left left_after fresh arrival → HaveArrived count left left_after arrival
+pub first_arrived : (count : ℕ) (left left_after : Option (List ℕ)) (fresh arrival : Arrival) → HasArrived [] fresh → Arrives count left left_after fresh arrival → HaveArrived count left left_after arrival
 unfolding HasTaken
 first_arrived count left left_after fresh arrival nothing arrives = record { bytes = arrives.bytes; size = arrives.size; consumed = arrives.consumed; received = arrives.taken [] nothing }
 
@@ -90,11 +90,11 @@ empty_list (x ∷ xs) short = absurd (omega (arith, short))
 keeps_nothing : (rest : List ℕ) (state : InboxState) → state ≡ Open rest → pending_bytes state ≡ 0 → rest ≡ []
 keeps_nothing rest state is none = empty_list rest (sym (ap pending_bytes is) ∙ none)
 
-pub one_came_out : (bytes : List ℕ) (arrival : Arrival) (message : code.Message) → pending_bytes arrival.inbox ≡ 0 → arrival.messages.items ≡ message ∷ [] → HasReceived bytes arrival → Reads bytes (view message ∷ []) []
+pub one_came_out : (bytes : List ℕ) (arrival : Arrival) (message : code.Message) → pending_bytes arrival.inbox ≡ 0 → arrival.messages.items ≡ message ∷ [] → HasArrived bytes arrival → Reads bytes (view message ∷ []) []
 one_came_out bytes arrival message none is had =
     let first : Reads bytes (map view (message ∷ [])) had.rest = subst (λ (ms : List code.Message). Reads bytes (map view ms) had.rest) is had.reads in
     subst (λ (rest : List ℕ). Reads bytes (view message ∷ []) rest) (keeps_nothing had.rest arrival.inbox had.keeps none) first
 
-pub none_came_out : (bytes : List ℕ) (arrival : Arrival) → length arrival.messages.items ≡ 0 → HasReceived bytes arrival → (rest : List ℕ) × Reads bytes [] rest
+pub none_came_out : (bytes : List ℕ) (arrival : Arrival) → length arrival.messages.items ≡ 0 → HasArrived bytes arrival → (rest : List ℕ) × Reads bytes [] rest
 none_came_out bytes arrival none had =
     (had.rest, subst (λ (ms : List code.Message). Reads bytes (map view ms) had.rest) (empty_list arrival.messages.items none) had.reads)

@@ -12,8 +12,8 @@ use Rattle.wf_mail.specs.Inbox.{InboxState, IsBroken, pending_bytes}
 use Rattle.wf_mail.proofs.Split.{joined_breaks, split_one_way}
 use Rattle.wf_mail.specs.Stream.{Breaks}
 use Rattle.wf_codec.specs.declared.fault.DecodeFault.{DecodeFault}
-use Rattle.wf_link.specs.Arrival.{Arrives, HasReceived, HasTaken, came_out}
-use Rattle.wf_link.specs.Cause.{BeginsNoMessage, BreaksOff, ComesOtherwise, EndsEarly, FailsFor, CrossesOrFails, HasBroken, IsAny, IsOneMessage, IsUnpassed, IsUnread}
+use Rattle.wf_link.specs.Arrival.{Arrives, HasArrived, HasTaken, came_out}
+use Rattle.wf_link.specs.Cause.{BeginsNoMessage, IsCutOff, ComesOtherwise, EndsEarly, FailsFor, CrossesOrFails, BreaksArrival, IsAny, IsOneMessage, IsUnpassed, IsUnread}
 use Rattle.wf_link.specs.declared.receiver.Arrival.{Arrival}
 
 -- ---- outcomes
@@ -56,16 +56,16 @@ on_lost (Err fault) cause is = cause
 
 -- ---- a piece
 
-pub broken_piece : (piece : List ℕ) (before : Arrival) (fault : DecodeFault) (after : InboxState) → IsBroken before.inbox piece fault after → HasBroken piece before
-unfolding HasBroken
+pub broken_piece : (piece : List ℕ) (before : Arrival) (fault : DecodeFault) (after : InboxState) → IsBroken before.inbox piece fault after → BreaksArrival piece before
+unfolding BreaksArrival
 broken_piece piece before fault after is = λ earlier had.
     let breaks = subst (λ (s : InboxState). IsBroken s piece fault after) had.keeps is in
     (fault, joined_breaks [] earlier piece (came_out before) had.rest fault had.reads breaks.0)
 
-pub breaks_off : (count : ℕ) (left left_after : Option (List ℕ)) (piece empty : List ℕ) (before : Arrival) → empty ≡ [] → ReadsPiece count left left_after empty piece → HasBroken piece before → BreaksOff left left_after before
+pub breaks_off : (count : ℕ) (left left_after : Option (List ℕ)) (piece empty : List ℕ) (before : Arrival) → empty ≡ [] → ReadsPiece count left left_after empty piece → BreaksArrival piece before → IsCutOff left left_after before
 breaks_off count left left_after piece empty before none (bytes, size, consumed, is) broken =
     let same : piece ≡ bytes = is ∙ ap (λ front. front ++ bytes) none in
-    (bytes, consumed, subst (λ (xs : List ℕ). HasBroken xs before) same broken)
+    (bytes, consumed, subst (λ (xs : List ℕ). BreaksArrival xs before) same broken)
 
 -- a read that gave nothing
 pub ends_early : (room : ℕ) (left left_after : Option (List ℕ)) (piece empty : List ℕ) → 0 < room → ReadsPiece 0 left left_after empty piece → IsAtEnd left_after → EndsEarly room left left_after
@@ -75,8 +75,8 @@ ends_early room left left_after piece empty some (bytes, size, consumed, is) end
 
 -- ---- a piece after those before
 
-broken_later : (count : ℕ) (left between left_after : Option (List ℕ)) (before middle : Arrival) → Arrives count left between before middle → BreaksOff between left_after middle → BreaksOff left left_after before
-unfolding HasBroken HasTaken
+broken_later : (count : ℕ) (left between left_after : Option (List ℕ)) (before middle : Arrival) → Arrives count left between before middle → IsCutOff between left_after middle → IsCutOff left left_after before
+unfolding BreaksArrival HasTaken
 broken_later count left between left_after before middle arrives (bytes, consumed, broken) = (
   arrives.bytes ++ bytes,
   consumes_more left between left_after arrives.bytes bytes arrives.consumed consumed,
@@ -122,9 +122,9 @@ piece_fails faults.Lost count size all writes between_writes writes_after failur
     unpassed_later count size all writes between_writes writes_after failures between_failures failures_after left between left_after before middle within calm.0 calm.1 arrives is
 
 -- the first bytes of all
-pub lost_first : (size writes writes_after failures failures_after : ℕ) (left left_after : Option (List ℕ)) (fresh : Arrival) → HasReceived [] fresh → IsUnpassed size writes writes_after failures failures_after left left_after fresh
+pub lost_first : (size writes writes_after failures failures_after : ℕ) (left left_after : Option (List ℕ)) (fresh : Arrival) → HasArrived [] fresh → IsUnpassed size writes writes_after failures failures_after left left_after fresh
     → Rises writes writes_after ⊎ (Rises failures failures_after ⊎ (EndsEarly size left left_after ⊎ ComesOtherwise size IsAny left left_after))
-unfolding HasBroken
+unfolding BreaksArrival
 lost_first size writes writes_after failures failures_after left left_after fresh nothing (inl rises) = inl rises
 lost_first size writes writes_after failures failures_after left left_after fresh nothing (inr (inl rises)) = inr (inl rises)
 lost_first size writes writes_after failures failures_after left left_after fresh nothing (inr (inr (inl end))) = inr (inr (inl end))
@@ -142,12 +142,12 @@ lost_more size other is left left_after same (inr (inr (inr (bytes, consumed, in
 lost_more size other is left left_after same (inr (inr (inr (bytes, consumed, inr (long, none))))) = absurd (none tt)
 
 -- of one message one arrived, and nothing is kept behind it
-pub one_received : (bytes : List ℕ) (arrival : Arrival) → HasReceived bytes arrival → IsOneMessage bytes → (length arrival.messages.items ≡ 1) × (pending_bytes arrival.inbox ≡ 0)
+pub one_received : (bytes : List ℕ) (arrival : Arrival) → HasArrived bytes arrival → IsOneMessage bytes → (length arrival.messages.items ≡ 1) × (pending_bytes arrival.inbox ≡ 0)
 one_received bytes arrival had (message, reads) =
     let both = split_one_way bytes (came_out arrival) (message ∷ []) had.rest [] had.reads reads in
     (sym (length-map arrival.messages.items view) ∙ ap length both.0, ap pending_bytes had.keeps ∙ ap length both.1)
 
-pub none_received : (bytes : List ℕ) (arrival : Arrival) → HasReceived bytes arrival → BeginsNoMessage bytes → length arrival.messages.items ≡ 0
+pub none_received : (bytes : List ℕ) (arrival : Arrival) → HasArrived bytes arrival → BeginsNoMessage bytes → length arrival.messages.items ≡ 0
 none_received bytes arrival had (rest, reads) =
     let both = split_one_way bytes (came_out arrival) [] had.rest rest had.reads reads in
     sym (length-map arrival.messages.items view) ∙ ap length both.0

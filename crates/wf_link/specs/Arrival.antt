@@ -14,14 +14,14 @@ came_out arrival = map view arrival.messages.items
 
 -- These bytes have arrived: they are the encodings of the messages, followed by what the inbox
 -- keeps, which begins with none.
-pub record HasReceived (bytes : List ℕ) (arrival : Arrival) : Type 0 where
+pub record HasArrived (bytes : List ℕ) (arrival : Arrival) : Type 0 where
   pub rest : List ℕ
   pub keeps : arrival.inbox ≡ Open rest
   pub reads : Reads bytes (came_out arrival) rest
 
 -- whatever had arrived, these bytes have arrived after it
 unfoldable pub HasTaken : List ℕ → Arrival → Arrival → Type 0
-HasTaken bytes before after = (earlier : List ℕ) → HasReceived earlier before → HasReceived (earlier ++ bytes) after
+HasTaken bytes before after = (earlier : List ℕ) → HasArrived earlier before → HasArrived (earlier ++ bytes) after
 
 -- This many bytes were taken from the reader's, and have arrived.
 pub record Arrives (count : ℕ) (left left_after : Option (List ℕ)) (before after : Arrival) : Type 0 where
@@ -35,4 +35,4 @@ pub record HaveArrived (count : ℕ) (left left_after : Option (List ℕ)) (arri
   pub bytes : List ℕ
   pub size : length bytes ≡ count
   pub consumed : Consumes left left_after bytes
-  pub received : HasReceived bytes arrival
+  pub received : HasArrived bytes arrival

@@ -10,7 +10,7 @@ use Rattle.wf_stream.specs.declared.stream.Sink.{Ghosts as Sink}
 use Rattle.wf_stream.specs.declared.stream.Source.{Ghosts as Source}
 use Rattle.wf_mail.specs.Stream.{Breaks, Reads}
 use Rattle.wf_codec.specs.declared.fault.DecodeFault.{DecodeFault}
-use Rattle.wf_link.specs.Arrival.{HasReceived}
+use Rattle.wf_link.specs.Arrival.{HasArrived}
 use Rattle.wf_link.specs.declared.receiver.Arrival.{Arrival}
 
 -- an allocation failure leaves the ends like that, and a loss has this cause
@@ -59,16 +59,16 @@ module _ {K S : Type 0} (sinks : Sink K) (sources : Source S) where
 -- ---- for the crate's own contracts
 
 -- whatever had arrived, with these bytes after it it has an error
-unfoldable pub HasBroken : List ℕ → Arrival → Type 0
-HasBroken bytes before = (earlier : List ℕ) → HasReceived earlier before → GoesWrong (earlier ++ bytes)
+unfoldable pub BreaksArrival : List ℕ → Arrival → Type 0
+BreaksArrival bytes before = (earlier : List ℕ) → HasArrived earlier before → GoesWrong (earlier ++ bytes)
 
 -- such bytes were taken from the reader's
-abbrev pub BreaksOff : Option (List ℕ) → Option (List ℕ) → Arrival → Type 0
-BreaksOff left left_after before = (bytes : List ℕ) × Consumes left left_after bytes × HasBroken bytes before
+abbrev pub IsCutOff : Option (List ℕ) → Option (List ℕ) → Arrival → Type 0
+IsCutOff left left_after before = (bytes : List ℕ) × Consumes left left_after bytes × BreaksArrival bytes before
 
 -- a read failed, the reader ended after fewer bytes, or they have an error
 abbrev pub IsUnread : ℕ → ℕ → ℕ → Option (List ℕ) → Option (List ℕ) → Arrival → Type 0
-IsUnread size failures failures_after left left_after before = Rises failures failures_after ⊎ (EndsEarly size left left_after ⊎ BreaksOff left left_after before)
+IsUnread size failures failures_after left left_after before = Rises failures failures_after ⊎ (EndsEarly size left left_after ⊎ IsCutOff left left_after before)
 
 -- a write failed, or that
 abbrev pub IsUnpassed : ℕ → ℕ → ℕ → ℕ → ℕ → Option (List ℕ) → Option (List ℕ) → Arrival → Type 0

@@ -4,8 +4,8 @@ ghost use Rattle.std.specs.Prelude.{◌<◌, ◌≡◌, ◌≢◌, ◌≤◌, �
 ghost use Rattle.std.specs.IoError.{error_kind};
 ghost use Rattle.wf_codec.specs.Message.{view};
 ghost use Rattle.wf_farm.specs.declared.carrier.CarrierFault.TheVariants as faults;
-ghost use Rattle.wf_link.specs.Arrival.{Arrives, HasReceived, HasTaken};
-ghost use Rattle.wf_link.specs.Cause.{BeginsNoMessage, CrossesOrFails, HasBroken, IsOneMessage, IsUnread};
+ghost use Rattle.wf_link.specs.Arrival.{Arrives, HasArrived, HasTaken};
+ghost use Rattle.wf_link.specs.Cause.{BeginsNoMessage, CrossesOrFails, BreaksArrival, IsOneMessage, IsUnread};
 ghost use Rattle.wf_mail.specs.Stream.{Reads};
 
 use std::alloc::Global;
@@ -26,7 +26,7 @@ pub struct Arrival {
 /// Nothing has arrived.
 #[tactic(auto, using(crate::proofs::Arrived::nothing_received))]
 pub fn nothing(alloc: Global) -> Arrival
-    ensures { HasReceived [] result }
+    ensures { HasArrived [] result }
 {
     Arrival {
         inbox: Inbox::new(alloc),
@@ -100,7 +100,7 @@ fn why_unread(error: io::Error) -> CarrierFault
 /// A piece arrives. Err: an allocation failed, or the bytes aren't messages.
 fn take(arrival: &mut Arrival, piece: &[u8]) -> Result<(), CarrierFault>
     ensures taken { OnOk result (HasTaken piece.now arrival.old arrival.new) }
-    ensures broken { result ≡ Err faults.Lost → HasBroken piece.now arrival.old }
+    ensures broken { result ≡ Err faults.Lost → BreaksArrival piece.now arrival.old }
 {
     match arrival.inbox.feed(piece) {
         Ok(messages) => keep(&mut arrival.messages, messages),
@@ -135,9 +135,9 @@ fn keep(messages: &mut Vec<Message>, mut more: Vec<Message>) -> Result<(), Carri
 
 /// The message that arrived, if it is one, and nothing behind it.
 pub fn only_message(arrival: Arrival) -> Result<Message, CarrierFault>
-    ensures one { (bytes : List ℕ) → HasReceived bytes arrival →
+    ensures one { (bytes : List ℕ) → HasArrived bytes arrival →
         IfOk result (λ message. Reads bytes (view message ∷ []) []) }
-    ensures other { (bytes : List ℕ) → HasReceived bytes arrival →
+    ensures other { (bytes : List ℕ) → HasArrived bytes arrival →
         OnErr result (IsOneMessage bytes → ⊥) }
     ensures lost { IfErr result (λ fault. fault ≡ faults.Lost) }
 {
@@ -174,9 +174,9 @@ fn only(mut messages: Vec<Message>) -> Result<Message, CarrierFault>
 /// Err: a message arrived.
 #[tactic(auto, using(crate::proofs::Arrived::none_came_out))]
 pub fn no_message(arrival: Arrival) -> Result<(), CarrierFault>
-    ensures none { (bytes : List ℕ) → HasReceived bytes arrival →
+    ensures none { (bytes : List ℕ) → HasArrived bytes arrival →
         OnOk result (BeginsNoMessage bytes) }
-    ensures other { (bytes : List ℕ) → HasReceived bytes arrival →
+    ensures other { (bytes : List ℕ) → HasArrived bytes arrival →
         OnErr result (BeginsNoMessage bytes → ⊥) }
     ensures lost { IfErr result (λ fault. fault ≡ faults.Lost) }
 {

@@ -5,6 +5,7 @@ use Rattle.std.specs.Prelude.{◌↔◌, IsSome, IsTrue, Option, Some, None, Res
 use Rattle.wf_loop.specs.Process.{Actor, Origin, Process}
 use Rattle.wf_codec.specs.Message.{view}
 use Rattle.wf_codec.specs.declared.message.Message.{Message}
+use Rattle.wf_folder.specs.NodeFile.{IsNodeFile}
 use Rattle.wf_line.specs.declared.node_line.NodeLine.{NodeLine}
 use Rattle.wf_loop.proofs.Earlier.{its_own}
 use Rattle.wf_loop.specs.Continuation.{AreHeardFrom, AreRunsHeardFrom, IsEarlier, KeepsEarlier}
@@ -167,24 +168,26 @@ module _ {T : Type 0} (tapes : Tape T) where
   }
 
   -- or it doesn't, and only its start was counted
-  pub not_started : (line : NodeLine) (ready : ReadyNode T tapes) (old mid new : List Call) (fault : CommandFault) → IsNodeReady tapes line ready (locked ∷ old) mid → IsFromSystem fault → new ≡ mid
+  pub not_started : (line : NodeLine) (ready : ReadyNode T tapes) (old mid new : List Call) (fault : CommandFault) → IsNodeReady tapes line ready (locked ∷ old) mid → IsNodeFile ready.file → IsFromSystem fault → new ≡ mid
       → IsNodeFault line old new fault
-  not_started line ready old mid new fault is system same = record {
+  not_started line ready old mid new fault is sound system same = record {
     cause = system_cause line old new fault system;
     left = inr (inr (subst (λ (calls : List Call). IsUnserved line (locked ∷ old) calls) (sym same) (record {
       file = is.file;
       written = ready.file;
+      sound = sound;
       heard = is.is_ready.known;
       is_start = record { admitted = is.admitted; is_admitted = is.is_admitted; is_counted = is.is_ready.is_counted };
     })));
   }
 
   -- a node that is ready was served, or not
-  pub served_by : (line : NodeLine) (ready : ReadyNode T tapes) (old mid new : List Call) (result : Result (Unit {0}) CommandFault) → IsNodeReady tapes line ready (locked ∷ old) mid
+  pub served_by : (line : NodeLine) (ready : ReadyNode T tapes) (old mid new : List Call) (result : Result (Unit {0}) CommandFault) → IsNodeReady tapes line ready (locked ∷ old) mid → IsNodeFile ready.file
       → IsNodeServed tapes ready.process ready.plan mid new result → IsNodeDone tapes line old new result
-  served_by line ready old mid new (Ok done) is served = record {
+  served_by line ready old mid new (Ok done) is sound served = record {
     file = is.file;
     written = ready.file;
+    sound = sound;
     heard = is.is_ready.known;
     begun = mid;
     is_start = record { admitted = is.admitted; is_admitted = is.is_admitted; is_counted = is.is_ready.is_counted };
@@ -197,4 +200,4 @@ module _ {T : Type 0} (tapes : Tape T) where
     on = served.0;
     stays = served.1;
   }
-  served_by line ready old mid new (Err fault) is served = not_started line ready old mid new fault is served.0 served.1
+  served_by line ready old mid new (Err fault) is sound served = not_started line ready old mid new fault is sound served.0 served.1

@@ -2,6 +2,7 @@
 use Rattle.std.specs.Prelude.{◌≡◌, ◌∷◌, ℕ, List, Option, Result, Ok, Err, IsSome}
 use Rattle.wf_loop.specs.Process.{Process}
 use Rattle.wf_client.specs.Client.{Client}
+use Rattle.wf_folder.specs.NodeFile.{IsNodeFile}
 use Rattle.wf_folder.specs.declared.node_file.NodeFile.{NodeFile}
 use Rattle.wf_line.specs.declared.node_line.NodeCommand.{NodeCommand}
 use Rattle.wf_line.specs.declared.node_line.NodeCommand.TheVariants as commands
@@ -59,6 +60,7 @@ module _ {T : Type 0} (tapes : Tape T) where
   pub record HasServed (line : NodeLine) (old new : List Call) : Type 0 where
     pub file : NodeFile
     pub written : NodeFile
+    pub sound : IsNodeFile written
     pub heard : List (Option HeardOfNode)
     pub begun : List Call
     pub is_start : IsStartOn line file written heard (locked ∷ old) begun

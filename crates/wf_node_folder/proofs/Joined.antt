@@ -1,12 +1,11 @@
 -- What may be put in the place of the file `joins`.
-use Rattle.std.proofs.Common.{◌≡◌, ◌∙◌, inl, inr, ℕ, List, [], ◌∷◌, ap, refl, subst}
+use Rattle.std.proofs.Common.{◌≡◌, ◌⊎◌, ◌∙◌, inl, inr, ℕ, List, [], ◌∷◌, ap, refl, subst}
 use Rattle.std.specs.Prelude.{Option, Some, None, Result, Ok, Err, IfOk}
 use Rattle.wf_folder.specs.declared.node_admission.NodeFound.{NodeFound}
 use Rattle.wf_folder.specs.declared.node_admission.NodeFound.TheVariants as finds
 use Rattle.wf_folder.specs.declared.node_file.NodeFile.{NodeFile}
 use Rattle.wf_node_folder.specs.Folder.{IsFarmFound, IsFoundIn}
 use Rattle.wf_node_folder.specs.Joined.{IsFarmSaid, MayBePutAt, SaysJoining, SaysPublished}
-use Rattle.wf_node_folder.specs.Texts.{is_farm, is_joins, text_in}
 use Rattle.wf_rejoin.specs.JoinStep.{StepCounts, stepped}
 use Rattle.wf_rejoin.specs.Joining.{MayVote}
 use Rattle.wf_rejoin.specs.JoiningText.{IsJoins, joins_text}
@@ -14,7 +13,9 @@ use Rattle.wf_rejoin.specs.declared.join_step.JoinStep.{JoinStep}
 use Rattle.wf_rejoin.specs.declared.joining.Joining.{Joining}
 use Rattle.wf_store.specs.Call.{Call, read}
 use Rattle.wf_store.specs.declared.fault.FolderFault.{FolderFault}
+use Rattle.wf_store.specs.Texts.{IsTextPut, is_farm, is_joins, text_in}
 use Rattle.wf_store.specs.declared.file_name.FileName.TheVariants.{Farm, Joins}
+use Rattle.wf_voter.specs.Folder.{IsTold, JoinsNoMore}
 
 -- ---- what was read
 
@@ -39,6 +40,23 @@ module _ (old new : List Call) where
 
   pub joining_said : (bytes : List ℕ) (joining : Joining) → new ≡ read Joins (Some bytes) ∷ old → IsJoins joining → bytes ≡ joins_text joining → SaysJoining joining new
   joining_said bytes joining is joins text = record { joins = joins; text = ap (text_in is_joins) is ∙ ap Some text }
+
+  -- there is none, or an empty one
+  pub none_joins : (bytes : Option (List ℕ)) → new ≡ read Joins bytes ∷ old → (bytes ≡ None) ⊎ (bytes ≡ Some []) → JoinsNoMore new
+  none_joins bytes is (inl none) = inl (ap (text_in is_joins) is ∙ none)
+  none_joins bytes is (inr empty) = inr (ap (text_in is_joins) is ∙ empty)
+
+  -- ---- what was written
+
+  pub emptied : (text : List ℕ) → text ≡ [] → IsTextPut Joins text old new → JoinsNoMore new
+  emptied text empty put = inr (put is_joins ∙ ap Some empty)
+
+  pub told_so : (joining : Joining) (step : JoinStep) (text : List ℕ) (next : Joining) → SaysJoining joining old → StepCounts step joining → next ≡ stepped step joining → text ≡ joins_text next
+      → IsTextPut Joins text old new → IsTold step new
+  told_so joining step text next says counts same is put = record { before = joining; joins = says.joins; says = inl (counts, put is_joins ∙ ap Some (is ∙ ap joins_text same)) }
+
+pub told_before : (calls : List Call) (joining : Joining) (step : JoinStep) → SaysJoining joining calls → ¬ StepCounts step joining → IsTold step calls
+told_before calls joining step says isnt = record { before = joining; joins = says.joins; says = inr (isnt, says.text) }
 
 -- ---- what may be written
 

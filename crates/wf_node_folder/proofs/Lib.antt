@@ -8,6 +8,7 @@ mod Making
 mod Opening
 mod Own
 mod PowerCut
+mod Put
 mod Raised
 mod Reached
 mod ReplacementFiles

@@ -1,6 +1,7 @@
 -- What a power cut leaves of a folder.
 use Rattle.std.proofs.Common.{arith, ◌≡◌, ◌⊎◌, ◌∙◌, ◌<◌, ℕ, zero, suc, Bool, true, false, List, [], ◌∷◌, ◌++◌, ap, inl, inr, refl, subst, sym, nat_eq}
 use Rattle.std.proofs.lemmas.Bool.{eq-eqb, false≢true}
+use Rattle.std.proofs.lemmas.List.{append_cancel_right}
 use Rattle.std.specs.Prelude.{⊤, Option, Some, None, if◌then◌else◌, length, replicate}
 use Rattle.wf_def.specs.Definition.{Definition}
 use Rattle.wf_folder.specs.FarmFile.{IsNumberOfNodes}
@@ -16,11 +17,11 @@ use Rattle.wf_node.specs.Node.{stored_of}
 use Rattle.wf_node_folder.specs.Held.{HasHeld, HoldsAll}
 use Rattle.wf_node_folder.specs.Joined.{AreJoinedSoundly, IsJoinedSoundly, IsPutSoundly, MayBePut, MayBePutAt}
 use Rattle.wf_node_folder.specs.Made.{HasMade, IsFirstFile, IsFirstTape, IsHalfFilled, IsHalfMade, first_joining, made_empty, with_joins, with_tape}
-use Rattle.wf_node_folder.specs.PowerCut.{AreReadBack, AreSoundCalls, ClearsAreSound, CutsAreReadBack, FilesAreWhole, InitsAreSound, InitsAreWhole, IsMadeWhole, IsSoundCall, IsSoundGiven, NodesAreSound, StartsAgain, StartsAreSound}
+use Rattle.wf_node_folder.specs.PowerCut.{AreReadBack, AreSoundCalls, ClearsAreSound, CutsAreReadBack, FilesAreWhole, InitsAreSound, InitsAreWhole, IsMadeWhole, IsSoundCall, IsSoundGiven, NodesAreSound, StartsAgain, StartsAreSound, StopsAreSound}
 use Rattle.wf_node_folder.specs.ReplacementFiles.{IsJoinsIn, IsReplacedIn}
 use Rattle.wf_node_folder.specs.Sound.{IsJoinsText, IsSoundText}
-use Rattle.wf_node_folder.specs.Start.{IsCountedOn, IsStartAdmitted}
-use Rattle.wf_node_folder.specs.Texts.{is_tape}
+use Rattle.wf_node_folder.specs.Start.{IsCompared, IsCountedOn, IsLeftOpened, IsStartAdmitted, IsStartCutShort, IsTapeOpened, IsTapeTouched, IsUncounted, IsUnopened}
+use Rattle.wf_store.specs.Texts.{is_tape}
 use Rattle.wf_peer.specs.PeerProgressText.{ArePeerProgress}
 use Rattle.wf_peer.specs.declared.heard.Heard.{Heard as HeardOfNode}
 use Rattle.wf_power_cuts.proofs.DiskLemmas.{one_file}
@@ -31,7 +32,7 @@ use Rattle.wf_rejoin.specs.Lines.{AreAll}
 use Rattle.wf_rejoin.specs.declared.joining.Joining.{Joining}
 use Rattle.wf_rejoin.specs.declared.joining.Stage.TheVariants.{Unasked}
 use Rattle.wf_rejoin.specs.declared.replacement.Replacement.{Replacement}
-use Rattle.wf_store.specs.Call.{Call, drawn, locked, replaced, unreplaced}
+use Rattle.wf_store.specs.Call.{Call, OnlyReads, changes, drawn, is_change, locked, replaced, unreplaced}
 use Rattle.wf_store.specs.declared.deed.Deed.{Deed}
 use Rattle.wf_store.specs.declared.deed.Deed.TheVariants as deeds
 use Rattle.wf_store.specs.declared.file_name.FileName.{FileName}
@@ -205,6 +206,91 @@ counted_sound file written heard old calls are sound is = subst AreSoundCalls (s
 pub starts_are_sound : StartsAreSound
 starts_are_sound line file written heard old calls are sound is =
     counted_sound file written heard is.admitted calls (admitted_sound line file (locked ∷ old) is.admitted (tt, are) is.is_admitted) sound is.is_counted
+
+-- ---- a start that ends with an error
+
+-- a call that changes nothing
+quiet_call : (deed : Deed) (bytes : Option (List ℕ)) → is_change deed ≡ false → IsSoundCall deed bytes
+quiet_call (deeds.Replaces file) bytes quiet = absurd (false≢true (sym quiet))
+quiet_call (deeds.FailsAt file) bytes quiet = absurd (false≢true (sym quiet))
+quiet_call (deeds.Opens file) bytes quiet = absurd (false≢true (sym quiet))
+quiet_call (deeds.OpensExisting file) bytes quiet = absurd (false≢true (sym quiet))
+quiet_call deeds.Makes bytes quiet = tt
+quiet_call deeds.Locks bytes quiet = tt
+quiet_call (deeds.Compares same) bytes quiet = tt
+quiet_call (deeds.Counts count) bytes quiet = tt
+quiet_call (deeds.Draws bits) bytes quiet = tt
+quiet_call (deeds.Sees file there) bytes quiet = tt
+quiet_call (deeds.Measures file length) bytes quiet = tt
+quiet_call (deeds.Reads file) bytes quiet = tt
+quiet_call deeds.Fails bytes quiet = tt
+
+none_of : (call : Call) (rest : List Call) (b : Bool) → (if b then call ∷ rest else rest) ≡ [] → (b ≡ false) × (rest ≡ [])
+none_of call rest true is = absurd cc
+none_of call rest false is = (refl, is)
+
+quiet_calls : (later old : List Call) → changes later ≡ [] → AreSoundCalls old → AreSoundCalls (later ++ old)
+quiet_calls [] old none are = are
+quiet_calls (call ∷ later) old none are =
+    let first = none_of call (changes later) (is_change call.deed) none in
+    (quiet_call call.deed call.bytes first.0, quiet_calls later old first.1 are)
+
+changes_by : (call : Call) (later old : List Call) (b : Bool) → changes (later ++ old) ≡ changes later ++ changes old
+    → (if b then call ∷ changes (later ++ old) else changes (later ++ old)) ≡ (if b then call ∷ changes later else changes later) ++ changes old
+changes_by call later old true both = ap (λ (calls : List Call). call ∷ calls) both
+changes_by call later old false both = both
+
+changes_both : (later old : List Call) → changes (later ++ old) ≡ changes later ++ changes old
+changes_both [] old = refl
+changes_both (call ∷ later) old = changes_by call later old (is_change call.deed) (changes_both later old)
+
+reads_are_sound : (old calls : List Call) → AreSoundCalls old → OnlyReads old calls → AreSoundCalls calls
+reads_are_sound old calls are reads =
+    let later = reads.after.later in
+    let none : changes later ≡ [] = append_cancel_right (changes later) [] (changes old) (sym (changes_both later old) ∙ ap changes (sym reads.after.is) ∙ reads.unchanged) in
+    subst AreSoundCalls (sym reads.after.is) (quiet_calls later old none are)
+
+compared_sound : (file : NodeFile) (old calls : List Call) → AreSoundCalls old → IsCompared file old calls → AreSoundCalls calls
+compared_sound file old calls are is = subst AreSoundCalls (sym is.calls) (tt, are)
+
+tape_opened_sound : (file : NodeFile) (old calls : List Call) → AreSoundCalls old → IsTapeOpened file old calls → AreSoundCalls calls
+tape_opened_sound file old calls are is = subst AreSoundCalls (sym is.calls) (refl, compared_sound file old is.compared are is.is_compared)
+
+uncounted_sound : (old calls : List Call) → AreSoundCalls old → IsUncounted old calls → AreSoundCalls calls
+uncounted_sound old calls are is = subst AreSoundCalls (sym is.calls) ((is.file, is.sound, refl), (tt, are))
+
+touched_sound : (file : NodeFile) (old calls : List Call) → AreSoundCalls old → IsTapeTouched file old calls → AreSoundCalls calls
+touched_sound file old calls are is = elim is.2 [
+  | inl opened_is ↦ subst AreSoundCalls (sym opened_is) (refl, compared_sound file old is.0 are is.1)
+  | inr failed_is ↦ subst AreSoundCalls (sym failed_is) (refl, compared_sound file old is.0 are is.1)
+]
+
+unopened_sound : (file : NodeFile) (old calls : List Call) → AreSoundCalls old → IsUnopened file old calls → AreSoundCalls calls
+unopened_sound file old calls are left = elim left [
+  | inl reads ↦ reads_are_sound old calls are reads
+  | inr touched ↦ touched_sound file old calls are touched
+]
+
+left_opened_sound : (file : NodeFile) (old calls : List Call) → AreSoundCalls old → IsLeftOpened file old calls → AreSoundCalls calls
+left_opened_sound file old calls are is =
+    let opened_are : AreSoundCalls is.on_tape = tape_opened_sound file old is.on_tape are is.is_on_tape in
+    elim is.later [
+      | inl reads ↦ reads_are_sound is.on_tape calls opened_are reads
+      | inr uncounted ↦ uncounted_sound (drawn uncounted.0 ∷ is.on_tape) calls (tt, opened_are) uncounted.1
+    ]
+
+cut_short_sound : (line : NodeLine) (old calls : List Call) → AreSoundCalls old → IsStartCutShort line old calls → AreSoundCalls calls
+cut_short_sound line old calls are is =
+    let admitted_are : AreSoundCalls is.admitted = admitted_sound line is.file old is.admitted are is.is_admitted in
+    elim is.left [
+      | inl unopened ↦ unopened_sound is.file is.admitted calls admitted_are unopened
+      | inr opened_is ↦ left_opened_sound is.file is.admitted calls admitted_are opened_is
+    ]
+
+pub stops_are_sound : StopsAreSound
+stops_are_sound line old calls are (inl reads) = reads_are_sound old calls are reads
+stops_are_sound line old calls are (inr (inl short)) = cut_short_sound line (locked ∷ old) calls (tt, are) short
+stops_are_sound line old calls are (inr (inr unserved)) = starts_are_sound line unserved.file unserved.written unserved.heard old calls are unserved.sound unserved.is_start
 
 -- what a power cut leaves of its tape
 held_by : (file : NodeFile) (stored : DurableState Definition) (image : List ℕ) → StandsFor stored image → HoldsAll file.known stored → HasHeld file image

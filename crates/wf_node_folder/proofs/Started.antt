@@ -13,7 +13,7 @@ use Rattle.wf_line.specs.declared.node_line.NodeLine.{NodeLine}
 use Rattle.wf_node_folder.specs.Folder.{IsFarmFound}
 use Rattle.wf_node_folder.specs.FolderTheorems.{with_starts}
 use Rattle.wf_node_folder.specs.ReplacementFiles.{AreFilesFound, AreNoted, IsJoinsIn, IsReplacedIn, IsReplacementCause}
-use Rattle.wf_node_folder.specs.Texts.{is_joins, is_replaced, text_in}
+use Rattle.wf_store.specs.Texts.{is_joins, is_replaced, text_in}
 use Rattle.wf_node_folder.specs.Start.{IsFileAdmitted, IsFileCause, IsLookedAt, IsRejectedBy, IsStartAdmitted, IsWhyNotAdmitted, node_in}
 use Rattle.wf_node_folder.specs.declared.fault.CommandFault.{CommandFault}
 use Rattle.wf_node_folder.specs.declared.fault.CommandFault.TheVariants as faults

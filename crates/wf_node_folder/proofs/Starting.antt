@@ -16,7 +16,7 @@ use Rattle.wf_node_folder.specs.Folder.{IsHeardFound, StandsForRead, tape_in}
 use Rattle.wf_node_folder.specs.Held.{IsKnownOf, IsRaisedTo}
 use Rattle.wf_node_folder.specs.Ready.{IsPlanOf, IsNodePlanned, IsNodeReady, IsReadyAs}
 use Rattle.wf_node_folder.specs.ReplacementFiles.{AreNoted, IsJoinsIn, IsOwnJoining, IsReplacedIn}
-use Rattle.wf_node_folder.specs.Texts.{is_joins, is_replaced, text_in}
+use Rattle.wf_store.specs.Texts.{is_joins, is_replaced, text_in}
 use Rattle.wf_node_folder.specs.Start.{
   IsCountedOn,
   IsReadyCounted,

@@ -5,9 +5,10 @@ use Rattle.std.specs.Prelude.{if◌then◌else◌, Option, Some, Result, Ok, Err
 use Rattle.std.specs.declared.alloc.Global.{Global}
 use Rattle.wf_folder.specs.declared.node_admission.NodeFound.{NodeFound}
 use Rattle.wf_folder.specs.declared.presence.Presence.{Presence}
-use Rattle.wf_node_folder.specs.Folder.{IsFarmFound, MayHaveGot, StaysFrom, heard_in, heard_of_file, is_of_tape, is_own, is_tape, needs_own, of_tapes, tape_changes}
+use Rattle.wf_node_folder.specs.Folder.{IsFarmFound, StaysFrom, heard_in, is_of_tape, is_own, needs_own, of_tapes, tape_changes}
 use Rattle.wf_node_folder.specs.Joined.{IsJoinedSoundly, MayBePutAt}
 use Rattle.wf_store.specs.Call.{Call, bytes_of, changes, compared, failed, is_change, opened_existing, read, replaced, seen, unreplaced}
+use Rattle.wf_store.specs.Texts.{IsTextPut, MayBeIn, TextsStay, is_heard, is_tape, text_in}
 use Rattle.wf_store.specs.declared.fault.FolderFault.{FolderFault}
 use Rattle.wf_store.specs.declared.file_name.FileName.{FileName}
 use Rattle.wf_store.specs.declared.file_name.FileName.TheVariants.{Farm, Joins}
@@ -75,9 +76,9 @@ module _ (old new : List Call) where
   own_compared is = ap is_own is
 
   -- calls that leave the file `heard` as it is
-  pub heard_comparing : (result : Result Bool FolderFault) → IfOk result (λ same. new ≡ compared same ∷ old) → OnErr result (new ≡ failed ∷ old) → heard_in new ≡ heard_in old
-  heard_comparing (Ok same) done wrong = ap heard_in done
-  heard_comparing (Err fault) done wrong = ap heard_in wrong
+  pub texts_comparing : (result : Result Bool FolderFault) → IfOk result (λ same. new ≡ compared same ∷ old) → OnErr result (new ≡ failed ∷ old) → TextsStay old new
+  texts_comparing (Ok same) done wrong is = ap (text_in is) done
+  texts_comparing (Err fault) done wrong is = ap (text_in is) wrong
 
   pub heard_finding : (result : Result NodeFound FolderFault) → IfOk result (λ found. IsFarmFound found old new) → OnErr result (new ≡ failed ∷ old) → heard_in new ≡ heard_in old
   heard_finding (Ok found) done wrong = ap heard_in done.calls
@@ -95,22 +96,24 @@ module _ (old new : List Call) where
   heard_opening file (Ok tape) done wrong = ap heard_in done
   heard_opening file (Err fault) done wrong = ap heard_in wrong
 
-  -- it was replaced, if it is this file; then the folder was looked at
-  pub heard_put : {E : Type 0} (file : FileName) (bytes : List ℕ) (mid : List Call) (result : Result (Unit {0}) E) → mid ≡ replaced file bytes ∷ old → heard_in new ≡ heard_in mid
-      → MayHaveGot result (heard_in old) (heard_of_file file (Some bytes) (heard_in old)) (heard_in new)
-  heard_put file bytes mid (Ok done) put same = same ∙ ap heard_in put
-  heard_put file bytes mid (Err error) put same = inr (same ∙ ap heard_in put)
+  -- a file was replaced; then the folder was looked at
+  module _ (file : FileName) (text : List ℕ) (mid : List Call) (put : mid ≡ replaced file text ∷ old) (stay : TextsStay mid new) where
+    pub was_put : IsTextPut file text old new
+    was_put is = stay is ∙ ap (text_in is) put
 
-  -- it was, and isn't this file
-  pub nothing_heard : {E : Type 0} (result : Result (Unit {0}) E) (got : Option (List ℕ)) → got ≡ heard_in old → MayHaveGot result (heard_in old) got (heard_in new) → heard_in new ≡ heard_in old
-  nothing_heard (Ok done) got same is = is ∙ same
-  nothing_heard (Err error) got same is = elim is [
-    | inl was ↦ was
-    | inr put ↦ put ∙ same
-  ]
+    pub was_put_or_not : MayBeIn file text old new
+    was_put_or_not is = inr (was_put is)
 
-  pub heard_not_put : (file : FileName) (bytes : List ℕ) (put : Option (List ℕ)) → new ≡ unreplaced file bytes ∷ old → (heard_in new ≡ heard_in old) ⊎ (heard_in new ≡ put)
-  heard_not_put file bytes put wrong = inl (ap heard_in wrong)
+    pub heard_beside : is_heard file ≡ false → heard_in new ≡ heard_in old
+    heard_beside other = was_put is_heard ∙ ap (λ (b : Bool). if b then Some text else heard_in old) other
+
+  -- it was to be
+  module _ (file : FileName) (text : List ℕ) (wrong : new ≡ unreplaced file text ∷ old) where
+    pub was_not_put : MayBeIn file text old new
+    was_not_put is = inl (ap (text_in is) wrong)
+
+    pub heard_beside_not : is_heard file ≡ false → heard_in new ≡ heard_in old
+    heard_beside_not other = ap heard_in wrong
 
   pub own_found : (result : Result NodeFound FolderFault) → IfOk result (λ found. IsFarmFound found old new) → OnErr result (new ≡ failed ∷ old) → is_own new ≡ is_own old
   own_found (Ok found) done wrong = ap is_own done.calls

@@ -1,5 +1,5 @@
 -- The files of a node's folder: what they say, and which of them a process leaves alone.
-use Rattle.std.specs.Prelude.{◌≡◌, ◌⊎◌, ℕ, ⊤, Bool, true, false, List, [], ◌∷◌, ◌++◌, Option, Some, None, Result, Ok, Err, length, replicate, if◌then◌else◌}
+use Rattle.std.specs.Prelude.{◌≡◌, ℕ, ⊤, Bool, true, false, List, [], ◌∷◌, ◌++◌, Option, Some, None, length, replicate, if◌then◌else◌}
 use Rattle.wf_def.specs.Definition.{Definition}
 use Rattle.wf_folder.specs.NodeFile.{IsNodeFile, IsTextOf}
 use Rattle.wf_folder.specs.declared.node_admission.NodeFound.{NodeFound}
@@ -8,14 +8,14 @@ use Rattle.wf_folder.specs.declared.node_file.NodeFile.{NodeFile}
 use Rattle.wf_model.specs.DurableState.{DurableState}
 use Rattle.wf_node.specs.Images.{StandsFor}
 use Rattle.wf_node_folder.specs.Joined.{AreJoinedSoundly}
-pub use Rattle.wf_node_folder.specs.Texts.{is_tape}
 use Rattle.wf_peer.specs.PeerProgressText as peers
 use Rattle.wf_peer.specs.declared.heard.Heard.{Heard as HeardOfNode}
 use Rattle.wf_store.specs.Call.{Call, IsAfter, changes, read}
+use Rattle.wf_store.specs.Texts.{is_heard, is_tape, text_in}
 use Rattle.wf_store.specs.declared.deed.Deed.{Deed}
 use Rattle.wf_store.specs.declared.deed.Deed.TheVariants as deeds
 use Rattle.wf_store.specs.declared.file_name.FileName.{FileName}
-use Rattle.wf_store.specs.declared.file_name.FileName.TheVariants.{Farm, Heard, Joins, NodeTape, Replaced, ReplicaTape}
+use Rattle.wf_store.specs.declared.file_name.FileName.TheVariants.{Farm, Heard, NodeTape}
 
 -- ---- the files `farm` that may be in a folder that a process holds
 
@@ -82,26 +82,9 @@ abbrev pub StandsForRead : DurableState Definition → Option (List ℕ) → Typ
 StandsForRead stored None = ⊥
 StandsForRead stored (Some bytes) = StandsFor stored bytes
 
--- ---- what the file `heard` has
-
--- what was read of it, or what it got by a call that succeeded
-abbrev pub heard_of_file : FileName → (bytes earlier : Option (List ℕ)) → Option (List ℕ)
-heard_of_file Heard bytes earlier = bytes
-heard_of_file file bytes earlier = earlier
-
-abbrev pub heard_by : Deed → (bytes earlier : Option (List ℕ)) → Option (List ℕ)
-heard_by (deeds.Reads file) bytes earlier = heard_of_file file bytes earlier
-heard_by (deeds.Replaces file) bytes earlier = heard_of_file file bytes earlier
-heard_by deed bytes earlier = earlier
-
+-- what was read of the file `heard` last, or what it got by a call that succeeded
 abbrev pub heard_in : List Call → Option (List ℕ)
-heard_in [] = None
-heard_in (call ∷ earlier) = heard_by call.deed call.bytes (heard_in earlier)
-
--- it has what it was to get; after an error it may have that, or what it had
-abbrev pub MayHaveGot : {E : Type 0} → Result (Unit {0}) E → (had got has : Option (List ℕ)) → Type 0
-MayHaveGot (Ok done) had got has = has ≡ got
-MayHaveGot (Err error) had got has = (has ≡ had) ⊎ (has ≡ got)
+heard_in calls = text_in is_heard calls
 
 -- ---- what is left alone
 

@@ -5,7 +5,7 @@ use Rattle.wf_folder.specs.declared.node_admission.NodeFound.{NodeFound}
 use Rattle.wf_folder.specs.declared.node_admission.NodeFound.TheVariants as finds
 use Rattle.wf_folder.specs.declared.node_file.NodeFile.{NodeFile}
 use Rattle.wf_node_folder.specs.Sound.{IsSoundText}
-use Rattle.wf_node_folder.specs.Texts.{is_farm, is_joins, is_tape, text_in}
+use Rattle.wf_store.specs.Texts.{is_farm, is_joins, is_tape, text_in}
 use Rattle.wf_rejoin.specs.JoinStep.{StepCounts, stepped}
 use Rattle.wf_rejoin.specs.Joining.{MayVote}
 use Rattle.wf_rejoin.specs.JoiningText.{IsJoins, joins_text}

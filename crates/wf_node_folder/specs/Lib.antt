@@ -12,4 +12,3 @@ pub mod Ready
 pub mod ReplacementFiles
 pub mod Sound
 pub mod Start
-pub mod Texts

@@ -11,8 +11,8 @@ use Rattle.wf_node_folder.specs.Held.{HasHeld}
 use Rattle.wf_node_folder.specs.Ready.{IsReadyAs}
 use Rattle.wf_node_folder.specs.ReplacementFiles.{IsJoinsIn, IsReplacedIn}
 use Rattle.wf_node_folder.specs.Sound.{IsSoundText}
-use Rattle.wf_node_folder.specs.Start.{IsStartOn}
-use Rattle.wf_node_folder.specs.Texts.{is_tape}
+use Rattle.wf_node_folder.specs.Start.{IsNotServed, IsStartOn}
+use Rattle.wf_store.specs.Texts.{is_tape}
 use Rattle.wf_node_folder.specs.declared.ready.ReadyNode.{ReadyNode}
 use Rattle.wf_peer.specs.declared.heard.Heard.{Heard as HeardOfNode}
 use Rattle.wf_power_cuts.specs.Cut.{CouldLeave}
@@ -71,8 +71,8 @@ FilesAreWhole = (calls : List Call) → AreSoundCalls calls → (images : FileNa
 
 -- ---- which calls are such
 
--- Those of `init`, and, after such, those of `clear`, those of a start that comes to serve, from
--- the lock on, and those of a node that is served.
+-- Those of `init`, and, after such, those of `clear`, those of a start from the lock on, which may
+-- end with an error or come to serve, and those of a node that is served.
 abbrev pub InitsAreSound : Type 0
 InitsAreSound = (line : InitLine) (calls : List Call) → HasMade line [] calls ⊎ IsHalfMade line [] calls → AreSoundCalls calls
 
@@ -82,6 +82,9 @@ ClearsAreSound = (old calls : List Call) → AreSoundCalls old → IsCleared (lo
 abbrev pub StartsAreSound : Type 0
 StartsAreSound = (line : NodeLine) (file written : NodeFile) (heard : List (Option HeardOfNode)) (old calls : List Call) → AreSoundCalls old → IsNodeFile written
     → IsStartOn line file written heard (locked ∷ old) calls → AreSoundCalls calls
+
+abbrev pub StopsAreSound : Type 0
+StopsAreSound = (line : NodeLine) (old calls : List Call) → AreSoundCalls old → IsNotServed line old calls → AreSoundCalls calls
 
 abbrev pub NodesAreSound : Type 0
 NodesAreSound = (begun calls : List Call) → StaysFrom begun calls → AreSoundCalls begun → AreSoundCalls calls

@@ -8,7 +8,7 @@ use Rattle.wf_node.specs.Node.{stored_of}
 use Rattle.wf_node_folder.specs.Folder.{StandsForRead, heard_in, tape_in}
 use Rattle.wf_node_folder.specs.Held.{IsRaisedTo}
 use Rattle.wf_node_folder.specs.ReplacementFiles.{IsJoinsIn, IsOwnJoining, IsReplacedIn}
-use Rattle.wf_node_folder.specs.Texts.{is_joins, is_replaced, text_in}
+use Rattle.wf_store.specs.Texts.{is_joins, is_replaced, text_in}
 use Rattle.wf_node_folder.specs.Start.{IsCountedOn, IsStartAdmitted, IsProcessStarted}
 use Rattle.wf_node_folder.specs.declared.ready.ReadyNode.{ReadyNode}
 use Rattle.wf_node_folder.specs.declared.replacement_files.ReplacementFiles.{ReplacementFiles}

@@ -3,7 +3,7 @@ use Rattle.std.specs.Prelude.{◌≡◌, ◌≢◌, ℕ, List, [], ◌∷◌, Op
 use Rattle.wf_folder.specs.declared.node_file.NodeFile.{NodeFile}
 use Rattle.wf_mesh.specs.declared.joiner.Joiner.{Joiner}
 use Rattle.wf_node_folder.specs.Fault.{IsFromSystem}
-use Rattle.wf_node_folder.specs.Texts.{is_joins, is_replaced, text_in}
+use Rattle.wf_store.specs.Texts.{is_joins, is_replaced, text_in}
 use Rattle.wf_node_folder.specs.declared.fault.CommandFault.{CommandFault}
 use Rattle.wf_node_folder.specs.declared.fault.CommandFault.TheVariants as faults
 use Rattle.wf_node_folder.specs.declared.replacement_fault.ReplacementFault.{ReplacementFault}

@@ -201,6 +201,7 @@ pub record IsStartCutShort (line : NodeLine) (old new : List Call) : Type 0 wher
 pub record IsUnserved (line : NodeLine) (old new : List Call) : Type 0 where
   pub file : NodeFile
   pub written : NodeFile
+  pub sound : IsNodeFile written
   pub heard : List (Option HeardOfNode)
   pub is_start : IsStartOn line file written heard old new
 

@@ -1,14 +1,16 @@
 //! The folder of a node, as its process has locked it: there a tape that failed is opened again,
 //! and is written how far the node is, and what it heard.
-ghost use Rattle.std.specs.Prelude.{◌≡◌, ◌+◌, IfSome, None, OnOk};
+ghost use Rattle.std.specs.Prelude.{◌≡◌, ◌+◌, IfSome, None, OnOk, true};
 ghost use Rattle.wf_folder.specs.NodeFile.{IsNodeFile};
+ghost use Rattle.wf_folder.specs.Reach.{IsReachNoLess};
 ghost use Rattle.wf_node_folder.specs.Folder.{AreFiles, StaysFrom, calls_in, heard_in, is_own};
 ghost use Rattle.wf_node_folder.specs.FolderTheorems.{are_files_prop};
+ghost use Rattle.wf_voter.specs.Folder.{HasFarmText};
 
 use crate::running::{RunningStore, not_reopened};
 use std::alloc::Global;
 use std::io::ErrorKind;
-use wf_folder::{NodeFile, NodeFound, Reach, Suspension};
+use wf_folder::{NodeFile, NodeFound, Reach, Suspension, is_no_lower, is_no_lower_vote};
 use wf_membership::FolderError;
 use wf_peer::PeerProgress;
 use wf_rejoin::{JoinStep, Replacements};
@@ -137,10 +139,13 @@ impl<S: Store> HeldFolder<S> {
 
     /// Writes another file `farm`, synced, with the folder: only into the folder that is locked.
     /// After an error either may be there.
+    #[tactic(auto, using(crate::proofs::Put::farm_put))]
     fn write(&mut self, next: &NodeFile) -> Result<(), FolderError>
         requires { IsNodeFile next.now }
         ensures starts { self.new.starts ≡ self.old.starts }
         ensures file { OnOk result (self.new.file ≡ next.now) }
+        ensures written { OnOk result
+            (HasFarmText self.new.file (S.calls self.new.running.store)) }
         ensures began { self.new.running.began.items ≡ self.old.running.began.items }
         ensures heard { heard_in (S.calls self.new.running.store) ≡
             heard_in (S.calls self.old.running.store) }
@@ -169,6 +174,10 @@ impl<S: Store> HeldFolder<S> {
 impl<S: Store> NodeFolder<S::Tape> for HeldFolder<S> {
     ghost stands = { λ held. record { starts = held.starts; begun = calls_in S.calls held.running.began.items; heard = heard_in (S.calls held.running.store) } };
 
+    ghost calls = { λ held. S.calls held.running.store };
+
+    ghost farm = { λ held. held.file };
+
     fn open(&mut self) -> Result<S::Tape, NotReopened> {
         if let Err(error) = self.running.examine() {
             return Err(not_reopened(error));
@@ -192,15 +201,17 @@ impl<S: Store> NodeFolder<S::Tape> for HeldFolder<S> {
         }
     }
 
+    #[tactic(auto, using(crate::proofs::Put::reach_written, crate::proofs::Put::written_now))]
     fn keep(&mut self, reach: &Reach, digest: [u8; 32]) -> Result<(), FolderError> {
-        let latest = self.latest();
-        let next = latest.raise(reach, digest);
-        if self.attempted.is_none() && next == self.file {
+        if self.attempted.is_none() && says(&self.file, reach) {
             return Ok(());
         }
+        let latest = self.latest();
+        let next = latest.raise(reach, digest);
         self.write(&next)
     }
 
+    #[tactic(auto, using(crate::proofs::Put::suspended_by))]
     fn suspend(&mut self, suspension: Suspension) -> Result<(), FolderError> {
         let latest = self.latest();
         let next = latest.suspend(suspension);
@@ -217,7 +228,7 @@ impl<S: Store> NodeFolder<S::Tape> for HeldFolder<S> {
         }
     }
 
-    #[tactic(auto, using(crate::proofs::Stays::nothing_heard))]
+    #[tactic(auto, using(crate::proofs::Put::replaced_put, crate::proofs::Put::replaced_or_not, crate::proofs::Put::not_replaced))]
     fn keep_replaced(&mut self, known: &Replacements) -> Result<(), FolderError> {
         if let Err(error) = self.running.examine() {
             return Err(error);
@@ -246,6 +257,18 @@ impl<S: Store> NodeFolder<S::Tape> for HeldFolder<S> {
         };
         self.running.finish_joining(self.alloc, published)
     }
+}
+
+/// Whether a file says that its node was no less far.
+#[tactic(auto, using(crate::proofs::Put::no_less))]
+fn says(file: &NodeFile, reach: &Reach) -> bool
+    ensures { result ≡ true → IsReachNoLess reach.now file.now.known.reach }
+{
+    let known = &file.known.reach;
+    if known.round < reach.round || known.published.number() < reach.published.number() {
+        return false;
+    }
+    is_no_lower(reach.promise, known.promise) && is_no_lower_vote(reach.vote, known.vote)
 }
 
 /// A file that counts so many starts.

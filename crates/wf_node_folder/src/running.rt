@@ -1,11 +1,13 @@
 //! The folder of a node while it is served.
-ghost use Rattle.std.specs.Prelude.{◌≡◌, ◌∷◌, ℕ, false, true, IfOk, IfSome, OnOk, Some};
+ghost use Rattle.std.specs.Prelude.{◌≡◌, ◌∷◌, ℕ, false, true, [], IfOk, IfSome, None, OnErr, OnOk, Some};
 ghost use Rattle.wf_folder.specs.NodeAdmission.{IsSoundFind};
-ghost use Rattle.wf_node_folder.specs.Folder.{MayHaveGot, StaysFrom, calls_in, heard_in, heard_of_file, is_own, is_tape};
+ghost use Rattle.wf_node_folder.specs.Folder.{StaysFrom, calls_in, heard_in, is_own};
 ghost use Rattle.wf_node_folder.specs.Joined.{IsFarmSaid, MayBePutAt, SaysJoining, SaysPublished};
 ghost use Rattle.wf_rejoin.specs.JoiningText.{IsJoins, joins_text};
 ghost use Rattle.wf_store.specs.Call.{bytes_of, read};
+ghost use Rattle.wf_store.specs.Texts.{IsTextPut, MayBeIn, TextsStay, is_heard, is_tape};
 ghost use Rattle.wf_store.specs.declared.file_name.FileName.TheVariants as names;
+ghost use Rattle.wf_voter.specs.Folder.{IsTold, JoinsNoMore};
 
 use crate::folder::find_in;
 use crate::replacement_files::MOST_BYTES;
@@ -50,10 +52,11 @@ impl<S: Store> RunningStore<S> {
     }
 
     /// Whether the folder at its path is the one that is locked.
-    #[tactic(auto, using(crate::proofs::Stays::own_compared, crate::proofs::Stays::heard_comparing))]
+    #[tactic(auto, using(crate::proofs::Stays::own_compared, crate::proofs::Stays::texts_comparing))]
     pub(crate) fn examine(&mut self) -> Result<(), FolderError>
         ensures began { self.new.began.items ≡ self.old.began.items }
         ensures own { OnOk result (is_own (S.calls self.new.store) ≡ true) }
+        ensures texts { TextsStay (S.calls self.old.store) (S.calls self.new.store) }
         ensures heard { heard_in (S.calls self.new.store) ≡ heard_in (S.calls self.old.store) }
     {
         match self.store.is_same() {
@@ -88,7 +91,7 @@ impl<S: Store> RunningStore<S> {
     }
 
     /// What the file `joins` says of a folder that joins. None: it doesn't join.
-    #[tactic(auto, using(crate::proofs::Joined::farm_beside, crate::proofs::Joined::joining_said))]
+    #[tactic(auto, using(crate::proofs::Joined::farm_beside, crate::proofs::Joined::joining_said, crate::proofs::Joined::none_joins))]
     fn find_joining(&mut self) -> Result<Option<Joining>, FolderError>
         ensures began { self.new.began.items ≡ self.old.began.items }
         ensures own { is_own (S.calls self.new.store) ≡ is_own (S.calls self.old.store) }
@@ -98,6 +101,8 @@ impl<S: Store> RunningStore<S> {
             SaysPublished published (S.calls self.new.store)) }
         ensures says { IfOk result (λ found. IfSome found (λ joining.
             SaysJoining joining (S.calls self.new.store))) }
+        ensures none { IfOk result (λ found. found ≡ None →
+            JoinsNoMore (S.calls self.new.store)) }
     {
         match self.read_joins() {
             Ok(Some(bytes)) => joining_in(&bytes),
@@ -109,10 +114,11 @@ impl<S: Store> RunningStore<S> {
     /// Puts in the place of the file `joins` what it says once the folder, which joins, was told
     /// this, in the folder that is locked. What doesn't count after what the file says changes
     /// nothing. After an error the text from before or this one is there.
-    #[tactic(auto, using(crate::proofs::Joined::may_be_told, crate::proofs::Stays::nothing_heard))]
+    #[tactic(auto, using(crate::proofs::Joined::may_be_told, crate::proofs::Joined::told_so, crate::proofs::Joined::told_before))]
     pub(crate) fn tell_joining(&mut self, alloc: Global, step: &JoinStep) -> Result<(), FolderError>
         requires own { is_own (S.calls self.old.store) ≡ true }
         ensures began { self.new.began.items ≡ self.old.began.items }
+        ensures told { OnOk result (IsTold step.now (S.calls self.new.store)) }
         ensures heard { heard_in (S.calls self.new.store) ≡ heard_in (S.calls self.old.store) }
     {
         let joining = match self.find_joining() {
@@ -132,7 +138,7 @@ impl<S: Store> RunningStore<S> {
     /// Puts an empty text in the place of the file `joins`, in the folder that is locked, whose
     /// file `farm` says that its node has published so far. Err: by its files the folder may not
     /// vote, or a call failed. After an error the text from before or none is there.
-    #[tactic(auto, using(crate::proofs::Stays::nothing_heard))]
+    #[tactic(auto, using(crate::proofs::Joined::emptied))]
     pub(crate) fn finish_joining(
         &mut self,
         alloc: Global,
@@ -141,6 +147,7 @@ impl<S: Store> RunningStore<S> {
         requires own { is_own (S.calls self.old.store) ≡ true }
         requires farm { SaysPublished published (S.calls self.old.store) }
         ensures began { self.new.began.items ≡ self.old.began.items }
+        ensures joined { OnOk result (JoinsNoMore (S.calls self.new.store)) }
         ensures heard { heard_in (S.calls self.new.store) ≡ heard_in (S.calls self.old.store) }
     {
         let joining = match self.find_joining() {
@@ -188,15 +195,18 @@ impl<S: Store> RunningStore<S> {
     /// Puts a text in the place of a file that is no tape, in the folder that is locked. Meanwhile
     /// another folder may have come to the path, which is an error. After an error the text from
     /// before or this one is there.
-    #[tactic(auto, using(crate::proofs::Stays::stays_replacing, crate::proofs::Stays::heard_put, crate::proofs::Stays::heard_not_put))]
+    #[tactic(auto, using(crate::proofs::Stays::stays_replacing, crate::proofs::Stays::was_put, crate::proofs::Stays::was_put_or_not, crate::proofs::Stays::was_not_put, crate::proofs::Stays::heard_beside, crate::proofs::Stays::heard_beside_not))]
     pub(crate) fn replace(&mut self, file: FileName, text: Vec<u8>) -> Result<(), FolderError>
         requires file { is_tape file ≡ false }
         requires own { is_own (S.calls self.old.store) ≡ true }
         requires may { MayBePutAt file text.items (S.calls self.old.store) }
         ensures began { self.new.began.items ≡ self.old.began.items }
-        ensures heard { MayHaveGot result (heard_in (S.calls self.old.store))
-            (heard_of_file file (Some text.items) (heard_in (S.calls self.old.store)))
-            (heard_in (S.calls self.new.store)) }
+        ensures put { OnOk result
+            (IsTextPut file text.items (S.calls self.old.store) (S.calls self.new.store)) }
+        ensures err { OnErr result
+            (MayBeIn file text.items (S.calls self.old.store) (S.calls self.new.store)) }
+        ensures heard { is_heard file ≡ false →
+            heard_in (S.calls self.new.store) ≡ heard_in (S.calls self.old.store) }
     {
         if let Err(fault) = self.store.replace(file, text) {
             return Err(FolderError::Store(fault));
@@ -210,6 +220,7 @@ fn joining_in(bytes: &[u8]) -> Result<Option<Joining>, FolderError>
     ensures joins { IfOk result (λ found. IfSome found IsJoins) }
     ensures text { IfOk result (λ found. IfSome found (λ joining.
         bytes.now ≡ joins_text joining)) }
+    ensures none { IfOk result (λ found. found ≡ None → bytes.now ≡ []) }
 {
     if bytes.is_empty() {
         return Ok(None);

@@ -1,6 +1,6 @@
 //! Theorems about folders. Each call does nothing.
 ghost use Rattle.wf_node_folder.specs.Damage.{AreBadNowhere};
-ghost use Rattle.wf_node_folder.specs.PowerCut.{ClearsAreSound, CutsAreReadBack, FilesAreWhole, InitsAreSound, InitsAreWhole, NodesAreSound, StartsAgain, StartsAreSound};
+ghost use Rattle.wf_node_folder.specs.PowerCut.{ClearsAreSound, CutsAreReadBack, FilesAreWhole, InitsAreSound, InitsAreWhole, NodesAreSound, StartsAgain, StartsAreSound, StopsAreSound};
 
 use wf_canon::one_text_one_map;
 use wf_tape::Tape;
@@ -17,8 +17,8 @@ pub(crate) fn whole_records_are_bad_nowhere()
 /// Wherever the power is cut between calls of a folder, or inside one, of which each that writes a
 /// file other than a tape writes one that is read back (`specs/Sound.antt`): each such file isn't
 /// there, or is there whole, and the next start reads it back. Those of `init` are such calls, and
-/// after such those of `clear`, of a start that comes to serve, and of a node that is served. A
-/// theorem.
+/// after such those of `clear`, of a start, whether it comes to serve or ends with an error, and of
+/// a node that is served. A theorem.
 #[tactic(auto, using(crate::proofs::PowerCut::files_are_whole, crate::proofs::PowerCut::cuts_are_read_back, crate::proofs::PowerCut::starts_are_sound))]
 pub fn cut_folders_are_read_back()
     ensures whole { FilesAreWhole }
@@ -26,6 +26,7 @@ pub fn cut_folders_are_read_back()
     ensures init { InitsAreSound }
     ensures clear { ClearsAreSound }
     ensures start { StartsAreSound }
+    ensures stop { StopsAreSound }
     ensures nodes { NodesAreSound }
 {}
 

@@ -1,6 +1,8 @@
 //! What is written to the folder about replacements before the node goes by it.
-ghost use Rattle.std.specs.Prelude.{◌≡◌};
+ghost use Rattle.std.specs.Prelude.{◌≡◌, OnOk};
+ghost use Rattle.wf_peering.specs.Orders.{IsOrderKept, IsReachKept};
 ghost use Rattle.wf_voter.specs.Continuation.{ContinuesIn};
+ghost use Rattle.wf_voter.specs.Folder.{JoinsNoMore};
 
 use std::time::Clock;
 use wf_membership::{FolderError, Gate};
@@ -44,7 +46,9 @@ pub fn obey<R: Clock + Eprint + AllocGlobal, T: Tape + Drop, F: NodeFolder<T>, N
     }
 }
 
-/// Writes to the folder what is to be written about replacements, synced.
+/// Writes to the folder what is to be written about replacements, synced. Err: its file has what it
+/// had, or this.
+#[tactic(auto, using(crate::proofs::Orders::note_kept, crate::proofs::Orders::step_kept, crate::proofs::Orders::end_kept))]
 fn keep_order<T: Tape + Drop, F: NodeFolder<T>>(
     process: &Process<T>,
     notes: &mut Notes,
@@ -52,6 +56,7 @@ fn keep_order<T: Tape + Drop, F: NodeFolder<T>>(
     order: &Order,
 ) -> Result<(), FolderError>
     ensures stands { F.stands folder.new ≡ F.stands folder.old }
+    ensures kept { OnOk result (IsOrderKept order.now (F.calls folder.new)) }
 {
     match order {
         Order::Note(latest) => folder.keep_replaced(latest),
@@ -67,6 +72,7 @@ fn keep_joined<T: Tape + Drop, F: NodeFolder<T>>(
     folder: &mut F,
 ) -> Result<(), FolderError>
     ensures stands { F.stands folder.new ≡ F.stands folder.old }
+    ensures joined { OnOk result (JoinsNoMore (F.calls folder.new)) }
 {
     match keep_reach(process, notes, folder) {
         Ok(()) => folder.finish_joining(),
@@ -75,12 +81,14 @@ fn keep_joined<T: Tape + Drop, F: NodeFolder<T>>(
 }
 
 /// Keeps in the folder how far a node is. Err: the folder's, or that an allocation failed.
+#[tactic(auto, using(crate::proofs::Orders::reach_kept))]
 pub fn keep_reach<T: Tape + Drop, F: NodeFolder<T>>(
     process: &Process<T>,
     notes: &mut Notes,
     folder: &mut F,
 ) -> Result<(), FolderError>
     ensures stands { F.stands folder.new ≡ F.stands folder.old }
+    ensures kept { OnOk result (IsReachKept process.now.actor.node (F.farm folder.new)) }
 {
     let node = process.node();
     notes.extend(node.history());

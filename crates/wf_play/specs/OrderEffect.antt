@@ -104,5 +104,5 @@ abbrev pub PerformsOrder : ℕ → Session → Session → Type 0
 PerformsOrder n before after = PerformsAt before.script.maps (order_at before n) before.farm after.farm
 
 -- for the crate's own contracts: what this order of its script does
-abbrev pub Acts : Order → Session → Session → Type 0
-Acts order before after = Performs before.script.maps order before.farm after.farm
+abbrev pub DoesOrder : Order → Session → Session → Type 0
+DoesOrder order before after = Performs before.script.maps order before.farm after.farm

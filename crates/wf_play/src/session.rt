@@ -46,7 +46,7 @@ impl<'s> Session<'s> {
     ghost use Rattle.wf_script.specs.Order.{view};
     ghost use Rattle.wf_play.specs.Fault.{IsOrderFault, LosesNone, LosesOnlyOf};
     ghost use Rattle.wf_play.specs.Theorem.{HasKeptPromises, HasOwnBallots, HasPromisedMajorities};
-    ghost use Rattle.wf_play.specs.OrderEffect.{Acts, HaveHappened, HappensIf, PerformsOrder, carries, event_at, may_use, may_use_at, order_at};
+    ghost use Rattle.wf_play.specs.OrderEffect.{DoesOrder, HaveHappened, HappensIf, PerformsOrder, carries, event_at, may_use, may_use_at, order_at};
     ghost use Rattle.wf_play.specs.Session.{Plays};
     ghost use Rattle.wf_play.specs.Report.{IsAppended, WritesReport, ReportsOrder, happened_text, step_rejection_line};
 
@@ -156,7 +156,7 @@ impl<'s> Session<'s> {
         out: &mut String,
     ) -> Result<(), CarrierFault>
         ensures script { self.new.script ≡ self.old.script }
-        ensures does { OnOk result (Acts (view order.now) self.old self.new) }
+        ensures does { OnOk result (DoesOrder (view order.now) self.old self.new) }
         ensures reports { OnOk result (WritesReport
             (view order.now) self.old self.new out.old out.new) }
         ensures lost { IfErr result (LosesOnlyOf (view order.now) self.old.farm) }
@@ -189,7 +189,7 @@ impl<'s> Session<'s> {
     ) -> Result<(), CarrierFault>
         requires { carries (view order.now) ≡ false }
         ensures script { self.new.script ≡ self.old.script }
-        ensures does { OnOk result (Acts (view order.now) self.old self.new) }
+        ensures does { OnOk result (DoesOrder (view order.now) self.old self.new) }
         ensures reports { OnOk result (WritesReport
             (view order.now) self.old self.new out.old out.new) }
         ensures memory { IfErr result (λ fault. fault ≡ faults.Memory) }
@@ -205,7 +205,7 @@ impl<'s> Session<'s> {
     fn act(&mut self, alloc: Global, order: &Order, out: &mut String) -> Result<(), AllocError>
         requires { carries (view order.now) ≡ false }
         ensures script { self.new.script ≡ self.old.script }
-        ensures does { OnOk result (Acts (view order.now) self.old self.new) }
+        ensures does { OnOk result (DoesOrder (view order.now) self.old self.new) }
         ensures reports { OnOk result (WritesReport
             (view order.now) self.old self.new out.old out.new) }
         ensures plays { Plays self.old.farm self.new.farm }

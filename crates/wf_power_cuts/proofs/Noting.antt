@@ -5,7 +5,7 @@ use Rattle.std.proofs.lemmas.List.{map-append, reverse-append}
 use Rattle.std.specs.Prelude.{Option, None, map, reverse}
 use Rattle.wf_disk.specs.Folder.{MayLeave}
 use Rattle.wf_power_cuts.proofs.DiskLemmas.{none_read, one_read}
-use Rattle.wf_power_cuts.proofs.Told.{told_compared, told_counted, told_drawn, told_failed, told_failed_at, told_first, told_locked, told_looked, told_made, told_measured, told_opened, told_opened_existing, told_read, told_replaced, told_seen, told_seen_open, told_unreplaced}
+use Rattle.wf_power_cuts.proofs.Told.{told_compared, told_counted, told_drawn, told_failed, told_failed_at, told_first, told_locked, told_looked, told_made, told_measured, told_opened, told_opened_existing, told_read, told_replaced, told_seen, told_unreplaced}
 use Rattle.wf_power_cuts.specs.Cut.{is_file}
 use Rattle.wf_power_cuts.specs.Disks.{AreOnlyRead, AreCutsTold, ChangesDisk, DiskSet, IsOldOr, disk_of, empty_disks, past_of}
 use Rattle.wf_store.specs.Call.{Call, failed, failed_at, is_change, opened, opened_existing, read, replaced, unreplaced}
@@ -35,7 +35,7 @@ quiet calls now new past (deeds.Sees file there) told reads plain = told_seen ca
 quiet calls now new past (deeds.Measures file length) told reads plain = told_measured calls now new past told reads file length
 quiet calls now new past (deeds.Reads file) told reads plain = told_read calls now new past told reads file None
 quiet calls now new past (deeds.Opens file) told reads plain = absurd (false≢true (sym plain))
-quiet calls now new past (deeds.OpensExisting file) told reads plain = told_seen_open calls now new past told reads file
+quiet calls now new past (deeds.OpensExisting file) told reads plain = absurd (false≢true (sym plain))
 quiet calls now new past (deeds.Replaces file) told reads plain = absurd (false≢true (sym plain))
 quiet calls now new past deeds.Fails told reads plain = told_failed calls now new past told reads
 quiet calls now new past (deeds.FailsAt file) told reads plain = absurd (false≢true (sym plain))

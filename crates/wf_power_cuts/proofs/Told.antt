@@ -135,11 +135,6 @@ module _ (calls : List Call) (now new : DiskSet) (past : List DiskSet) (told : A
     pub told_read : (file : FileName) (bytes : Option (List ℕ)) → AreCutsTold (read file bytes ∷ calls) new (now ∷ past)
     told_read file bytes = told_step (read file bytes) after_read inside_read
 
-    pub told_seen_open : (file : FileName) → AreCutsTold (opened_existing file ∷ calls) new (now ∷ past)
-    told_seen_open file = told_step (opened_existing file)
-        (λ other image left. chosen (is_file file other) ⊤ (could other image) (λ is. tt) (λ isnt. after_read other image left))
-        (λ other image left. chosen (is_file file other) ⊤ (could other image) (λ is. tt) (λ isnt. inside_read other image left))
-
     pub told_failed : AreCutsTold (failed ∷ calls) new (now ∷ past)
     told_failed = told_step failed after_read inside_read
 

@@ -34,7 +34,6 @@ impl Model for DiskStore {
 
 impl DiskStore {
     /// An empty folder for the tape of a node, which draws these random bits.
-
     pub fn new(alloc: Global, node: u8, bits: [u8; 16]) -> Self
         ensures calls { result.calls ≡ [] }
         ensures past { result.past ≡ [] }
@@ -178,7 +177,7 @@ impl DiskStore {
     ) -> Result<DiskTape<MemoryDisk>, TapeFault>
         ensures ok { OnOk result (self.new.calls ≡ opened_existing file ∷ self.old.calls) }
         ensures err { OnErr result (self.new.calls ≡ failed ∷ self.old.calls) }
-        ensures reads { OnlyReads self.old.calls self.new.calls }
+        ensures after { IsAfter self.old.calls self.new.calls }
     {
         self.past = self.past.and(&self.disks, &());
         match self.disks.open(self.alloc, file) {

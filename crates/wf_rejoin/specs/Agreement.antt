@@ -32,7 +32,7 @@ pub record Agrees (known : List (Option Replacement)) (asked : Asked) (node : �
   pub quiet : (force ≡ true) ⊎ HasBeenQuiet asked
 
 -- it votes, and has agreed to the replacement, or was told of it
-pub record Answers (known : List (Option Replacement)) (asked : Asked) (node : ℕ) (r : Replacement) : Type 0 where
+pub record AnswersJoiner (known : List (Option Replacement)) (asked : Asked) (node : ℕ) (r : Replacement) : Type 0 where
   pub votes : asked.hindrance ≡ None
   pub agreed : latest_of known node ≡ Some r
 

@@ -25,7 +25,7 @@ impl Model for Replacements {
 
 impl Replacements {
     ghost use Rattle.std.specs.Prelude.{◌≡◌, ◌↔◌, ◌<◌, ◌≤◌, Some, None, IfSome, IsTrue, SomeIff, length, replicate, slice_set};
-    ghost use Rattle.wf_rejoin.specs.Agreement.{Answers};
+    ghost use Rattle.wf_rejoin.specs.Agreement.{AnswersJoiner};
     ghost use Rattle.wf_rejoin.specs.Replacements.{AreNoOlder, IsNewReplacement, known_count, latest_of};
 
     /// Nothing is known.
@@ -125,7 +125,7 @@ impl Replacements {
         replacement: &Replacement,
         now: Answer,
     ) -> Option<Answer>
-        ensures { SomeIff result (Answers self.now asked.now node replacement.now) now }
+        ensures { SomeIff result (AnswersJoiner self.now asked.now node replacement.now) now }
     {
         if asked.hindrance.is_none() && self.has_agreed(node, replacement) {
             Some(now)

@@ -3,7 +3,7 @@ use Rattle.std.proofs.Common.{◌≡◌, ℕ, Bool, true, false, List, [], ◌�
 use Rattle.std.proofs.lemmas.Option.{same_Some}
 use Rattle.wf_career.specs.Career.{Ended, AreRuns}
 use Rattle.wf_career.specs.Continuation.{left_by}
-use Rattle.wf_career.specs.Run.{Input, Act, Run, last_of, last, End, Between, Within, Failed, StandForEither, FailedAt, HasLeft, AreDone}
+use Rattle.wf_career.specs.Run.{Input, Act, Run, last_of, last, RunEnd, Between, Within, Failed, StandForEither, FailedAt, HasLeft, AreDone}
 use Rattle.wf_codec.specs.Message as message
 use Rattle.wf_codec.specs.declared.message.Message.{Message}
 use Rattle.wf_def.specs.Definition.{Definition}
@@ -112,7 +112,7 @@ module _ (sent : List Message) where
     failed_learns node (act ∷ acts) input (inl here) learn = subst (LearnsBy sent) here.2 learn.0
     failed_learns node (act ∷ acts) input (inr later) learn = failed_learns act.after acts input later learn.1
 
-    end_held : (run : Run T) (end : End) (bytes : List ℕ) → HasLeft run end bytes → ActsLearn sent run.acts → EndLearns sent end → IsLearned said (stored_of (last run)) → HoldsLearned sent bytes
+    end_held : (run : Run T) (end : RunEnd) (bytes : List ℕ) → HasLeft run end bytes → ActsLearn sent run.acts → EndLearns sent end → IsLearned said (stored_of (last run)) → HoldsLearned sent bytes
     end_held run Between bytes left learn ends learned = held (stored_of (last run)) bytes left.1 learned
     end_held run (Within input) bytes left learn ends learned = either_held (last run) learned input bytes ends left.1
     end_held run (Failed input) bytes left learn ends learned = either_held (last run) learned input bytes (failed_learns run.first run.acts input left.0 learn) left.1

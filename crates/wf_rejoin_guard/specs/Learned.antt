@@ -3,7 +3,7 @@
 use Rattle.std.specs.Prelude.{◌≡◌, ℕ, ◌<◌, ◌≤◌, ⊤, List, [], ◌∷◌, ◌++◌, map, take, slice_get, Some, None}
 use Rattle.wf_career.specs.Career.{Ended, AreRuns}
 use Rattle.wf_career.specs.Continuation.{left_by}
-use Rattle.wf_career.specs.Run.{Input, Act, End, Between, Within, Failed}
+use Rattle.wf_career.specs.Run.{Input, Act, RunEnd, Between, Within, Failed}
 use Rattle.wf_codec.specs.Message as message
 use Rattle.wf_codec.specs.declared.message.Message.{Message}
 use Rattle.wf_def.specs.Definition.{Definition}
@@ -43,7 +43,7 @@ abbrev pub ActsLearn : {T : Type 0} → List Message → List (Act T) → Type 0
 ActsLearn sent [] = ⊤
 ActsLearn sent (act ∷ acts) = LearnsBy sent act.input × ActsLearn sent acts
 
-abbrev pub EndLearns : List Message → End → Type 0
+abbrev pub EndLearns : List Message → RunEnd → Type 0
 EndLearns sent Between = ⊤
 EndLearns sent (Within input) = LearnsBy sent input
 EndLearns sent (Failed input) = ⊤

@@ -2,7 +2,7 @@
 use Rattle.std.proofs.Common.{◌≡◌, ℕ, List, [], ◌∷◌, ◌++◌, Option, Some, None, refl, sym, ap, subst, ◌∙◌, append-nil, append_assoc}
 use Rattle.std.specs.Prelude.{⊤}
 use Rattle.wf_career.specs.Career.{Ended, AreRuns, values_after, values_of, Item, items_by, items_at, items_in, IsOneOf}
-use Rattle.wf_career.specs.Run.{Act, Run, last_of, End, Between, Within, Failed, HasLeft, AreDone}
+use Rattle.wf_career.specs.Run.{Act, Run, last_of, RunEnd, Between, Within, Failed, HasLeft, AreDone}
 use Rattle.wf_career.specs.RunTheorems.{last_more}
 use Rattle.wf_codec.specs.declared.message.Message.{Message}
 use Rattle.wf_node.specs.Node.{Node}
@@ -120,7 +120,7 @@ module _ {T : Type 0} (i : ℕ) where
           (subst (λ (xs : List (Act T)). AllMayHappen tapes n (Up (run_by node xs)) more) (sym (append_assoc taken (act ∷ []) acts)) later),
     )
 
-    end_happens : (run : Run T) (end : End) (left : List ℕ) → HasLeft run end left → MayHappen tapes n (Up run) (Ends i end left)
+    end_happens : (run : Run T) (end : RunEnd) (left : List ℕ) → HasLeft run end left → MayHappen tapes n (Up run) (Ends i end left)
     end_happens run Between left leaves = λ sent among. (leaves, tt)
     end_happens run (Within input) left leaves = λ sent among. (leaves, among.0)
     end_happens run (Failed input) left leaves = λ sent among. (leaves, tt)

@@ -4,7 +4,7 @@ use Rattle.std.proofs.lemmas.Bool.{both_ways}
 use Rattle.std.proofs.lemmas.Option.{none-some, same_Some}
 use Rattle.std.specs.Prelude.{⊤}
 use Rattle.wf_career.specs.Career.{IsOneOf}
-use Rattle.wf_career.specs.Run.{Input, Act, Run, last_of, last, End, Between, Within, Failed, FailedAt, HasLeft, IsOpenedFrom, IsAct, IsRun}
+use Rattle.wf_career.specs.Run.{Input, Act, Run, last_of, last, RunEnd, Between, Within, Failed, FailedAt, HasLeft, IsOpenedFrom, IsAct, IsRun}
 use Rattle.wf_career.specs.RunTheorems.{last_more, done_more}
 use Rattle.wf_codec.specs.Message as message
 use Rattle.wf_codec.specs.declared.message.Message.{Message}
@@ -271,7 +271,7 @@ module _ {T : Type 0} (one : AreReadOneWay) (tapes : Tape T) (n : ℕ) (sent : L
 
     module _ (left : List ℕ) where
       -- between two steps, or within one whose record isn't kept
-      ends_running : (end : End) → (last run).halted ≡ false → StandsFor (stored_of (last run)) left → GoesOn tapes n sent rest (Up run) (Ends i end left)
+      ends_running : (end : RunEnd) → (last run).halted ≡ false → StandsFor (stored_of (last run)) left → GoesOn tapes n sent rest (Up run) (Ends i end left)
       ends_running end runs stands = record {
         next = stored_of (last run);
         known = stand_once one (stored_of (last run)) left stands;
@@ -297,14 +297,14 @@ module _ {T : Type 0} (one : AreReadOneWay) (tapes : Tape T) (n : ℕ) (sent : L
       }
 
       -- after its tape has failed
-      ends_halted : (end : End) (part : DurableState Definition) → (last run).halted ≡ true → MayStore run part → StandsFor part left → GoesOn tapes n sent rest (Up run) (Ends i end left)
+      ends_halted : (end : RunEnd) (part : DurableState Definition) → (last run).halted ≡ true → MayStore run part → StandsFor part left → GoesOn tapes n sent rest (Up run) (Ends i end left)
       ends_halted end part halts may stands = record {
         next = part;
         known = stand_once one part left stands;
         comes = λ y shows. stops (Ends i end left) y refl refl (λ entry. tt) (down part) (shows_halted run (down part) halts refl may) shows;
       }
 
-      ends : (end : End) → HasLeft run end left → IsCutInputSent sent end → GoesOn tapes n sent rest (Up run) (Ends i end left)
+      ends : (end : RunEnd) → HasLeft run end left → IsCutInputSent sent end → GoesOn tapes n sent rest (Up run) (Ends i end left)
       ends Between (runs, stands) cut = ends_running Between runs stands
       ends (Within input) (runs, inl stands) cut = ends_running (Within input) runs stands
       ends (Within input) (runs, inr (none, stands)) cut = ends_within input runs none stands cut

@@ -2,7 +2,7 @@
 -- of time.
 use Rattle.std.specs.Prelude.{ℕ, ◌<◌, ◌==◌, ⊤, List, [], ◌∷◌, ◌++◌, take, Option, Some, None, if◌then◌else◌}
 use Rattle.wf_career.specs.Career.{IsOneOf}
-use Rattle.wf_career.specs.Run.{Act, Run, last, End, Between, Within, Failed, HasLeft, IsOpenedFrom, IsAct}
+use Rattle.wf_career.specs.Run.{Act, Run, last, RunEnd, Between, Within, Failed, HasLeft, IsOpenedFrom, IsAct}
 use Rattle.wf_codec.specs.declared.message.Message.{Message}
 use Rattle.wf_def.specs.Definition.{Definition}
 use Rattle.wf_model.specs.DurableState.{DurableState}
@@ -18,7 +18,7 @@ use Rattle.wf_tape.specs.declared.tape.Tape.{Ghosts as Tape}
 pub data ProcessEvent (T : Type 0) : Type 0 where
   Opens : (process : ℕ) (node : Node T) → ProcessEvent T
   Acts : (process : ℕ) (act : Act T) → ProcessEvent T
-  Ends : (process : ℕ) (end : End) (left : List ℕ) → ProcessEvent T
+  Ends : (process : ℕ) (end : RunEnd) (left : List ℕ) → ProcessEvent T
   Loses : (process : ℕ) → ProcessEvent T
   Rejoins : (process : ℕ) (bytes : List ℕ) → ProcessEvent T
 
@@ -74,7 +74,7 @@ pub record HoldsCopy (bytes : List ℕ) : Type 0 where
   pub copy : IsCopy stored
 
 -- the input within whose step a run is cut was sent too
-abbrev pub IsCutInputSent : List Message → End → Type 0
+abbrev pub IsCutInputSent : List Message → RunEnd → Type 0
 IsCutInputSent sent Between = ⊤
 IsCutInputSent sent (Within input) = IsOneOf sent input
 IsCutInputSent sent (Failed input) = ⊤

@@ -7,7 +7,7 @@ use Rattle.wf_def.specs.Definition.{Definition}
 use Rattle.wf_edge.specs.ErrorResponse.{response_of}
 use Rattle.wf_edge.specs.Page.{IsServiceGiven, IsServicePage, service_page}
 use Rattle.wf_edge.specs.Request.{Request}
-use Rattle.wf_edge.specs.RequestEffect.{Gives, GivesTo, IsOutcome}
+use Rattle.wf_edge.specs.RequestEffect.{GivesReply, GivesTo, IsOutcome}
 use Rattle.wf_edge.specs.declared.error_response.ErrorResponse.{ErrorResponse}
 use Rattle.wf_edge.specs.declared.outcome.Outcome.{Outcome}
 use Rattle.wf_edge.specs.declared.outcome.Outcome.TheVariants as outcome
@@ -20,9 +20,9 @@ use Rattle.wf_node.specs.Node.{Node}
 use Rattle.wf_wms.specs.Answer.{IsAnswerOf}
 use Rattle.wf_tape.specs.declared.tape.Tape.{Ghosts as Tape}
 use Rattle.wf_serve.specs.Agreement.{AskedAlike, AtOneSequence, ForOneMap}
-use Rattle.wf_runs.specs.Session.{Session}
+use Rattle.wf_runs.specs.Session.{NodeSession}
 use Rattle.wf_runs.specs.Folder.{WasOnce}
-use Rattle.wf_runs.specs.Theorems.{IsOneFarm, FolderIsOneFarm, HasOneHistory, HaveOneDefinition, NoneGoesBack, IsQueryTo, HasResponded, IsReplyToQuery, RespondAlike, GetAlike, SessionsAreOneFarm}
+use Rattle.wf_runs.specs.Theorems.{IsOneFarm, FolderIsOneFarm, HasOneHistory, HaveOneDefinition, NoneGoesBack, IsQueryTo, NodeHasResponded, IsReplyToQuery, RespondAlike, GetAlike, SessionsAreOneFarm}
 
 -- ---- the page of a query
 
@@ -39,11 +39,11 @@ module _ {T : Type 0} (tapes : Tape T) where
       subst (λ q. IsServicePage node.parts.history q (response_of answer)) same (page_of_service node.parts.history (query_of request.head.target) answer given.0 fine)
 
   page_arrived : (arrived : Result Request RequestFault) (node after : Node T) (answer : Result Response ErrorResponse) (sent : Vec Message Global) (query : List ℕ) → IsQueryTo arrived query →
-      Gives tapes arrived node answer sent after → (response_of answer).status ≢ 503 → IsServicePage node.parts.history query (response_of answer)
+      GivesReply tapes arrived node answer sent after → (response_of answer).status ≢ 503 → IsServicePage node.parts.history query (response_of answer)
   page_arrived (Ok request) node after answer sent query asks gives fine = page_by request.asked request node after answer sent query asks.0 asks.1 gives fine
   page_arrived (Err why) node after answer sent query asks gives fine = absurd asks
 
-  page_responded : (node : Node T) (query : List ℕ) (response : Response) → HasResponded tapes node query response → response.status ≢ 503 → IsServicePage node.parts.history query response
+  page_responded : (node : Node T) (query : List ℕ) (response : Response) → NodeHasResponded tapes node query response → response.status ≢ 503 → IsServicePage node.parts.history query response
   page_responded node query response has fine =
       let r = has.responds in
       subst (IsServicePage node.parts.history query) (sym r.is)
@@ -53,17 +53,17 @@ module _ {T : Type 0} (tapes : Tape T) where
 
 module _ {T : Type 0} (tapes : Tape T) where
   responded : (input old new : Option (List ℕ)) (before after : Node T) (outputs : Vec Message Global) (got : Outcome) (is : IsOutcome tapes input old new before outputs after got) (query : List ℕ) (response : Response) →
-      IsReplyToQuery tapes input old new before after outputs got is query response → HasResponded tapes before query response
+      IsReplyToQuery tapes input old new before after outputs got is query response → NodeHasResponded tapes before query response
   responded input old new before after outputs (outcome.Sent status count) is query response reply =
-      subst (HasResponded tapes before query) reply.0 (record { input = input; sent = outputs; after = after; responds = is.responds; asked = reply.1 })
+      subst (NodeHasResponded tapes before query) reply.0 (record { input = input; sent = outputs; after = after; responds = is.responds; asked = reply.1 })
   responded input old new before after outputs (outcome.WriteFailed status count) is query response reply =
-      subst (HasResponded tapes before query) reply.0 (record { input = input; sent = outputs; after = after; responds = is.responds; asked = reply.1 })
+      subst (NodeHasResponded tapes before query) reply.0 (record { input = input; sent = outputs; after = after; responds = is.responds; asked = reply.1 })
   responded input old new before after outputs outcome.ReadFailed is query response reply = absurd reply
   responded input old new before after outputs outcome.NoRequest is query response reply = absurd reply
 
 -- ---- the theorems
 
-module _ {T : Type 0} (tapes : Tape T) (n : ℕ) (sessions : List (Session T)) (is : IsOneFarm tapes n sessions) where
+module _ {T : Type 0} (tapes : Tape T) (n : ℕ) (sessions : List (NodeSession T)) (is : IsOneFarm tapes n sessions) where
   held : (node : Node T) → WasOnce sessions node → career.IsHeld n is.careers node
   held node h =
       let same = is.order h.moment h.moment h.node_index node node (omega arith) h.at h.at in

@@ -4,7 +4,7 @@ use Rattle.wf_career.specs.Career.{Ended, AreRuns, items_of, items_by, items_at,
 use Rattle.wf_career.specs.Run.{Run, IsRun}
 use Rattle.wf_node.specs.Node.{Node}
 use Rattle.wf_tape.specs.declared.tape.Tape.{Ghosts as Tape}
-use Rattle.wf_runs.specs.Session.{Session, AreTaken, acts_at, moments_from, run_at}
+use Rattle.wf_runs.specs.Session.{NodeSession, AreStepsTaken, acts_at, moments_from, run_at}
 use Rattle.wf_runs.specs.Folder.{IsLeftAt, IsSession, AreSessions, moments}
 use Rattle.wf_runs.proofs.Items.{all_items, cuts, cuts_own, made, made_own, more_of}
 use Rattle.wf_runs.proofs.Left.{left_alike}
@@ -13,7 +13,7 @@ use Rattle.wf_runs.proofs.Turns.{node_at}
 
 -- Runs of the process of index i, from bytes that may be read there: their items are its items, and
 -- the moments show their values.
-pub record Lived {T : Type 0} (tapes : Tape T) (n i : ℕ) (found : ℕ → List ℕ → Type 0) (sessions : List (Session T)) : Type 0 where
+pub record Lived {T : Type 0} (tapes : Tape T) (n i : ℕ) (found : ℕ → List ℕ → Type 0) (sessions : List (NodeSession T)) : Type 0 where
   pub bytes : List ℕ
   pub may_be : found i bytes
   pub ended : List (Ended T)
@@ -24,7 +24,7 @@ pub record Lived {T : Type 0} (tapes : Tape T) (n i : ℕ) (found : ℕ → List
 
 module _ {T : Type 0} (tapes : Tape T) (n i : ℕ) (less : i < n) where
   -- its run in a session
-  session_run : (found : ℕ → List ℕ → Type 0) (session : Session T) (is : IsSession tapes n found session) (first : Node T) (at : slice_get session.nodes i ≡ Some first) →
+  session_run : (found : ℕ → List ℕ → Type 0) (session : NodeSession T) (is : IsSession tapes n found session) (first : Node T) (at : slice_get session.nodes i ≡ Some first) →
       IsRun tapes n i (is.opened i first at).bytes (run_at i first session)
   session_run found session is first at = record {
     opened = (is.opened i first at).opened;
@@ -45,18 +45,18 @@ module _ {T : Type 0} (tapes : Tape T) (n i : ℕ) (less : i < n) where
   unfolding moments
   no_moments = refl
 
-  more_moments : (session : Session T) (later : List (Session T)) → moments (session ∷ later) ≡ moments_from session.nodes session.steps ++ moments later
+  more_moments : (session : NodeSession T) (later : List (NodeSession T)) → moments (session ∷ later) ≡ moments_from session.nodes session.steps ++ moments later
   unfolding moments
   more_moments session later = refl
 
-  shows_last : (session : Session T) (first : Node T) → slice_get session.nodes i ≡ Some first → AreTaken tapes [] session.nodes session.steps → Show i (moments (session ∷ [])) (values_of [] (Some (run_at i first session)))
+  shows_last : (session : NodeSession T) (first : Node T) → slice_get session.nodes i ≡ Some first → AreStepsTaken tapes [] session.nodes session.steps → Show i (moments (session ∷ [])) (values_of [] (Some (run_at i first session)))
   unfolding values_of
   shows_last session first at taken =
       subst (λ ms. Show i ms (first ∷ values_after (acts_at i session.steps))) (sym (more_moments session [] ∙ ap (λ ms. moments_from session.nodes session.steps ++ ms) no_moments))
       (subst (λ vs. Show i (moments_from session.nodes session.steps ++ []) (first ∷ vs)) (append-nil (values_after (acts_at i session.steps)))
       (session_shows tapes i [] session.nodes session.steps first [] [] at taken (Ends [])))
 
-  last_lived : (found : ℕ → List ℕ → Type 0) (session : Session T) → IsSession tapes n found session → Lived tapes n i found (session ∷ [])
+  last_lived : (found : ℕ → List ℕ → Type 0) (session : NodeSession T) → IsSession tapes n found session → Lived tapes n i found (session ∷ [])
   last_lived found session is =
       let there = node_at tapes n session.nodes i is.as_many less in
       let first = there.0 in
@@ -73,7 +73,7 @@ module _ {T : Type 0} (tapes : Tape T) (n i : ℕ) (less : i < n) where
 
   -- ---- one more session before the others
 
-  more_items : (session next : Session T) (later : List (Session T)) (ended : Ended T) (more : List (Ended T)) (now : Option (Run T)) → ended.run.acts ≡ acts_at i session.steps → ended.end ≡ session.ends i →
+  more_items : (session next : NodeSession T) (later : List (NodeSession T)) (ended : Ended T) (more : List (Ended T)) (now : Option (Run T)) → ended.run.acts ≡ acts_at i session.steps → ended.end ≡ session.ends i →
       items_of i (all_items n (next ∷ later)) ≡ items_in i more now → items_of i (all_items n (session ∷ (next ∷ later))) ≡ items_in i (ended ∷ more) now
   more_items session next later ended more now acts end items =
       more_of i (made session.steps) (cuts n session.ends ++ all_items n (next ∷ later))
@@ -84,15 +84,15 @@ module _ {T : Type 0} (tapes : Tape T) (n i : ℕ) (less : i < n) where
       ∙ ap (λ xs. items_at i ended.end ++ xs) items)
       ∙ sym (in_ended ended more now)
 
-  shows_more : (session : Session T) (later : List (Session T)) (ended : Ended T) (more : List (Ended T)) (now : Option (Run T)) → slice_get session.nodes i ≡ Some ended.run.first →
-      ended.run.acts ≡ acts_at i session.steps → AreTaken tapes [] session.nodes session.steps → Show i (moments later) (values_of more now) → Show i (moments (session ∷ later)) (values_of (ended ∷ more) now)
+  shows_more : (session : NodeSession T) (later : List (NodeSession T)) (ended : Ended T) (more : List (Ended T)) (now : Option (Run T)) → slice_get session.nodes i ≡ Some ended.run.first →
+      ended.run.acts ≡ acts_at i session.steps → AreStepsTaken tapes [] session.nodes session.steps → Show i (moments later) (values_of more now) → Show i (moments (session ∷ later)) (values_of (ended ∷ more) now)
   unfolding values_of
   shows_more session later ended more now at acts taken show =
       subst (λ ms. Show i ms (ended.run.first ∷ (values_after ended.run.acts ++ values_of more now))) (sym (more_moments session later))
       (subst (λ done. Show i (moments_from session.nodes session.steps ++ moments later) (ended.run.first ∷ (values_after done ++ values_of more now))) (sym acts)
       (session_shows tapes i [] session.nodes session.steps ended.run.first (moments later) (values_of more now) at taken show))
 
-  more_lived : (found : ℕ → List ℕ → Type 0) (session next : Session T) (later : List (Session T)) → IsSession tapes n found session → Lived tapes n i (IsLeftAt session) (next ∷ later) →
+  more_lived : (found : ℕ → List ℕ → Type 0) (session next : NodeSession T) (later : List (NodeSession T)) → IsSession tapes n found session → Lived tapes n i (IsLeftAt session) (next ∷ later) →
       Lived tapes n i found (session ∷ (next ∷ later))
   more_lived found session next later is rest =
       let was = rest.may_be in
@@ -109,6 +109,6 @@ module _ {T : Type 0} (tapes : Tape T) (n i : ℕ) (less : i < n) where
         show = shows_more session (next ∷ later) ended rest.ended rest.now was.at refl is.taken rest.show;
       }
 
-  pub lived : (found : ℕ → List ℕ → Type 0) (session : Session T) (later : List (Session T)) → AreSessions tapes n found (session ∷ later) → Lived tapes n i found (session ∷ later)
+  pub lived : (found : ℕ → List ℕ → Type 0) (session : NodeSession T) (later : List (NodeSession T)) → AreSessions tapes n found (session ∷ later) → Lived tapes n i found (session ∷ later)
   lived found session [] are = last_lived found session are.0
   lived found session (next ∷ later) are = more_lived found session next later are.0 (lived (IsLeftAt session) next later are.1)

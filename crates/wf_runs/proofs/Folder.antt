@@ -8,7 +8,7 @@ use Rattle.wf_career.specs.Continuation.{unstarted}
 use Rattle.wf_journal.specs.Records.{AreReadOneWay}
 use Rattle.wf_node.specs.Node.{Node}
 use Rattle.wf_tape.specs.declared.tape.Tape.{Ghosts as Tape}
-use Rattle.wf_runs.specs.Session.{Session}
+use Rattle.wf_runs.specs.Session.{NodeSession}
 use Rattle.wf_runs.specs.Folder.{IsNewTape, IsFolder, moments, WasAt}
 use Rattle.wf_runs.specs.Theorems.{IsOneFarm, FolderIsOneFarm}
 use Rattle.wf_runs.proofs.Careers.{Lived, lived}
@@ -37,7 +37,7 @@ no_sessions {T} tapes n = record {
 
 -- ---- some
 
-module _ {T : Type 0} (theorem : AreReadOneWay) (tapes : Tape T) (n : ℕ) (session : Session T) (later : List (Session T)) (are : IsFolder tapes n (session ∷ later)) where
+module _ {T : Type 0} (theorem : AreReadOneWay) (tapes : Tape T) (n : ℕ) (session : NodeSession T) (later : List (NodeSession T)) (are : IsFolder tapes n (session ∷ later)) where
   life : (i : ℕ) → i < n → Lived tapes n i IsNewTape (session ∷ later)
   life i less = lived tapes n i less IsNewTape session later are
 
@@ -101,6 +101,6 @@ module _ {T : Type 0} (theorem : AreReadOneWay) (tapes : Tape T) (n : ℕ) (sess
 pub folder_is_one_farm : AreReadOneWay → {T : Type 0} (tapes : Tape T) → FolderIsOneFarm tapes
 folder_is_one_farm theorem {T} tapes = farm
   where
-    farm : (n : ℕ) (sessions : List (Session T)) → IsFolder tapes n sessions → IsOneFarm tapes n sessions
+    farm : (n : ℕ) (sessions : List (NodeSession T)) → IsFolder tapes n sessions → IsOneFarm tapes n sessions
     farm n [] are = no_sessions tapes n
     farm n (session ∷ later) are = one_farm theorem tapes n session later are

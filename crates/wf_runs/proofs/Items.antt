@@ -2,8 +2,8 @@
 use Rattle.std.proofs.Common.{◌≡◌, ◌≢◌, ℕ, zero, suc, ◌<◌, ◌≤◌, List, [], ◌∷◌, ◌++◌, refl, sym, ap, ◌∙◌, inl, inr, arith, append-nil, eq-eqb, ne_eqb}
 use Rattle.std.proofs.lemmas.Bool.{cases_eq}
 use Rattle.wf_career.specs.Career.{Item, items_of, items_by, items_at}
-use Rattle.wf_career.specs.Run.{Act, End, Between, Within, Failed}
-use Rattle.wf_runs.specs.Session.{Step, Session, acts_at}
+use Rattle.wf_career.specs.Run.{Act, RunEnd, Between, Within, Failed}
+use Rattle.wf_runs.specs.Session.{SessionStep, NodeSession, acts_at}
 
 -- ---- the items of one process
 
@@ -37,11 +37,11 @@ by_none T i = refl
 -- ---- the acts of one node
 
 module _ {T : Type 0} where
-  pub acts_own : (i : ℕ) (step : Step T) (steps : List (Step T)) → step.node_index ≡ i → acts_at i (step ∷ steps) ≡ step.act ∷ acts_at i steps
+  pub acts_own : (i : ℕ) (step : SessionStep T) (steps : List (SessionStep T)) → step.node_index ≡ i → acts_at i (step ∷ steps) ≡ step.act ∷ acts_at i steps
   unfolding acts_at
   acts_own i step steps same = rw (eq-eqb step.node_index i same) refl
 
-  pub acts_other : (i : ℕ) (step : Step T) (steps : List (Step T)) → step.node_index ≢ i → acts_at i (step ∷ steps) ≡ acts_at i steps
+  pub acts_other : (i : ℕ) (step : SessionStep T) (steps : List (SessionStep T)) → step.node_index ≢ i → acts_at i (step ∷ steps) ≡ acts_at i steps
   unfolding acts_at
   acts_other i step steps differs = rw (ne_eqb step.node_index i differs) refl
 
@@ -53,11 +53,11 @@ module _ {T : Type 0} where
   by_one_more i act acts = refl
 
   -- the items of these steps
-  abbrev pub made : List (Step T) → List Item
+  abbrev pub made : List (SessionStep T) → List Item
   made [] = []
   made (step ∷ steps) = item_by step.node_index step.act ∷ made steps
 
-  pub made_own : (i : ℕ) (steps : List (Step T)) → items_of i (made steps) ≡ items_by i (acts_at i steps)
+  pub made_own : (i : ℕ) (steps : List (SessionStep T)) → items_of i (made steps) ≡ items_by i (acts_at i steps)
   made_own i [] = none_of i ∙ sym (ap (items_by i) (no_acts T i) ∙ by_none T i)
   made_own i (step ∷ steps) = elim (cases_eq step.node_index i) [
     | inl own ↦
@@ -72,21 +72,21 @@ module _ {T : Type 0} where
 -- ---- what was cut when a session ended
 
 -- the items of the first nodes, this many
-abbrev pub cuts : ℕ → (ℕ → End) → List Item
+abbrev pub cuts : ℕ → (ℕ → RunEnd) → List Item
 cuts zero ends = []
 cuts (suc k) ends = cuts k ends ++ items_at k (ends k)
 
-cut_own : (i : ℕ) (end : End) → items_of i (items_at i end) ≡ items_at i end
+cut_own : (i : ℕ) (end : RunEnd) → items_of i (items_at i end) ≡ items_at i end
 cut_own i Between = none_of i
 cut_own i (Within input) = own_item i (record { process = i; takes = input; outputs = [] }) [] refl ∙ ap (λ xs. record { process = i; takes = input; outputs = [] } ∷ xs) (none_of i)
 cut_own i (Failed input) = none_of i
 
-cut_other : (i k : ℕ) (end : End) → k ≢ i → items_of i (items_at k end) ≡ []
+cut_other : (i k : ℕ) (end : RunEnd) → k ≢ i → items_of i (items_at k end) ≡ []
 cut_other i k Between differs = none_of i
 cut_other i k (Within input) differs = other_item i (record { process = k; takes = input; outputs = [] }) [] differs ∙ none_of i
 cut_other i k (Failed input) differs = none_of i
 
-module _ (i : ℕ) (ends : ℕ → End) where
+module _ (i : ℕ) (ends : ℕ → RunEnd) where
   cuts_below : (k : ℕ) → k ≤ i → items_of i (cuts k ends) ≡ []
   cuts_below zero less = none_of i
   cuts_below (suc k) less =
@@ -106,7 +106,7 @@ module _ (i : ℕ) (ends : ℕ → End) where
 
 -- ---- all of them: where another session comes after it, a session is cut
 
-abbrev pub all_items : {T : Type 0} → ℕ → List (Session T) → List Item
+abbrev pub all_items : {T : Type 0} → ℕ → List (NodeSession T) → List Item
 all_items n [] = []
 all_items n (session ∷ []) = made session.steps
 all_items n (session ∷ (next ∷ later)) = made session.steps ++ (cuts n session.ends ++ all_items n (next ∷ later))

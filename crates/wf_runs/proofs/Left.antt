@@ -3,7 +3,7 @@
 use Rattle.std.proofs.Common.{◌≡◌, ℕ, ◌<◌, List, [], length, Some, refl, sym, ap, subst, ◌∙◌, inl, inr, arith, length-append}
 use Rattle.std.proofs.lemmas.Option.{same_Some}
 use Rattle.wf_ballot.specs.Field.{frame}
-use Rattle.wf_career.specs.Run.{Input, Run, last, End, Between, Within, Failed, HasLeft, IsOpenedFrom, StandForEither}
+use Rattle.wf_career.specs.Run.{Input, Run, last, RunEnd, Between, Within, Failed, HasLeft, IsOpenedFrom, StandForEither}
 use Rattle.wf_def.specs.Definition.{Definition}
 use Rattle.wf_journal.specs.Records.{AreReadOneWay, BeginsWithNone}
 use Rattle.wf_journal.specs.Encoding.{spelling, text_spelling}
@@ -20,7 +20,7 @@ module _ {T : Type 0} (left bytes : List ℕ) (alike : ReadsAlike left bytes) wh
   either_alike node input (inl stands) = inl (alike (stored_of node) stands)
   either_alike node input (inr stands) = inr (stands.0, alike _ stands.1)
 
-  pub left_alike : (run : Run T) (end : End) → HasLeft run end left → HasLeft run end bytes
+  pub left_alike : (run : Run T) (end : RunEnd) → HasLeft run end left → HasLeft run end bytes
   left_alike run Between has = (has.0, alike (stored_of (last run)) has.1)
   left_alike run (Within input) has = (has.0, either_alike (last run) input has.1)
   left_alike run (Failed input) has = (has.0, either_alike (last run) input has.1)

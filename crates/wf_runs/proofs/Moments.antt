@@ -10,7 +10,7 @@ use Rattle.wf_codec.specs.declared.message.Message.{Message}
 use Rattle.wf_delivery.specs.IndexTheorems.{get_set_other, set_there}
 use Rattle.wf_node.specs.Node.{Node}
 use Rattle.wf_tape.specs.declared.tape.Tape.{Ghosts as Tape}
-use Rattle.wf_runs.specs.Session.{Session, Step, stepped, moments_from, acts_at, AreTaken}
+use Rattle.wf_runs.specs.Session.{NodeSession, SessionStep, stepped, moments_from, acts_at, AreStepsTaken}
 use Rattle.wf_runs.specs.Folder.{IsLeftAt, AreSessions, moments}
 use Rattle.wf_runs.proofs.Items.{acts_own, acts_other}
 
@@ -21,7 +21,7 @@ module _ {T : Type 0} (tapes : Tape T) (i : ℕ) where
   unfolding acts_at
   no_acts_done first = tt
 
-  pub acts_done : (sent : List Message) (nodes : List (Node T)) (steps : List (Step T)) (first : Node T) → slice_get nodes i ≡ Some first → AreTaken tapes sent nodes steps → AreDone tapes first (acts_at i steps)
+  pub acts_done : (sent : List Message) (nodes : List (Node T)) (steps : List (SessionStep T)) (first : Node T) → slice_get nodes i ≡ Some first → AreStepsTaken tapes sent nodes steps → AreDone tapes first (acts_at i steps)
   acts_done sent nodes [] first at taken = no_acts_done first
   acts_done sent nodes (step ∷ steps) first at taken = elim (cases_eq step.node_index i) [
     | inl own ↦
@@ -87,11 +87,11 @@ module _ {T : Type 0} (tapes : Tape T) (i : ℕ) where
   unfolding values_after
   after_none = refl
 
-  after_own : (step : Step T) (steps : List (Step T)) → step.node_index ≡ i → values_after (acts_at i (step ∷ steps)) ≡ step.act.after ∷ values_after (acts_at i steps)
+  after_own : (step : SessionStep T) (steps : List (SessionStep T)) → step.node_index ≡ i → values_after (acts_at i (step ∷ steps)) ≡ step.act.after ∷ values_after (acts_at i steps)
   unfolding values_after
   after_own step steps own = ap values_after (acts_own i step steps own)
 
-  after_other : (step : Step T) (steps : List (Step T)) → step.node_index ≢ i → values_after (acts_at i (step ∷ steps)) ≡ values_after (acts_at i steps)
+  after_other : (step : SessionStep T) (steps : List (SessionStep T)) → step.node_index ≢ i → values_after (acts_at i (step ∷ steps)) ≡ values_after (acts_at i steps)
   after_other step steps other = ap values_after (acts_other i step steps other)
 
   shows_none : (nodes : List (Node T)) (first : Node T) (times : List (List (Node T))) (vs : List (Node T)) → slice_get nodes i ≡ Some first → Show i times vs →
@@ -99,8 +99,8 @@ module _ {T : Type 0} (tapes : Tape T) (i : ℕ) where
   unfolding moments_from values_after acts_at
   shows_none nodes first times vs at show = Stays nodes times first (values_after (acts_at i []) ++ vs) at (Passes times first vs show)
 
-  pub session_shows : (sent : List Message) (nodes : List (Node T)) (steps : List (Step T)) (first : Node T) (times : List (List (Node T))) (vs : List (Node T)) → slice_get nodes i ≡ Some first →
-      AreTaken tapes sent nodes steps → Show i times vs → Show i (moments_from nodes steps ++ times) (first ∷ (values_after (acts_at i steps) ++ vs))
+  pub session_shows : (sent : List Message) (nodes : List (Node T)) (steps : List (SessionStep T)) (first : Node T) (times : List (List (Node T))) (vs : List (Node T)) → slice_get nodes i ≡ Some first →
+      AreStepsTaken tapes sent nodes steps → Show i times vs → Show i (moments_from nodes steps ++ times) (first ∷ (values_after (acts_at i steps) ++ vs))
   unfolding moments_from
   session_shows sent nodes [] first times vs at taken show = shows_none nodes first times vs at show
   session_shows sent nodes (step ∷ steps) first times vs at taken show = elim (cases_eq step.node_index i) [
@@ -133,12 +133,12 @@ module _ {T : Type 0} where
   long_both n [] more all also = also
   long_both n (now ∷ times) more all also = (all.0, long_both n times more all.1 also)
 
-  long_from : (n : ℕ) (nodes : List (Node T)) (steps : List (Step T)) → length nodes ≡ n → AllLong n (moments_from nodes steps)
+  long_from : (n : ℕ) (nodes : List (Node T)) (steps : List (SessionStep T)) → length nodes ≡ n → AllLong n (moments_from nodes steps)
   unfolding moments_from
   long_from n nodes [] long = (long, tt)
   long_from n nodes (step ∷ steps) long = (long, long_from n (stepped nodes step) steps (length-set nodes step.node_index step.act.after ∙ long))
 
-  pub all_long : (tapes : Tape T) (n : ℕ) (found : ℕ → List ℕ → Type 0) (sessions : List (Session T)) → AreSessions tapes n found sessions → AllLong n (moments sessions)
+  pub all_long : (tapes : Tape T) (n : ℕ) (found : ℕ → List ℕ → Type 0) (sessions : List (NodeSession T)) → AreSessions tapes n found sessions → AllLong n (moments sessions)
   unfolding moments
   all_long tapes n found [] are = tt
   all_long tapes n found (session ∷ later) are =

@@ -9,14 +9,14 @@ use Rattle.wf_model.specs.DurableState.{DurableState}
 use Rattle.wf_node.specs.Images.{StandsFor}
 use Rattle.wf_node.specs.Node.{Node}
 use Rattle.wf_tape.specs.declared.tape.Tape.{Ghosts as Tape}
-use Rattle.wf_runs.specs.Session.{Step, stepped, AreTaken}
+use Rattle.wf_runs.specs.Session.{SessionStep, stepped, AreStepsTaken}
 use Rattle.wf_runs.specs.Folder.{IsFound, IsLeftAt, IsNewTape, IsSession, AreSessions}
 use Rattle.wf_runs.specs.Theorems.{SessionsAreOneFarm}
-use Rattle.wf_runs.specs.ServedSteps.{Ran, served_by, session_of, ReadsFrom, AreRuns, RunsAreOneFarm, NewRunIsOneFarm}
+use Rattle.wf_runs.specs.ServedSteps.{Ran, served_by, session_of, ReadsFrom, AreServiceRuns, RunsAreOneFarm, NewRunIsOneFarm}
 use Rattle.wf_runs.proofs.Left.{nothing_stands}
 
 module _ {M F : Type 0} (inside : Tape M) (outside : Tape F) (n : ℕ) where
-  first_taken : (count : ℕ) (sent : List Message) (nodes : List (Node F)) (steps : List (Step F)) → AreTaken outside sent nodes steps → AreTaken outside sent nodes (take count steps)
+  first_taken : (count : ℕ) (sent : List Message) (nodes : List (Node F)) (steps : List (SessionStep F)) → AreStepsTaken outside sent nodes steps → AreStepsTaken outside sent nodes (take count steps)
   first_taken zero sent nodes steps taken = tt
   first_taken (suc count) sent nodes [] taken = tt
   first_taken (suc count) sent nodes (step ∷ steps) taken = (taken.0, first_taken count (sent ++ step.act.outputs) (stepped nodes step) steps taken.1)
@@ -41,7 +41,7 @@ module _ {M F : Type 0} (inside : Tape M) (outside : Tape F) (n : ℕ) where
     taken = first_taken ran.made [] (served_by inside outside ran).nodes ran.steps ran.course.reachable.taken;
   }
 
-  are_sessions : (found : ℕ → List ℕ → Type 0) (runs : List (Ran inside outside)) → AreRuns inside outside n found runs → AreSessions outside n found (map (session_of inside outside) runs)
+  are_sessions : (found : ℕ → List ℕ → Type 0) (runs : List (Ran inside outside)) → AreServiceRuns inside outside n found runs → AreSessions outside n found (map (session_of inside outside) runs)
   are_sessions found [] are = tt
   are_sessions found (ran ∷ later) are = (is_session found ran are.0 are.1, are_sessions (IsLeftAt (session_of inside outside ran)) later are.2)
 

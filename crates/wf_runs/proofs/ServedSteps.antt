@@ -14,26 +14,26 @@ use Rattle.wf_serve.specs.Connections.{HaveCome, IfReported, MayBeAnswered}
 use Rattle.wf_serve.specs.ConnectionEffect.{AreArrived, HaveCaughtUp, IsRetried}
 use Rattle.wf_serve.specs.declared.fault.ServeFault.{ServeFault}
 use Rattle.wf_tape.specs.declared.tape.Tape.{Ghosts as Tape}
-use Rattle.wf_runs.specs.Session.{Step, after_steps, moments_from, stepped}
+use Rattle.wf_runs.specs.Session.{SessionStep, after_steps, moments_from, stepped}
 use Rattle.wf_runs.specs.ServedSteps.{BeganWith, IfBegan, ServingIsSteps}
 use Rattle.wf_runs.proofs.Steps.{Walk, reported, walk_none, walk_both, none_among, handed_walk, catch_up_walk, Asked, asked_step}
 
 -- ---- the nodes at the start, and at the end, of steps are at one of their moments
 
 module _ {T : Type 0} where
-  at_start : (nodes : List (Node T)) (steps : List (Step T)) → IsIn nodes (moments_from nodes steps)
+  at_start : (nodes : List (Node T)) (steps : List (SessionStep T)) → IsIn nodes (moments_from nodes steps)
   unfolding moments_from
   at_start nodes [] = inl refl
   at_start nodes (step ∷ steps) = inl refl
 
-  in_front : (then nodes : List (Node T)) (steps more : List (Step T)) → IsIn then (moments_from nodes steps) → IsIn then (moments_from nodes (steps ++ more))
+  in_front : (then nodes : List (Node T)) (steps more : List (SessionStep T)) → IsIn then (moments_from nodes steps) → IsIn then (moments_from nodes (steps ++ more))
   unfolding moments_from
   in_front then nodes [] more (inl same) = subst (λ ns. IsIn ns (moments_from nodes more)) (sym same) (at_start nodes more)
   in_front then nodes [] more (inr none) = absurd none
   in_front then nodes (step ∷ steps) more (inl same) = inl same
   in_front then nodes (step ∷ steps) more (inr later) = inr (in_front then (stepped nodes step) steps more later)
 
-  in_back : (then nodes : List (Node T)) (steps more : List (Step T)) → IsIn then (moments_from (after_steps nodes steps) more) → IsIn then (moments_from nodes (steps ++ more))
+  in_back : (then nodes : List (Node T)) (steps more : List (SessionStep T)) → IsIn then (moments_from (after_steps nodes steps) more) → IsIn then (moments_from nodes (steps ++ more))
   unfolding moments_from after_steps
   in_back then nodes [] more is = is
   in_back then nodes (step ∷ steps) more is = inr (in_back then (stepped nodes step) steps more is)

@@ -20,15 +20,15 @@ use Rattle.wf_node.specs.Input.{view}
 use Rattle.wf_node.specs.Node.{Node}
 use Rattle.wf_node.specs.declared.fault.NodeFault.{NodeFault}
 use Rattle.wf_tape.specs.declared.tape.Tape.{Ghosts as Tape}
-use Rattle.wf_runs.specs.Session.{Step, stepped, after_steps, returned, IsStepTaken, AreTaken}
+use Rattle.wf_runs.specs.Session.{SessionStep, stepped, after_steps, returned, IsStepTaken, AreStepsTaken}
 use Rattle.wf_runs.proofs.Turns.{AreAmong, in_first, in_second, among_more, arrived_among}
 
 -- ---- walks: some steps lead from the nodes to others, and messages that are delivered are these,
 -- or were returned
 
 pub record Walk {T : Type 0} (tapes : Tape T) (sent : List Message) (nodes after : List (Node T)) : Type 0 where
-  pub steps : List (Step T)
-  pub taken : AreTaken tapes sent nodes steps
+  pub steps : List (SessionStep T)
+  pub taken : AreStepsTaken tapes sent nodes steps
   pub come : after_steps nodes steps ≡ after
 
 -- the messages by its end
@@ -36,27 +36,27 @@ abbrev pub reported : {T : Type 0} {tapes : Tape T} {nodes after : List (Node T)
 reported sent walk = sent ++ returned walk.steps
 
 module _ {T : Type 0} (tapes : Tape T) where
-  pub after_both : (nodes : List (Node T)) (steps more : List (Step T)) → after_steps nodes (steps ++ more) ≡ after_steps (after_steps nodes steps) more
+  pub after_both : (nodes : List (Node T)) (steps more : List (SessionStep T)) → after_steps nodes (steps ++ more) ≡ after_steps (after_steps nodes steps) more
   unfolding after_steps
   after_both nodes [] more = refl
   after_both nodes (step ∷ steps) more = after_both (stepped nodes step) steps more
 
-  pub returned_both : (steps more : List (Step T)) → returned (steps ++ more) ≡ returned steps ++ returned more
+  pub returned_both : (steps more : List (SessionStep T)) → returned (steps ++ more) ≡ returned steps ++ returned more
   unfolding returned
   returned_both [] more = refl
   returned_both (step ∷ steps) more = ap (λ ms. step.act.outputs ++ ms) (returned_both steps more) ∙ sym (append_assoc step.act.outputs (returned steps) (returned more))
 
-  pub taken_both : (sent : List Message) (nodes : List (Node T)) (steps more : List (Step T)) → AreTaken tapes sent nodes steps → AreTaken tapes (sent ++ returned steps) (after_steps nodes steps) more →
-      AreTaken tapes sent nodes (steps ++ more)
+  pub taken_both : (sent : List Message) (nodes : List (Node T)) (steps more : List (SessionStep T)) → AreStepsTaken tapes sent nodes steps → AreStepsTaken tapes (sent ++ returned steps) (after_steps nodes steps) more →
+      AreStepsTaken tapes sent nodes (steps ++ more)
   unfolding after_steps returned
-  taken_both sent nodes [] more taken later = subst (λ ms. AreTaken tapes ms nodes more) (append-nil sent) later
+  taken_both sent nodes [] more taken later = subst (λ ms. AreStepsTaken tapes ms nodes more) (append-nil sent) later
   taken_both sent nodes (step ∷ steps) more taken later = (
     taken.0,
     taken_both (sent ++ step.act.outputs) (stepped nodes step) steps more taken.1
-        (subst (λ ms. AreTaken tapes ms (after_steps (stepped nodes step) steps) more) (sym (append_assoc sent step.act.outputs (returned steps))) later),
+        (subst (λ ms. AreStepsTaken tapes ms (after_steps (stepped nodes step) steps) more) (sym (append_assoc sent step.act.outputs (returned steps))) later),
   )
 
-  pub taken_among : (sent more : List Message) (nodes : List (Node T)) (steps : List (Step T)) → AreAmong sent more → AreTaken tapes sent nodes steps → AreTaken tapes more nodes steps
+  pub taken_among : (sent more : List Message) (nodes : List (Node T)) (steps : List (SessionStep T)) → AreAmong sent more → AreStepsTaken tapes sent nodes steps → AreStepsTaken tapes more nodes steps
   taken_among sent more nodes [] are taken = tt
   taken_among sent more nodes (step ∷ steps) are taken =
       let one = taken.0 in (
@@ -73,7 +73,7 @@ module _ {T : Type 0} (tapes : Tape T) where
   walk_both sent more nodes middle after walk are later = record {
     steps = walk.steps ++ later.steps;
     taken = taken_both sent nodes walk.steps later.steps walk.taken
-        (subst (λ ns. AreTaken tapes (reported sent walk) ns later.steps) (sym walk.come) (taken_among more (reported sent walk) middle later.steps are later.taken));
+        (subst (λ ns. AreStepsTaken tapes (reported sent walk) ns later.steps) (sym walk.come) (taken_among more (reported sent walk) middle later.steps are later.taken));
     come = after_both nodes walk.steps later.steps ∙ ap (λ ns. after_steps ns later.steps) walk.come ∙ later.come;
   }
 
@@ -82,7 +82,7 @@ module _ {T : Type 0} (tapes : Tape T) where
 
   -- ---- one step
 
-  one_taken : (sent : List Message) (nodes : List (Node T)) (step : Step T) → IsStepTaken tapes sent nodes step → Walk tapes sent nodes (stepped nodes step)
+  one_taken : (sent : List Message) (nodes : List (Node T)) (step : SessionStep T) → IsStepTaken tapes sent nodes step → Walk tapes sent nodes (stepped nodes step)
   unfolding after_steps
   one_taken sent nodes step is = record { steps = step ∷ []; taken = (is, tt); come = refl }
 
@@ -90,7 +90,7 @@ module _ {T : Type 0} (tapes : Tape T) where
       Walk tapes sent nodes (slice_set nodes i act.after)
   one_act sent nodes i before act at is arrived = one_taken sent nodes (record { node_index = i; act = act }) (record { before = before; at = at; is = is; arrived = arrived })
 
-  returned_one : (step : Step T) → returned (step ∷ []) ≡ step.act.outputs
+  returned_one : (step : SessionStep T) → returned (step ∷ []) ≡ step.act.outputs
   unfolding returned
   returned_one step = append-nil step.act.outputs
 
@@ -113,20 +113,20 @@ module _ {T : Type 0} (tapes : Tape T) where
   in_at m (first ∷ sent) zero at = inl (sym (same_Some first m at))
   in_at m (first ∷ sent) (suc k) at = inr (in_at m sent k at)
 
-  after_one : (nodes : List (Node T)) (step : Step T) → after_steps nodes (step ∷ []) ≡ stepped nodes step
+  after_one : (nodes : List (Node T)) (step : SessionStep T) → after_steps nodes (step ∷ []) ≡ stepped nodes step
   unfolding after_steps
   after_one nodes step = refl
 
   one_handed : (i k : ℕ) (lost : Bool) (sent : List Message) (nodes middle after : List (Node T)) (outputs more : List Message) → Handed sent nodes middle outputs → IsHanded tapes i k lost middle outputs after more → Handed sent nodes after more
   one_handed i k lost sent nodes middle after outputs more before one =
-      let step : Step T = record { node_index = i; act = record { input = action.Deliver one.handed; outputs = one.outputs; after = one.after } } in
+      let step : SessionStep T = record { node_index = i; act = record { input = action.Deliver one.handed; outputs = one.outputs; after = one.after } } in
       let is : IsStepTaken tapes outputs middle step = record { before = one.node; at = one.at; is = record { lost = lost; takes = one.takes }; arrived = in_at one.handed outputs k one.there } in
       let walk = before.walk in
       record {
         walk = record {
           steps = walk.steps ++ step ∷ [];
           taken = taken_both sent nodes walk.steps (step ∷ []) walk.taken
-              (subst (λ ns. AreTaken tapes (reported sent walk) ns (step ∷ [])) (sym walk.come) (subst (λ ms. IsStepTaken tapes ms middle step) (sym before.outputs_are) is, tt));
+              (subst (λ ns. AreStepsTaken tapes (reported sent walk) ns (step ∷ [])) (sym walk.come) (subst (λ ms. IsStepTaken tapes ms middle step) (sym before.outputs_are) is, tt));
           come = after_both nodes walk.steps (step ∷ []) ∙ ap (λ ns. after_steps ns (step ∷ [])) walk.come ∙ after_one middle step ∙ sym one.nodes_are;
         };
         outputs_are = ap (λ ms. sent ++ ms) (returned_both walk.steps (step ∷ []) ∙ ap (λ ms. returned walk.steps ++ ms) (returned_one step))
@@ -166,18 +166,18 @@ module _ {T : Type 0} (tapes : Tape T) where
       subst (Walk tapes sent nodes) (set_twice nodes i arrived.0 after)
       (walk_both sent sent nodes middle (slice_set middle i after) first (λ k is. in_first k sent (returned first.steps) is) rest)
 
-  both_come : (nodes : List (Node T)) (asks answers : Step T) → stepped nodes asks ≡ nodes → stepped nodes answers ≡ nodes → after_steps nodes (asks ∷ (answers ∷ [])) ≡ nodes
+  both_come : (nodes : List (Node T)) (asks answers : SessionStep T) → stepped nodes asks ≡ nodes → stepped nodes answers ≡ nodes → after_steps nodes (asks ∷ (answers ∷ [])) ≡ nodes
   unfolding after_steps
   both_come nodes asks answers same still = ap (λ ns. stepped ns answers) same ∙ still
 
-  answer_reported : (asks answers : Step T) (answer : List Message) → answers.act.outputs ≡ answer → (m : Message) → IsIn m answer → IsIn m (returned (asks ∷ (answers ∷ [])))
+  answer_reported : (asks answers : SessionStep T) (answer : List Message) → answers.act.outputs ≡ answer → (m : Message) → IsIn m answer → IsIn m (returned (asks ∷ (answers ∷ [])))
   unfolding returned
   answer_reported asks answers answer same m is = in_second m asks.act.outputs (answers.act.outputs ++ []) (in_first m answers.act.outputs [] (subst (IsIn m) (sym same) is))
 
   question_walk : (asked asker : ℕ) (nodes after : List (Node T)) (lost : Bool) → IsOneQuestion tapes asked asker nodes lost after → Walk tapes [] nodes after
   question_walk asked asker nodes after lost q =
-      let asks : Step T = record { node_index = asker; act = record { input = action.CatchUp; outputs = q.question ∷ []; after = q.before } } in
-      let answers : Step T = record { node_index = asked; act = record { input = action.Deliver q.question; outputs = q.answer; after = q.other } } in
+      let asks : SessionStep T = record { node_index = asker; act = record { input = action.CatchUp; outputs = q.question ∷ []; after = q.before } } in
+      let answers : SessionStep T = record { node_index = asked; act = record { input = action.Deliver q.question; outputs = q.answer; after = q.other } } in
       let first : IsStepTaken tapes [] nodes asks = record { before = q.before; at = q.asker_at; is = record { lost = false; takes = q.asks }; arrived = tt } in
       let same : stepped nodes asks ≡ nodes = set_same nodes asker q.before q.asker_at in
       let second : IsStepTaken tapes (q.question ∷ []) nodes answers =

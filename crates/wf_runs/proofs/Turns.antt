@@ -3,13 +3,13 @@ use Rattle.std.proofs.Common.{◌≡◌, ◌⊎◌, ℕ, zero, suc, ◌<◌, ◌
 use Rattle.std.proofs.lemmas.Option.{slice_get_within, slice_get_cases}
 use Rattle.wf_career.specs.Career.{Item, items_at, IsOneOf, AreInTurn}
 use Rattle.wf_career.specs.Theorems.{outputs_in}
-use Rattle.wf_career.specs.Run.{Input, End, Between, Within, Failed}
+use Rattle.wf_career.specs.Run.{Input, RunEnd, Between, Within, Failed}
 use Rattle.wf_codec.specs.declared.message.Message.{Message}
 use Rattle.wf_model.specs.Chosen.{IsIn}
 use Rattle.wf_model.specs.declared.action.Action.TheVariants as action
 use Rattle.wf_node.specs.Node.{Node}
 use Rattle.wf_tape.specs.declared.tape.Tape.{Ghosts as Tape}
-use Rattle.wf_runs.specs.Session.{Step, Session, AreTaken, returned, stepped}
+use Rattle.wf_runs.specs.Session.{SessionStep, NodeSession, AreStepsTaken, returned, stepped}
 use Rattle.wf_runs.specs.Folder.{IsEndBy, IsLeftAt, IsSession, AreSessions}
 use Rattle.wf_runs.proofs.Items.{made, cuts, all_items}
 
@@ -56,12 +56,12 @@ turn_both n sent (item ∷ items) more are later =
     (are.0, are.1, turn_both n (sent ++ item.outputs) items more are.2 (subst (λ ms. AreInTurn n ms more) (sym (append_assoc sent item.outputs (outputs_in items))) later))
 
 module _ {T : Type 0} (tapes : Tape T) (n : ℕ) where
-  pub outputs_made : (steps : List (Step T)) → outputs_in (made steps) ≡ returned steps
+  pub outputs_made : (steps : List (SessionStep T)) → outputs_in (made steps) ≡ returned steps
   unfolding outputs_in returned
   outputs_made [] = refl
   outputs_made (step ∷ steps) = ap (λ ms. step.act.outputs ++ ms) (outputs_made steps)
 
-  pub made_turn : (sent among : List Message) (nodes : List (Node T)) (steps : List (Step T)) → length nodes ≡ n → AreAmong sent among → AreTaken tapes sent nodes steps → AreInTurn n among (made steps)
+  pub made_turn : (sent among : List Message) (nodes : List (Node T)) (steps : List (SessionStep T)) → length nodes ≡ n → AreAmong sent among → AreStepsTaken tapes sent nodes steps → AreInTurn n among (made steps)
   made_turn sent among nodes [] long are taken = tt
   made_turn sent among nodes (step ∷ steps) long are taken =
       let one = taken.0 in (
@@ -72,12 +72,12 @@ module _ {T : Type 0} (tapes : Tape T) (n : ℕ) where
 
 -- ---- cuts
 
-cut_turn : (n i : ℕ) (sent among : List Message) (end : End) → i < n → AreAmong sent among → IsEndBy sent end → AreInTurn n among (items_at i end)
+cut_turn : (n i : ℕ) (sent among : List Message) (end : RunEnd) → i < n → AreAmong sent among → IsEndBy sent end → AreInTurn n among (items_at i end)
 cut_turn n i sent among Between less are by = tt
 cut_turn n i sent among (Within input) less are by = (less, arrived_among sent among are input by, tt)
 cut_turn n i sent among (Failed input) less are by = tt
 
-cuts_turn : (n k : ℕ) (sent among : List Message) (ends : ℕ → End) → k ≤ n → AreAmong sent among → ((i : ℕ) → i < k → IsEndBy sent (ends i)) → AreInTurn n among (cuts k ends)
+cuts_turn : (n k : ℕ) (sent among : List Message) (ends : ℕ → RunEnd) → k ≤ n → AreAmong sent among → ((i : ℕ) → i < k → IsEndBy sent (ends i)) → AreInTurn n among (cuts k ends)
 cuts_turn n zero sent among ends most are by = tt
 cuts_turn n (suc k) sent among ends most are by =
     turn_both n among (cuts k ends) (items_at k (ends k)) (cuts_turn n k sent among ends (omega (arith, most)) are (λ i less. by i (omega (arith, less))))
@@ -93,12 +93,12 @@ module _ {T : Type 0} (tapes : Tape T) (n : ℕ) where
     | inr past ↦ absurd (omega (arith, past.0, long, less))
   ]
 
-  ended_by : (session next : Session T) → IsSession tapes n (IsLeftAt session) next → (i : ℕ) → i < n → IsEndBy (returned session.steps) (session.ends i)
+  ended_by : (session next : NodeSession T) → IsSession tapes n (IsLeftAt session) next → (i : ℕ) → i < n → IsEndBy (returned session.steps) (session.ends i)
   ended_by session next is i less =
       let there = node_at next.nodes i is.as_many less in
       (is.opened i there.0 there.1).may_be.sent
 
-  pub all_turn : (found : ℕ → List ℕ → Type 0) (sent : List Message) (sessions : List (Session T)) → AreSessions tapes n found sessions → AreInTurn n sent (all_items n sessions)
+  pub all_turn : (found : ℕ → List ℕ → Type 0) (sent : List Message) (sessions : List (NodeSession T)) → AreSessions tapes n found sessions → AreInTurn n sent (all_items n sessions)
   all_turn found sent [] are = tt
   all_turn found sent (session ∷ []) are = made_turn tapes n [] sent session.nodes session.steps are.0.as_many (λ m is. absurd is) are.0.taken
   all_turn found sent (session ∷ (next ∷ later)) are =

@@ -13,15 +13,15 @@ use Rattle.wf_career.specs.Career.{IsOneOf}
 use Rattle.wf_career.specs.Run.{Act, Between, HasLeft, IsAct, IsOpenedFrom, last_of}
 use Rattle.wf_node.specs.Node.{Node}
 use Rattle.wf_tape.specs.declared.tape.Tape.{Ghosts as Tape}
-use Rattle.wf_runs.specs.Session.{Session, Step, acts_at, run_at}
+use Rattle.wf_runs.specs.Session.{NodeSession, SessionStep, acts_at, run_at}
 use Rattle.wf_runs.specs.Folder.{IsFound, IsLeftAt, IsNewTape, IsSession}
 use Rattle.wf_runs.specs.Twice.{AreTwoSessions, IsOpenedAgain}
 
 module _ {T : Type 0} (tapes : Tape T) (first : Node T) (act : Act T) (opened : IsOpenedFrom 1 0 [] first) (is : IsAct tapes first act) (own : IsOneOf [] act.input) where
-  step : Step T
+  step : SessionStep T
   step = record { node_index = 0; act = act }
 
-  before : Session T
+  before : NodeSession T
   before = record { nodes = first ∷ []; steps = step ∷ []; ends = λ i. Between }
 
   first_found : (i : ℕ) (node : Node T) → slice_get (first ∷ []) i ≡ Some node → IsFound 1 i IsNewTape node

@@ -18,14 +18,14 @@ use Rattle.wf_node.specs.Node.{Node}
 use Rattle.wf_serve.specs.Agreement.{AskedAlike}
 use Rattle.wf_serve.specs.ConnectionEffect.{IsServedAt}
 use Rattle.wf_tape.specs.declared.tape.Tape.{Ghosts as Tape}
-use Rattle.wf_runs.specs.Session.{Session}
+use Rattle.wf_runs.specs.Session.{NodeSession}
 use Rattle.wf_runs.specs.Folder.{IsFolder, moments, WasAt, WasOnce}
 
 -- ---- one farm of processes
 
 -- Of two moments the node at one index was the one value and then the other: so it was in that
 -- process's career.
-pub record AreInOrder {T : Type 0} (n : ℕ) (careers : ℕ → Career T) (node_index : ℕ) (node next : Node T) : Type 0 where
+pub record AreSuccessive {T : Type 0} (n : ℕ) (careers : ℕ → Career T) (node_index : ℕ) (node next : Node T) : Type 0 where
   pub is_member : node_index < n
   pub moment : ℕ
   pub later : ℕ
@@ -35,30 +35,30 @@ pub record AreInOrder {T : Type 0} (n : ℕ) (careers : ℕ → Career T) (node_
 
 -- The sessions are a farm of n processes of `wf_career`, one for each index: what a node was at
 -- each moment, its process held, and in that order.
-pub record IsOneFarm {T : Type 0} (tapes : Tape T) (n : ℕ) (sessions : List (Session T)) : Type 0 where
+pub record IsOneFarm {T : Type 0} (tapes : Tape T) (n : ℕ) (sessions : List (NodeSession T)) : Type 0 where
   pub careers : ℕ → Career T
   pub items : List Item
   pub farm : IsFarm tapes n careers items
-  pub order : (moment later node_index : ℕ) (node next : Node T) → moment ≤ later → WasAt sessions moment node_index node → WasAt sessions later node_index next → AreInOrder n careers node_index node next
+  pub order : (moment later node_index : ℕ) (node next : Node T) → moment ≤ later → WasAt sessions moment node_index node → WasAt sessions later node_index next → AreSuccessive n careers node_index node next
 
 abbrev pub FolderIsOneFarm : {T : Type 0} → Tape T → Type 0
-FolderIsOneFarm {T} tapes = (n : ℕ) (sessions : List (Session T)) → IsFolder tapes n sessions → IsOneFarm tapes n sessions
+FolderIsOneFarm {T} tapes = (n : ℕ) (sessions : List (NodeSession T)) → IsFolder tapes n sessions → IsOneFarm tapes n sessions
 
 -- ---- what is published
 
 -- There is one history, and what any node had published at any moment is a beginning of it.
-pub record HasOneHistory {T : Type 0} (sessions : List (Session T)) : Type 0 where
+pub record HasOneHistory {T : Type 0} (sessions : List (NodeSession T)) : Type 0 where
   pub history : List Definition
   pub each : (node : Node T) → WasOnce sessions node → IsBeginning node.parts.history history
 
 -- No two nodes, at any two moments, have published different definitions under one sequence.
-unfoldable pub HaveOneDefinition : {T : Type 0} → List (Session T) → Type 0
+unfoldable pub HaveOneDefinition : {T : Type 0} → List (NodeSession T) → Type 0
 HaveOneDefinition {T} sessions = (node other : Node T) → WasOnce sessions node → WasOnce sessions other → (s : ℕ) (c d : Definition) →
     definition_at node.parts.history s ≡ Some c → definition_at other.parts.history s ≡ Some d → c ≡ d
 
 -- What the node at an index had published at one moment is a beginning of what it had published at
 -- each later one: no published sequence goes back, whether in one session or across restarts.
-unfoldable pub NoneGoesBack : {T : Type 0} → List (Session T) → Type 0
+unfoldable pub NoneGoesBack : {T : Type 0} → List (NodeSession T) → Type 0
 NoneGoesBack {T} sessions = (moment later node_index : ℕ) (node next : Node T) → moment ≤ later → WasAt sessions moment node_index node → WasAt sessions later node_index next →
     IsBeginning node.parts.history next.parts.history
 
@@ -71,7 +71,7 @@ IsQueryTo (Err why) query = ⊥
 
 module _ {T : Type 0} (tapes : Tape T) where
   -- The node responded to a request that it read, for the map service, with that query.
-  pub record HasResponded (node : Node T) (query : List ℕ) (response : Response) : Type 0 where
+  pub record NodeHasResponded (node : Node T) (query : List ℕ) (response : Response) : Type 0 where
     pub input : Option (List ℕ)
     pub sent : Vec Message Global
     pub after : Node T
@@ -100,13 +100,13 @@ module _ {T : Type 0} (tapes : Tape T) where
 
 -- Two nodes, or one at two moments, respond to equal queries with equal bytes, if neither responds
 -- that an allocation failed (503).
-unfoldable pub RespondAlike : {T : Type 0} → Tape T → List (Session T) → Type 0
+unfoldable pub RespondAlike : {T : Type 0} → Tape T → List (NodeSession T) → Type 0
 RespondAlike {T} tapes sessions = (node other : Node T) (query : List ℕ) (response another : Response) → WasOnce sessions node → WasOnce sessions other →
-    AskedAlike query node.parts.history other.parts.history → HasResponded tapes node query response → HasResponded tapes other query another →
+    AskedAlike query node.parts.history other.parts.history → NodeHasResponded tapes node query response → NodeHasResponded tapes other query another →
     response.status ≢ 503 → another.status ≢ 503 → response_bytes another ≡ response_bytes response
 
 -- So the clients of two connections, one asked before and one after, get equal bytes.
-unfoldable pub GetAlike : {T : Type 0} → Tape T → List (Session T) → Type 0
+unfoldable pub GetAlike : {T : Type 0} → Tape T → List (NodeSession T) → Type 0
 GetAlike {T} tapes sessions = (moment later : ℕ) (nodes others : List (Node T)) (query : List ℕ) (response another : Response) →
     slice_get (moments sessions) moment ≡ Some nodes → slice_get (moments sessions) later ≡ Some others →
     (one : HasGot tapes nodes query response) (two : HasGot tapes others query another) → AskedAlike query one.connection.before.parts.history two.connection.before.parts.history →
@@ -116,7 +116,7 @@ GetAlike {T} tapes sessions = (moment later : ℕ) (nodes others : List (Node T)
 
 -- Whatever runs of the program a folder has seen: its nodes agree, go on and answer alike across
 -- them.
-pub record AreOneFarm {T : Type 0} (tapes : Tape T) (sessions : List (Session T)) : Type 0 where
+pub record AreOneFarm {T : Type 0} (tapes : Tape T) (sessions : List (NodeSession T)) : Type 0 where
   pub history : HasOneHistory sessions
   pub definition : HaveOneDefinition sessions
   pub grow : NoneGoesBack sessions
@@ -124,4 +124,4 @@ pub record AreOneFarm {T : Type 0} (tapes : Tape T) (sessions : List (Session T)
   pub get : GetAlike tapes sessions
 
 abbrev pub SessionsAreOneFarm : {T : Type 0} → Tape T → Type 0
-SessionsAreOneFarm {T} tapes = (n : ℕ) (sessions : List (Session T)) → IsFolder tapes n sessions → AreOneFarm tapes sessions
+SessionsAreOneFarm {T} tapes = (n : ℕ) (sessions : List (NodeSession T)) → IsFolder tapes n sessions → AreOneFarm tapes sessions

@@ -5,7 +5,7 @@ use Rattle.wf_script.specs.Fault.{is_memory}
 use Rattle.wf_script.specs.Lines.{Lines, lines, over_limit}
 use Rattle.wf_script.specs.ReadContract.{◌>>=◌, ReportsWithLine}
 use Rattle.wf_script.specs.Script.{Script}
-use Rattle.wf_script.specs.Text.{State, ended, head_from, nothing_meant, on_from, script, script_of, unless_over}
+use Rattle.wf_script.specs.Text.{ScriptState, ended, head_from, nothing_meant, on_from, script, script_of, unless_over}
 use Rattle.wf_script.specs.declared.fault.ScriptFault.{ScriptFault}
 use Rattle.wf_script.specs.declared.fault.ScriptFault.TheVariants.{OverLimit}
 
@@ -24,17 +24,17 @@ behind_head : (ls : Lines) (head : Result (ℕ × Lines) ScriptFault) → head_f
 unfolding script
 behind_head ls head is = ap (λ h. h >>= (λ first. on_from None nothing_meant first.1 >>= (λ s. ended first.0 s))) is
 
-pub all_meant : (text : List ℕ) (ls now : Lines) (nodes : ℕ) (s : State) → AreLinesOf text ls → head_from ls ≡ Ok (nodes, now) → on_from None nothing_meant now ≡ Ok s
+pub all_meant : (text : List ℕ) (ls now : Lines) (nodes : ℕ) (s : ScriptState) → AreLinesOf text ls → head_from ls ≡ Ok (nodes, now) → on_from None nothing_meant now ≡ Ok s
     → script (record { number = 0; left = lines text }) ≡ Ok (record { nodes = nodes; names = s.names; maps = s.maps; orders = s.orders })
 all_meant text ls now nodes s are head rest =
     from_first text ls are ∙ behind_head ls (Ok (nodes, now)) head
-    ∙ ap (λ (found : Result State ScriptFault). found >>= (λ t. ended nodes t)) rest
+    ∙ ap (λ (found : Result ScriptState ScriptFault). found >>= (λ t. ended nodes t)) rest
 
 pub none_meant : (text : List ℕ) (ls now : Lines) (nodes : ℕ) (fault : ScriptFault) → AreLinesOf text ls → head_from ls ≡ Ok (nodes, now) → on_from None nothing_meant now ≡ Err fault
     → script (record { number = 0; left = lines text }) ≡ Err fault
 none_meant text ls now nodes fault are head rest =
     from_first text ls are ∙ behind_head ls (Ok (nodes, now)) head
-    ∙ ap (λ (found : Result State ScriptFault). found >>= (λ t. ended nodes t)) rest
+    ∙ ap (λ (found : Result ScriptState ScriptFault). found >>= (λ t. ended nodes t)) rest
 
 pub no_head_reported : {X : Type 0} (view : X → Script) (result : Result X ScriptFault) (fault : ScriptFault) (text : List ℕ) (ls : Lines) → result ≡ Err fault → AreLinesOf text ls
     → (is_memory fault ≡ false → head_from ls ≡ Err fault) → ReportsWithLine view result (script (record { number = 0; left = lines text }))

@@ -25,7 +25,7 @@ use Rattle.wf_script.specs.declared.verb.Verb.{Verb}
 use Rattle.wf_script.specs.declared.verb.Verb.TheVariants as verb
 
 -- what was read so far: the maps' names and definitions, and the orders with their lines
-pub record State : Type 0 where
+pub record ScriptState : Type 0 where
   pub names : List (List ℕ)
   pub maps : List Definition
   pub orders : List Numbered
@@ -41,7 +41,7 @@ abbrev pub begins : ℕ → List ℕ → Begun
 begins n name = record { line = n; name = name; text = [] }
 
 -- the state that the code's parts hold
-abbrev pub state : List maps.Named → List orders.Numbered → State
+abbrev pub state : List maps.Named → List orders.Numbered → ScriptState
 state named orders = record { names = map name named; maps = map definition named; orders = map numbered orders }
 
 -- the longest name of a map, in bytes
@@ -74,29 +74,29 @@ map_of text = do
   if nat_le (length (canon d)) most_canon_bytes then Ok d else Err wrongs.BadMap
 
 -- the map that was begun is closed: one more, where there is room
-unfoldable pub closed : List ℕ → List ℕ → State → Result State Wrong
+unfoldable pub closed : List ℕ → List ℕ → ScriptState → Result ScriptState Wrong
 closed name text s = if nat_lt (length s.maps) most_maps then (do
   d ← map_of text
   Ok (record { names = s.names ++ name ∷ []; maps = s.maps ++ d ∷ []; orders = s.orders })) else Err wrongs.OverLimit
 
 -- one order more, at the line of this number
-unfoldable pub with_order : ℕ → State → Verb → List (List ℕ) → Result State Wrong
+unfoldable pub with_order : ℕ → ScriptState → Verb → List (List ℕ) → Result ScriptState Wrong
 with_order n s verb words = do
   order ← order_of s.names verb words
   Ok (record { names = s.names; maps = s.maps; orders = s.orders ++ (record { line = n; order = order }) ∷ [] })
 
 -- no map is begun
-abbrev pub outside : {E : Type 0} → State → Result (Option Begun × State) E
+abbrev pub outside : {E : Type 0} → ScriptState → Result (Option Begun × ScriptState) E
 outside s = Ok (None, s)
 
 -- what the words after a verb mean, on a line of this number: a map begins, or there is an order
-unfoldable pub meant_by : ℕ → State → Verb → List (List ℕ) → Result (Option Begun × State) Wrong
+unfoldable pub meant_by : ℕ → ScriptState → Verb → List (List ℕ) → Result (Option Begun × ScriptState) Wrong
 meant_by n s verb.Map words = do
   name ← a_new_name s.names words
   Ok (Some (begins n name), s)
 meant_by n s verb words = with_order n s verb words >>= outside
 
-unfoldable pub line_meaning : ℕ → State → List (List ℕ) → Result (Option Begun × State) Wrong
+unfoldable pub line_meaning : ℕ → ScriptState → List (List ℕ) → Result (Option Begun × ScriptState) Wrong
 line_meaning n s words = do
   word ← a_text words
   verb ← ok_or (verb_of word.0) wrongs.BadLine
@@ -105,29 +105,29 @@ line_meaning n s words = do
 -- What a line of this number means, outside of a map and within one. Nothing is skipped within a
 -- map: each of its lines is a line of its text, followed by a line feed. An error of a map is
 -- reported at the line where it begins.
-unfoldable pub line_means : Option Begun → ℕ → State → List ℕ → Result (Option Begun × State) ScriptFault
+unfoldable pub line_means : Option Begun → ℕ → ScriptState → List ℕ → Result (Option Begun × ScriptState) ScriptFault
 line_means None n s line = if is_skipped line then outside s else at_line n (line_meaning n s (words line))
 line_means (Some begun) n s line =
     if ends_map line then at_line begun.line (closed begun.name begun.text s) >>= outside
     else Ok (Some (record { line = begun.line; name = begun.name; text = begun.text ++ line ++ 10 ∷ [] }), s)
 
 -- what the lines from this number on mean; a map that was begun has an end
-unfoldable pub read_on : Option Begun → ℕ → State → List (List ℕ) → Result State ScriptFault
+unfoldable pub read_on : Option Begun → ℕ → ScriptState → List (List ℕ) → Result ScriptState ScriptFault
 read_on None n s [] = Ok s
 read_on (Some begun) n s [] = Err (fault.BadLine begun.line)
 read_on begun n s (line ∷ rest) = line_means begun n s line >>= (λ t. read_on t.0 (n + 1) t.1 rest)
 
 -- what the lines that are left mean
-unfoldable pub on_from : Option Begun → State → Lines → Result State ScriptFault
+unfoldable pub on_from : Option Begun → ScriptState → Lines → Result ScriptState ScriptFault
 on_from begun s ls = read_on begun (ls.number + 1) s ls.left
 
 -- what the line that was returned means, and those that are left
-unfoldable pub line_on : Option Begun → State → List ℕ → Lines → Result State ScriptFault
+unfoldable pub line_on : Option Begun → ScriptState → List ℕ → Lines → Result ScriptState ScriptFault
 line_on begun s line ls = line_means begun ls.number s line >>= (λ t. on_from t.0 t.1 ls)
 
 -- a map begins with the words after its verb, on the line that was returned, and continues in the
 -- lines that are left
-unfoldable pub map_on : State → List (List ℕ) → Lines → Result State ScriptFault
+unfoldable pub map_on : ScriptState → List (List ℕ) → Lines → Result ScriptState ScriptFault
 map_on s words ls = at_line ls.number (a_new_name s.names words) >>= (λ name. on_from (Some (begins ls.number name)) s ls)
 
 -- how many nodes there are, 1 to 64
@@ -148,11 +148,11 @@ unfoldable pub head_from : Lines → Result (ℕ × Lines) ScriptFault
 head_from ls = head (ls.number + 1) ls.left
 
 -- nothing was read but the number of nodes
-abbrev pub nothing_meant : State
+abbrev pub nothing_meant : ScriptState
 nothing_meant = record { names = []; maps = []; orders = [] }
 
 -- the script that was read, for `nodes` nodes
-abbrev pub ended : ℕ → State → Result Script ScriptFault
+abbrev pub ended : ℕ → ScriptState → Result Script ScriptFault
 ended nodes s = Ok (record { nodes = nodes; names = s.names; maps = s.maps; orders = s.orders })
 
 -- what all the lines mean

@@ -7,7 +7,7 @@ use Rattle.wf_def.specs.Definition.{Definition}
 use Rattle.wf_edge.specs.ErrorResponse.{error_of_result, response_of, status_of, http_error_status}
 use Rattle.wf_edge.specs.Page.{IsServiceGiven}
 use Rattle.wf_edge.specs.Publish.{IsMapOf, IsProposed, IsPublished, ReportsFault}
-use Rattle.wf_edge.specs.RequestEffect.{HasRequest, Gives, GivesTo, IsOutcome, Responds, ReportsPublish}
+use Rattle.wf_edge.specs.RequestEffect.{HasRequest, GivesReply, GivesTo, IsOutcome, Responds, ReportsPublish}
 use Rattle.wf_edge.specs.declared.error_response.ErrorResponse.{ErrorResponse}
 use Rattle.wf_edge.specs.declared.error_response.ErrorResponse.TheVariants as error_response
 use Rattle.wf_edge.specs.declared.outcome.Outcome.{Outcome}
@@ -92,7 +92,7 @@ module _ {T : Type 0} (tapes : Tape T) (before after : Node T) (outputs : Vec Me
   asked_for asked.Status request answer gives is = let other : 200 ≡ accepted_status = sym (ap status_in gives.0) ∙ is in absurd (omega (arith, other))
   asked_for (asked.Publish bytes) request answer gives is = proposed_if request.body answer gives.done gives.published gives.reports is
 
-  arrived_as : (input : Option (List ℕ)) (arrived : Result Request RequestFault) (answer : Result Response ErrorResponse) → IfSome input (λ bytes. HasRequest bytes arrived) → Gives tapes arrived before answer outputs after →
+  arrived_as : (input : Option (List ℕ)) (arrived : Result Request RequestFault) (answer : Result Response ErrorResponse) → IfSome input (λ bytes. HasRequest bytes arrived) → GivesReply tapes arrived before answer outputs after →
       status_in answer ≡ accepted_status → HasProposed input
   arrived_as input (Ok request) answer asks gives is =
       let it = asked_for request.asked request answer gives is in

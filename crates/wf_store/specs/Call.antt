@@ -75,13 +75,15 @@ bytes_of found = option_map (λ bytes. bytes.items) found
 
 -- ---- what they change
 
+-- a file that was opened as a tape may change from then on
 abbrev pub is_change : Deed → Bool
 is_change (deeds.Opens file) = true
+is_change (deeds.OpensExisting file) = true
 is_change (deeds.Replaces file) = true
 is_change (deeds.FailsAt file) = true
 is_change deed = false
 
--- the calls that changed a file, or may have
+-- the calls that changed a file, or may have, or by which it may change
 abbrev pub changes : List Call → List Call
 changes [] = []
 changes (call ∷ earlier) = if is_change call.deed then call ∷ changes earlier else changes earlier

@@ -95,7 +95,7 @@ pub trait Store {
     /// absent, or `Memory`.
     fn open_existing(&mut self, file: FileName) -> Result<Self::Tape, FolderFault>
         ensures ok { OnOk result (calls self.new ≡ opened_existing file ∷ calls self.old) }
-        ensures reads { OnlyReads (calls self.old) (calls self.new) }
+        ensures after { IsAfter (calls self.old) (calls self.new) }
         ensures err { OnErr result (calls self.new ≡ failed ∷ calls self.old) }
         ensures cause { IfErr result (IsWhyUnopened file) };
 

@@ -6,7 +6,7 @@ use Rattle.wf_tape.specs.declared.memory.Earlier.{Earlier}
 use Rattle.wf_tape.specs.declared.memory.Earlier.TheVariants.{Front, Replaced}
 use Rattle.wf_tape.specs.declared.memory.Fuse.{Fuse}
 use Rattle.wf_tape.specs.Tape.{LeavesNoOther, LeavesOldOr, LeavesOldOrNew, Elapses}
-use Rattle.wf_tape.specs.MemoryTape.{State, TapeValue, IsImageNow, WasLeft, state_of, moment_of, IsLeftSince, states_before, appended, replaced, settled}
+use Rattle.wf_tape.specs.MemoryTape.{TapeState, TapeValue, IsImageNow, WasLeft, state_of, moment_of, IsLeftSince, states_before, appended, replaced, settled}
 use Rattle.wf_tape.specs.MemoryMoments.{none_later}
 use Rattle.wf_tape.proofs.Images.{only_synced, sync_leaves}
 
@@ -54,10 +54,10 @@ pub time_changed : (old new : TapeValue) → new.past ≡ state_of old ∷ old.p
 unfolding WasLeft
 time_changed old new ended = record {
   later = omega (arith, ap length ended);
-  kept = λ moment image before left. inr (subst (λ (states : List State). WasLeft states moment image) (sym ended) left);
+  kept = λ moment image before left. inr (subst (λ (states : List TapeState). WasLeft states moment image) (sym ended) left);
   nothing_else = λ moment image before left. elim left [
     | inl now ↦ inr (inl (omega (arith, ap length ended), now.1))
-    | inr past ↦ inl (subst (λ (states : List State). WasLeft states moment image) ended past)
+    | inr past ↦ inl (subst (λ (states : List TapeState). WasLeft states moment image) ended past)
   ];
 }
 
@@ -66,7 +66,7 @@ pub inside_changed : (old new : TapeValue) → new.past ≡ state_of old ∷ old
 unfolding WasLeft
 inside_changed old new ended image left = elim left [
   | inl now ↦ inr now.1
-  | inr past ↦ elim (subst (λ (states : List State). WasLeft states (moment_of old) image) ended past) [
+  | inr past ↦ elim (subst (λ (states : List TapeState). WasLeft states (moment_of old) image) ended past) [
     | inl was ↦ inl was.1
     | inr before ↦ absurd (none_later old.past (moment_of old) image (le_refl (moment_of old)) before)
   ]
@@ -104,12 +104,12 @@ inside_same old new same image left = elim (subst (λ (k : TapeValue). IsLeftSin
 -- ---- the tape after a change
 
 -- the tape of these parts
-abbrev kept_of : List ℕ → ℕ → List State → Option Fuse → ℕ → TapeValue
+abbrev kept_of : List ℕ → ℕ → List TapeState → Option Fuse → ℕ → TapeValue
 kept_of bytes synced past fuse failures = record { bytes = bytes; synced = synced; past = past; fuse = fuse; failures = failures }
 
-same_kept : (a b : List ℕ) (m n : ℕ) (p q : List State) (fuse : Option Fuse) (failures : ℕ) → a ≡ b → m ≡ n → p ≡ q → kept_of a m p fuse failures ≡ kept_of b n q fuse failures
+same_kept : (a b : List ℕ) (m n : ℕ) (p q : List TapeState) (fuse : Option Fuse) (failures : ℕ) → a ≡ b → m ≡ n → p ≡ q → kept_of a m p fuse failures ≡ kept_of b n q fuse failures
 same_kept a b m n p q fuse failures bytes synced past =
-    ap (λ (t : List ℕ). kept_of t m p fuse failures) bytes ∙ ap (λ (k : ℕ). kept_of b k p fuse failures) synced ∙ ap (λ (states : List State). kept_of b n states fuse failures) past
+    ap (λ (t : List ℕ). kept_of t m p fuse failures) bytes ∙ ap (λ (k : ℕ). kept_of b k p fuse failures) synced ∙ ap (λ (states : List TapeState). kept_of b n states fuse failures) past
 
 pub appended_is : (bytes more longer : List ℕ) (n synced : ℕ) (fuse : Option Fuse) (failures : ℕ) (notes kept noted : List Earlier) → longer ≡ bytes ++ more → n ≡ length bytes → kept ≡ notes → noted ≡ kept ++ Front n synced ∷ [] →
     kept_of longer synced (states_before longer (reverse noted)) fuse failures ≡ appended (kept_of bytes synced (states_before bytes (reverse notes)) fuse failures) more
@@ -127,7 +127,7 @@ replaced_is now bytes content vector n synced fuse failures notes kept noted now
 pub settled_is : (bytes : List ℕ) (n synced : ℕ) (fuse : Option Fuse) (failures : ℕ) (notes noted : List Earlier) → n ≡ length bytes → nat_lt synced (length bytes) ≡ true → noted ≡ notes ++ Front n synced ∷ [] →
     kept_of bytes n (states_before bytes (reverse noted)) fuse failures ≡ settled (kept_of bytes synced (states_before bytes (reverse notes)) fuse failures)
 settled_is bytes n synced fuse failures notes noted n_is some noted_is =
-    let before : List State = states_before bytes (reverse notes) in
+    let before : List TapeState = states_before bytes (reverse notes) in
     same_kept bytes bytes n (length bytes) (states_before bytes (reverse noted)) (if nat_lt synced (length bytes) then record { bytes = bytes; synced = synced } ∷ before else before) fuse failures
     refl n_is
     (past_synced bytes n synced notes noted n_is noted_is ∙ sym (ap (λ (b : Bool). if b then record { bytes = bytes; synced = synced } ∷ before else before) some))

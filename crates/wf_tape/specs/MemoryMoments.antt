@@ -2,10 +2,10 @@
 use Rattle.std.specs.Prelude.{ℕ, ◌≤◌, List, [], ◌∷◌, length}
 use Rattle.std.proofs.Common.{inl, inr, le_refl, le_trans, le_of_lt, lt_irrefl, lt_of_lt_of_le}
 use Rattle.wf_tape.specs.Tape.{LeavesNow, AreNested}
-use Rattle.wf_tape.specs.MemoryTape.{State, TapeValue, IsImageNow, IsLeftSince, WasLeft, state_of, moment_of}
+use Rattle.wf_tape.specs.MemoryTape.{TapeState, TapeValue, IsImageNow, IsLeftSince, WasLeft, state_of, moment_of}
 
 -- no state stood at a moment that hasn't come
-pub none_later : (states : List State) (moment : ℕ) (image : List ℕ) → length states ≤ moment → WasLeft states moment image → ⊥
+pub none_later : (states : List TapeState) (moment : ℕ) (image : List ℕ) → length states ≤ moment → WasLeft states moment image → ⊥
 unfolding WasLeft
 none_later [] moment image late left = left
 none_later (state ∷ older) moment image late left = elim left [
@@ -23,7 +23,7 @@ memory_now tape = record {
   ];
 }
 
-left_earlier : (states : List State) → AreNested (WasLeft states)
+left_earlier : (states : List TapeState) → AreNested (WasLeft states)
 unfolding WasLeft
 left_earlier [] moment later image before left = left
 left_earlier (state ∷ older) moment later image before left = elim left [

@@ -10,7 +10,7 @@ use Rattle.wf_tape.specs.Fuse.{fuse_at, count_down, burn}
 use Rattle.wf_tape.specs.Tape.{IsPrefixOf, Call, Read, Append, Sync, Replace, last_count}
 
 -- a state: the bytes, of which the first are synced
-pub record State : Type 0 where
+pub record TapeState : Type 0 where
   pub bytes : List ℕ
   pub synced : ℕ
 
@@ -19,12 +19,12 @@ pub record State : Type 0 where
 pub record TapeValue : Type 0 where
   pub bytes : List ℕ
   pub synced : ℕ
-  pub past : List State
+  pub past : List TapeState
   pub fuse : Option Fuse
   pub failures : ℕ
 
 -- what a crash in this state may leave: a prefix of the bytes that contains the synced ones
-abbrev pub IsLeftBy : State → List ℕ → Type 0
+abbrev pub IsLeftBy : TapeState → List ℕ → Type 0
 IsLeftBy state image = IsPrefixOf image state.bytes × IsPrefixOf (take state.synced state.bytes) image
 
 -- what a crash now may leave, likewise
@@ -33,12 +33,12 @@ IsImageNow kept image = IsPrefixOf image kept.bytes × IsPrefixOf (take kept.syn
 
 -- Of states in order, the latest first, the earliest stood at moment 0, the next one at moment 1,
 -- and so on. A crash in one of them, at this moment or a later one, may leave the image.
-unfoldable pub WasLeft : List State → ℕ → List ℕ → Type 0
+unfoldable pub WasLeft : List TapeState → ℕ → List ℕ → Type 0
 WasLeft [] moment image = ⊥
 WasLeft (state ∷ older) moment image = ((moment ≤ length older) × IsLeftBy state image) ⊎ WasLeft older moment image
 
 -- the state now
-abbrev pub state_of : TapeValue → State
+abbrev pub state_of : TapeValue → TapeState
 state_of kept = record { bytes = kept.bytes; synced = kept.synced }
 
 -- the moment now: the number of changes so far
@@ -51,7 +51,7 @@ IsLeftSince kept moment image = WasLeft (state_of kept ∷ kept.past) moment ima
 
 -- the states before these bytes, the latest first, by the notes on how to go back to each of them,
 -- the latest first
-unfoldable pub states_before : List ℕ → List Earlier → List State
+unfoldable pub states_before : List ℕ → List Earlier → List TapeState
 states_before bytes [] = []
 states_before bytes (Front length synced ∷ older) = record { bytes = take length bytes; synced = synced } ∷ states_before (take length bytes) older
 states_before bytes (Replaced content synced ∷ older) = record { bytes = content.items; synced = synced } ∷ states_before content.items older

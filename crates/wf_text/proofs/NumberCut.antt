@@ -7,7 +7,7 @@ use Rattle.std.proofs.lemmas.Bool.{ne_eqb, lt-ltb, le-leb, and_parts, and_from, 
 use Rattle.std.proofs.lemmas.Bool.Decides.{nat_tests}
 use Rattle.wf_text.specs.declared.fault.NumberFault.TheVariants.{BadNumber, OutOfRange}
 use Rattle.wf_text.specs.Number.{Numeral, is_negative, is_sign, after_sign, leading_digits, after_digits, fraction_digits, after_fraction, spelled_onto, with_sign, is_power_digits, signed_power, power_of, numeral, in_range, number}
-use Rattle.wf_text.specs.NumberForm.{Sign, Unsigned, Plus, Minus, sign_text, is_minus, Fraction, NoPoint, WithPoint, fraction_text, behind_point, SmallE, CapitalE, Ending, NoPower, WithPower, ending_text, power_of_ten, Written, text_of, parts_of, AreDigits, ArePowerDigits, IsNumberEnding, AreDigitsWritten, HasParts}
+use Rattle.wf_text.specs.NumberForm.{Sign, Unsigned, Plus, Minus, sign_text, is_minus, Fraction, NoPoint, WithPoint, fraction_text, behind_point, SmallE, CapitalE, NumberEnding, NoPower, WithPower, ending_text, power_of_ten, Written, text_of, parts_of, AreDigits, ArePowerDigits, IsNumberEnding, AreDigitsWritten, HasParts}
 use Rattle.wf_text.proofs.NumberJoined.{has_parts}
 
 -- the text's first byte, if there is one, passes the test
@@ -72,23 +72,23 @@ signed_power_is_read sign digits p =
     let cut = sign_is_cut sign digits (digits_begin_with_no_sign digits p.digits p.least) in
     rw (cut.rest, cut.minus, is_power_digits-true digits p) refl
 
-power_is_read : (ending : Ending) → IsNumberEnding ending → power_of (ending_text ending) ≡ Some (power_of_ten ending)
+power_is_read : (ending : NumberEnding) → IsNumberEnding ending → power_of (ending_text ending) ≡ Some (power_of_ten ending)
 power_is_read NoPower p = refl
 power_is_read (WithPower SmallE sign digits) p = signed_power_is_read sign digits p
 power_is_read (WithPower CapitalE sign digits) p = signed_power_is_read sign digits p
 
 -- ---- the fraction
 
-ending_begins_with_no_digit : (ending : Ending) → begins is_ascii_digit (ending_text ending) ≡ false
+ending_begins_with_no_digit : (ending : NumberEnding) → begins is_ascii_digit (ending_text ending) ≡ false
 ending_begins_with_no_digit NoPower = refl
 ending_begins_with_no_digit (WithPower SmallE sign digits) = refl
 ending_begins_with_no_digit (WithPower CapitalE sign digits) = refl
 
-record IsFractionCut (fraction : Fraction) (ending : Ending) : Type 0 where
+record IsFractionCut (fraction : Fraction) (ending : NumberEnding) : Type 0 where
   digits : fraction_digits (fraction_text fraction ++ ending_text ending) ≡ behind_point fraction
   rest : after_fraction (fraction_text fraction ++ ending_text ending) ≡ ending_text ending
 
-fraction_is_cut : (fraction : Fraction) (ending : Ending) → AreDigits (behind_point fraction) → IsFractionCut fraction ending
+fraction_is_cut : (fraction : Fraction) (ending : NumberEnding) → AreDigits (behind_point fraction) → IsFractionCut fraction ending
 fraction_is_cut NoPoint NoPower e = record { digits = refl; rest = refl }
 fraction_is_cut NoPoint (WithPower SmallE sign digits) e = record { digits = refl; rest = refl }
 fraction_is_cut NoPoint (WithPower CapitalE sign digits) e = record { digits = refl; rest = refl }
@@ -96,7 +96,7 @@ fraction_is_cut (WithPoint digits) ending e =
     let cut = digits_are_cut digits (ending_text ending) e (ending_begins_with_no_digit ending) in
     record { digits = cut.front; rest = cut.rest }
 
-fraction_begins_with_no_digit : (fraction : Fraction) (ending : Ending) → begins is_ascii_digit (fraction_text fraction ++ ending_text ending) ≡ false
+fraction_begins_with_no_digit : (fraction : Fraction) (ending : NumberEnding) → begins is_ascii_digit (fraction_text fraction ++ ending_text ending) ≡ false
 fraction_begins_with_no_digit NoPoint ending = ending_begins_with_no_digit ending
 fraction_begins_with_no_digit (WithPoint digits) ending = refl
 

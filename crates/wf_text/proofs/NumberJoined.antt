@@ -7,7 +7,7 @@ use Rattle.std.proofs.lemmas.Bool.{cases_eq, cases_Bool, ne_eqb, eqb-false, ltb-
 use Rattle.std.proofs.lemmas.List.{take-append-drop}
 use Rattle.std.proofs.lemmas.Option.{cond_some, same_Some, none-some}
 use Rattle.wf_text.specs.Number.{Numeral, is_negative, after_sign, leading_digits, after_digits, fraction_digits, after_fraction, spelled_onto, with_sign, is_power_digits, signed_power, power_of, numeral_from, numeral}
-use Rattle.wf_text.specs.NumberForm.{Sign, Unsigned, Plus, Minus, sign_text, is_minus, Fraction, NoPoint, WithPoint, fraction_text, behind_point, Mark, SmallE, CapitalE, mark_byte, Ending, NoPower, WithPower, ending_text, power_of_ten, AreDigits, ArePowerDigits, IsNumberEnding, HasParts}
+use Rattle.wf_text.specs.NumberForm.{Sign, Unsigned, Plus, Minus, sign_text, is_minus, Fraction, NoPoint, WithPoint, fraction_text, behind_point, Mark, SmallE, CapitalE, mark_byte, NumberEnding, NoPower, WithPower, ending_text, power_of_ten, AreDigits, ArePowerDigits, IsNumberEnding, HasParts}
 
 -- ---- digits
 
@@ -82,7 +82,7 @@ has_power text power e =
     record { sign = s.sign; digits = after_sign text; are_digits = are_power_digits (after_sign text) found.0; joined = s.joined; stated = rw s.minus found.1 }
 
 record HasEnding (text : List ℕ) (power : ℤ) : Type 0 where
-  ending : Ending
+  ending : NumberEnding
   is_ending : IsNumberEnding ending
   joined : ending_text ending ≡ text
   stated : power_of_ten ending ≡ power

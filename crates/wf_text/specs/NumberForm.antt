@@ -47,15 +47,15 @@ mark_byte SmallE = 101
 mark_byte CapitalE = 69
 
 -- no power of ten, or a mark followed by a sign and digits
-pub data Ending : Type 0 where
-  NoPower : Ending
-  WithPower : Mark → Sign → List ℕ → Ending
+pub data NumberEnding : Type 0 where
+  NoPower : NumberEnding
+  WithPower : Mark → Sign → List ℕ → NumberEnding
 
-abbrev pub ending_text : Ending → List ℕ
+abbrev pub ending_text : NumberEnding → List ℕ
 ending_text NoPower = []
 ending_text (WithPower mark sign digits) = mark_byte mark ∷ (sign_text sign ++ digits)
 
-abbrev pub power_of_ten : Ending → ℤ
+abbrev pub power_of_ten : NumberEnding → ℤ
 power_of_ten NoPower = pos 0
 power_of_ten (WithPower mark sign digits) = with_sign (is_minus sign) (spelled_onto 0 digits)
 
@@ -64,7 +64,7 @@ pub record Written : Type 0 where
   pub sign : Sign
   pub whole : List ℕ
   pub fraction : Fraction
-  pub ending : Ending
+  pub ending : NumberEnding
 
 abbrev pub text_of : Written → List ℕ
 text_of w = sign_text w.sign ++ (w.whole ++ (fraction_text w.fraction ++ ending_text w.ending))
@@ -84,7 +84,7 @@ pub record ArePowerDigits (bytes : List ℕ) : Type 0 where
   pub least : 1 ≤ length bytes
   pub most : length bytes ≤ most_power_digits
 
-abbrev pub IsNumberEnding : Ending → Type 0
+abbrev pub IsNumberEnding : NumberEnding → Type 0
 IsNumberEnding NoPower = ⊤
 IsNumberEnding (WithPower mark sign digits) = ArePowerDigits digits
 

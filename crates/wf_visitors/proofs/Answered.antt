@@ -8,7 +8,7 @@ use Rattle.wf_client.specs.PartialRequest.{Incoming}
 use Rattle.wf_client.specs.ResponseBuffer.{Outgoing, rest_of}
 use Rattle.wf_client.specs.declared.client.ClientPhase.TheVariants.{Asking, Taking}
 use Rattle.wf_sockets.specs.declared.connection.Connection.{Ghosts as Connection}
-use Rattle.wf_visitors.specs.Responses.{AreResponses, GoesOnFrom, HasResponded, MayRespond, MayRespondAt, MayRespondOn}
+use Rattle.wf_visitors.specs.Responses.{AreResponses, GoesOnFrom, WasSentOne, MayRespond, MayRespondAt, MayRespondOn}
 use Rattle.wf_visitors.specs.Turn.{IfHere, IsGiving, IsReceiving}
 use Rattle.wf_visitors.specs.declared.socket.ClientConnection.{ClientConnection}
 use Rattle.wf_visitors.specs.declared.turn.ClientTurn.{ClientTurn}
@@ -40,20 +40,20 @@ taken_twice bytes sent sent' sent'' done first done' second is before after =
 
 -- ---- the log of responses
 
-has_more : (responses more : List (Client × ℕ)) (came response : List ℕ) → HasResponded responses came response → HasResponded (responses ++ more) came response
-unfolding HasResponded
+has_more : (responses more : List (Client × ℕ)) (came response : List ℕ) → WasSentOne responses came response → WasSentOne (responses ++ more) came response
+unfolding WasSentOne
 has_more [] more came response has = absurd has
 has_more (entry ∷ responses) more came response (inl is) = inl is
 has_more (entry ∷ responses) more came response (inr has) = inr (has_more responses more came response has)
 
-has_last : (responses : List (Client × ℕ)) (client : Client) (k : ℕ) (came response : List ℕ) → came ≡ client.incoming.bytes → client.outgoing.bytes ≡ response → HasResponded (responses ++ (client, k) ∷ []) came response
-unfolding HasResponded
+has_last : (responses : List (Client × ℕ)) (client : Client) (k : ℕ) (came response : List ℕ) → came ≡ client.incoming.bytes → client.outgoing.bytes ≡ response → WasSentOne (responses ++ (client, k) ∷ []) came response
+unfolding WasSentOne
 has_last [] client k came response all is = inl (([], all ∙ sym (append-nil client.incoming.bytes)), is)
 has_last (entry ∷ responses) client k came response all is = inr (has_last responses client k came response all is)
 
 -- more came
-has_begun : (responses : List (Client × ℕ)) (came came' response : List ℕ) → GoesOnFrom came' came → HasResponded responses came response → HasResponded responses came' response
-unfolding HasResponded
+has_begun : (responses : List (Client × ℕ)) (came came' response : List ℕ) → GoesOnFrom came' came → WasSentOne responses came response → WasSentOne responses came' response
+unfolding WasSentOne
 has_begun [] came came' response more has = absurd has
 has_begun (entry ∷ responses) came came' response more (inl is) = inl (goes_on_from_more entry.0.incoming.bytes came came' more is.0, is.1)
 has_begun (entry ∷ responses) came came' response more (inr has) = inr (has_begun responses came came' response more has)
@@ -114,7 +114,7 @@ may_answer responses responses' k came sent old answered new asks may incoming d
     record {
       asked = λ other. absurd cc;
       silent = λ other. absurd cc;
-      answered = λ is. subst (λ (s : List (Client × ℕ)). ∥ HasResponded s came new.outgoing.bytes ∥₁) (sym more)
+      answered = λ is. subst (λ (s : List (Client × ℕ)). ∥ WasSentOne s came new.outgoing.bytes ∥₁) (sym more)
           ∣ has_last responses answered k came new.outgoing.bytes (may.asked asks ∙ sym (ap (λ (i : Incoming). i.bytes) incoming)) (sym (ap (λ (o : Outgoing). o.bytes) outgoing)) ∣₁;
       taken = λ is. may.silent asks ∙ sym (ap (λ (n : ℕ). take n new.outgoing.bytes) start);
     }
@@ -126,8 +126,8 @@ may_give responses came sent came' sent' old new takes is may =
     record {
       asked = λ other. absurd cc;
       silent = λ other. absurd cc;
-      answered = λ is_now. subst (λ (c : List ℕ). ∥ HasResponded responses c new.outgoing.bytes ∥₁) (sym is.came_still)
-          (subst (λ (b : List ℕ). ∥ HasResponded responses came b ∥₁) (sym is.bytes) (may.answered was));
+      answered = λ is_now. subst (λ (c : List ℕ). ∥ WasSentOne responses c new.outgoing.bytes ∥₁) (sym is.came_still)
+          (subst (λ (b : List ℕ). ∥ WasSentOne responses came b ∥₁) (sym is.bytes) (may.answered was));
       taken = λ is_now. taken_on old.outgoing.bytes sent sent' old.outgoing.done is.count new.outgoing.done is.done (may.taken was) is.sent_more ∙ ap (λ (b : List ℕ). take new.outgoing.done b) (sym is.bytes);
     }
 
@@ -137,7 +137,7 @@ pub may_drop : (responses : List (Client × ℕ)) (came sent came' sent' : List 
 may_drop responses came sent came' sent' old new was now outgoing more sent_is may = record {
   asked = λ other. absurd cc;
   silent = λ other. absurd cc;
-  answered = λ is. subst (λ (o : Outgoing). ∥ HasResponded responses came' o.bytes ∥₁) (sym outgoing) (∥∥₁_map (may.answered was) (λ has. has_begun responses came came' old.outgoing.bytes more has));
+  answered = λ is. subst (λ (o : Outgoing). ∥ WasSentOne responses came' o.bytes ∥₁) (sym outgoing) (∥∥₁_map (may.answered was) (λ has. has_begun responses came came' old.outgoing.bytes more has));
   taken = λ is. sent_is ∙ may.taken was ∙ sym (ap (λ (o : Outgoing). take o.done o.bytes) outgoing);
 }
 

@@ -10,16 +10,16 @@ GoesOnFrom all bytes = (rest : List ℕ) × (all ≡ bytes ++ rest)
 
 -- one of the clients that were answered was sent this response, and what came begins with what had
 -- come of its request
-unfoldable pub HasResponded : List (Client × ℕ) → List ℕ → List ℕ → Type 0
-HasResponded [] came response = ⊥
-HasResponded (entry ∷ responses) came response = (GoesOnFrom came entry.0.incoming.bytes × (entry.0.outgoing.bytes ≡ response)) ⊎ HasResponded responses came response
+unfoldable pub WasSentOne : List (Client × ℕ) → List ℕ → List ℕ → Type 0
+WasSentOne [] came response = ⊥
+WasSentOne (entry ∷ responses) came response = (GoesOnFrom came entry.0.incoming.bytes × (entry.0.outgoing.bytes ≡ response)) ⊎ WasSentOne responses came response
 
 -- As long as a client's request isn't whole, it is all that came, and nothing was sent. From then
 -- on what was sent is as much of its response as was taken, and that is the response to what came.
 pub record MayRespond (responses : List (Client × ℕ)) (came sent : List ℕ) (client : Client) : Type 0 where
   pub asked : is_asking client.phase ≡ true → came ≡ client.incoming.bytes
   pub silent : is_asking client.phase ≡ true → sent ≡ []
-  pub answered : is_asking client.phase ≡ false → ∥ HasResponded responses came client.outgoing.bytes ∥₁
+  pub answered : is_asking client.phase ≡ false → ∥ WasSentOne responses came client.outgoing.bytes ∥₁
   pub taken : is_asking client.phase ≡ false → sent ≡ take client.outgoing.done client.outgoing.bytes
 
 module _ {C : Type 0} (connections : Connection C) where

@@ -1,6 +1,7 @@
 //! How clients come, ask, are answered and go.
-ghost use Rattle.std.specs.Prelude.{◌≡◌, ℕ, List, [], IfOk, IfSome};
+ghost use Rattle.std.specs.Prelude.{◌≡◌, ℕ, List, [], IfOk, IfSome, false};
 ghost use Rattle.wf_client.specs.Client.{Client as ClientValue};
+ghost use Rattle.wf_client.specs.Slots.{NoneIsFree};
 ghost use Rattle.wf_visitors.specs.Responses.{AreResponses, GoesOnFrom, MayRespondOn};
 ghost use Rattle.wf_visitors.specs.Turn.{IfHere};
 ghost use Rattle.wf_visitors.specs.Visitors.{responses_of, AnswersOne, IsResponding};
@@ -18,7 +19,7 @@ use crate::visitors::Visitors;
 use std::alloc::{AllocError, Global};
 use std::net::SocketAddr;
 use std::time::Clock;
-use wf_client::{BUDGET_BYTES, Client, ClientPhase, Outgoing, slot_index, weight};
+use wf_client::{BUDGET_BYTES, Client, ClientPhase, Outgoing, first_free, slot_index, weight};
 use wf_past::Past;
 use wf_sockets::{Connection, Network};
 
@@ -106,17 +107,16 @@ impl<N: Network> Visitors<N> {
     }
 
     /// Accepts one connection, if there is one, a free slot for it, and room in the budget. Returns
-    /// whether one came.
+    /// whether one came. Where no slot is free nobody is displaced: the newcomer waits.
     pub fn accept_next<R: Clock + Eprint + AllocGlobal>(
         &mut self,
         context: &Context<'_, '_, R, N>,
     ) -> bool
-        ensures { responses_of self.new ≡ responses_of self.old }
+        ensures responses { responses_of self.new ≡ responses_of self.old }
+        ensures full { NoneIsFree self.old.slots.items → result ≡ false }
+        ensures same { NoneIsFree self.old.slots.items → self.new ≡ self.old }
     {
-        if self.taken_slots() == self.slots.len() {
-            return false;
-        }
-        match slot_index(self.slots.as_slice()) {
+        match first_free(self.slots.as_slice()) {
             Some(index) => self.accept_into(context, index),
             None => false,
         }

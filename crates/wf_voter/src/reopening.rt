@@ -1,7 +1,12 @@
 //! A node whose tape has failed opens it again, as the node that it was.
-ghost use Rattle.std.specs.Prelude.{◌≡◌, ◌+◌, IfOk, OnErr, OnOk};
+ghost use Rattle.std.specs.Prelude.{◌≡◌, ◌+◌, ◌⊎◌, IfOk, List, OnErr, OnOk, Some};
+ghost use Rattle.wf_folder.specs.Reach.{IsReachNoLess};
+ghost use Rattle.wf_folder.specs.declared.node_file.NodeFile.{NodeFile};
 ghost use Rattle.wf_peer.specs.PeerProgressText.{peer_progress_text};
-ghost use Rattle.wf_voter.specs.Folder.{IsHeardPut, Stand, counted};
+ghost use Rattle.wf_rejoin.specs.ReplacementsText.{replaced_text};
+ghost use Rattle.wf_store.specs.Call.{Call};
+ghost use Rattle.wf_store.specs.Texts.{is_replaced, text_in};
+ghost use Rattle.wf_voter.specs.Folder.{HasFarmText, IsHeardPut, IsTold, JoinsNoMore, Stand, counted};
 
 use std::fmt;
 use std::io::ErrorKind;
@@ -66,6 +71,12 @@ pub trait NodeFolder<T> {
     /// folder before the node ran, and what the file `heard` has.
     ghost stands: { Self → Stand };
 
+    /// The calls of the folder so far, the latest first.
+    ghost calls: { Self → List Call };
+
+    /// The file `farm`, as this process wrote it last.
+    ghost farm: { Self → NodeFile };
+
     /// Opens the node's tape, if the folder at its path is the one that is locked, and its file
     /// `farm` the one that this process wrote last. No file is made: a tape that is absent is an
     /// error.
@@ -77,17 +88,24 @@ pub trait NodeFolder<T> {
     fn count_start(&mut self) -> Result<u32, NotReopened>
         ensures number { IfOk result (λ number. number ≡ (stands self.old).starts + 1) }
         ensures counted { OnOk result (stands self.new ≡ counted (stands self.old)) }
-        ensures same { OnErr result (stands self.new ≡ stands self.old) };
+        ensures same { OnErr result (stands self.new ≡ stands self.old) }
+        ensures file { IfOk result (λ number. (farm self.new).starts ≡ number) }
+        ensures written { OnOk result (HasFarmText (farm self.new) (calls self.new)) };
 
     /// Raises in the file `farm` how far the node is known to have been, with the digest of its
     /// history up to its last published sequence, if that is more than the file has: synced, with
-    /// the folder.
+    /// the folder. Where the file that was written last says so much, nothing is called.
     fn keep(&mut self, reach: &Reach, digest: [u8; 32]) -> Result<(), FolderError>
-        ensures { stands self.new ≡ stands self.old };
+        ensures stands { stands self.new ≡ stands self.old }
+        ensures reach { OnOk result (IsReachNoLess reach.now (farm self.new).known.reach) }
+        ensures written { OnOk result (HasFarmText (farm self.new) (calls self.new)
+            ⊎ ((farm self.new ≡ farm self.old) × (calls self.new ≡ calls self.old))) };
 
     /// Writes into the file `farm` that a peer has suspended the node: synced, with the folder.
     fn suspend(&mut self, suspension: Suspension) -> Result<(), FolderError>
-        ensures { stands self.new ≡ stands self.old };
+        ensures stands { stands self.new ≡ stands self.old }
+        ensures suspended { OnOk result ((farm self.new).suspension ≡ Some suspension) }
+        ensures written { OnOk result (HasFarmText (farm self.new) (calls self.new)) };
 
     /// Puts what was heard of the peers in the place of the file `heard`: synced, with the folder,
     /// if the folder at its path is the one that is locked. After an error the file has what it had
@@ -100,21 +118,28 @@ pub trait NodeFolder<T> {
     /// folder, if the folder at its path is the one that is locked. After an error the file has
     /// what it had or this.
     fn keep_replaced(&mut self, known: &Replacements) -> Result<(), FolderError>
-        ensures { stands self.new ≡ stands self.old };
+        ensures stands { stands self.new ≡ stands self.old }
+        ensures put { OnOk result
+            (text_in is_replaced (calls self.new) ≡ Some (replaced_text known.now)) }
+        ensures err { OnErr result
+            ((text_in is_replaced (calls self.new) ≡ text_in is_replaced (calls self.old))
+            ⊎ (text_in is_replaced (calls self.new) ≡ Some (replaced_text known.now))) };
 
     /// Puts in the place of the file `joins` what it says once the folder, which joins, was told
     /// this: synced, with the folder, if the folder at its path is the one that is locked. After an
     /// error the text from before or this one is there. What doesn't count after what the file says
     /// was written before, or never counts: the file stays as it is.
     fn keep_joining(&mut self, step: &JoinStep) -> Result<(), FolderError>
-        ensures { stands self.new ≡ stands self.old };
+        ensures stands { stands self.new ≡ stands self.old }
+        ensures told { OnOk result (IsTold step.now (calls self.new)) };
 
     /// Puts an empty text in the place of the file `joins`, synced, with the folder: the folder has
     /// joined, and votes from its next start on. An error is also that it may not, by what its
     /// files `joins` and `farm` say, or that the folder at its path isn't the one that is locked.
     /// After an error the text from before or none is there.
     fn finish_joining(&mut self) -> Result<(), FolderError>
-        ensures { stands self.new ≡ stands self.old };
+        ensures stands { stands self.new ≡ stands self.old }
+        ensures joined { OnOk result (JoinsNoMore (calls self.new)) };
 }
 
 /// A process that goes on for one whose tape has failed, with the digests of no history yet, and

@@ -9,7 +9,7 @@ use Rattle.wf_codec.specs.declared.fault.DecodeFault.{DecodeFault}
 use Rattle.wf_codec.specs.declared.fault.DecodeFault.TheVariants.{Memory}
 use Rattle.wf_codec.specs.declared.message.Message as code
 use Rattle.wf_def.specs.Definition.{Definition}
-use Rattle.wf_mail.specs.Mail.{spelled}
+use Rattle.wf_mail.specs.Mail.{IsFirstPart, spelled}
 use Rattle.wf_mail.specs.Receiver as mail
 use Rattle.wf_mail.specs.Receiver.{IsClosed, IsPieceReceived, ReceiverState, came, taken}
 use Rattle.wf_mail.specs.Stream.{Reads}
@@ -17,7 +17,7 @@ use Rattle.wf_model.specs.Chosen.{IsIn}
 use Rattle.wf_model.specs.Message.{Message}
 use Rattle.wf_peer.specs.Greeting.{IsGreeting, greeting_bytes}
 use Rattle.wf_peer.specs.declared.greeting.Greeting.{Greeting}
-use Rattle.wf_wire.specs.FromPeer.{HasComeFrom, IsGreetedBy, IsTakenIn, takes_more}
+use Rattle.wf_wire.specs.FromPeer.{HasComeFrom, IsGreetedBy, IsTakenIn, bytes_by_then, takes_more}
 use Rattle.wf_wire.specs.Post.{AreAmong}
 use Rattle.wf_sockets.specs.declared.connection.Connection.{Ghosts as Connection}
 use Rattle.wf_wire.specs.Reception.{AreLostOn, AreTakenOn, IsBrokenOn, IsLoss, IsLostBy, IsLostOn, IsReadBehind, IsStoppedBy}
@@ -182,6 +182,18 @@ come_from said greeting receiver stream messages others m rest only is reads fir
     }
 
 -- ---- what a receiver makes of a piece
+
+abbrev first_of : {A : Type 0} → List A → A → A
+first_of [] none = none
+first_of (x ∷ xs) none = x
+
+-- what had come by the time of a message is a beginning of all that has come
+pub came_by_then : (all : List ℕ) (greeting : Vec ℕ Global) (receiver : ReceiverState) (whole : Bool) (peer : ℕ) (stream : List (Vec ℕ Global × ReceiverState)) (m : Message Definition)
+    → stream ≡ (greeting, receiver) ∷ [] → ∥ IsTakenIn all greeting.items receiver whole ∥₁ → (come : HasComeFrom peer stream m) → ∥ IsFirstPart (bytes_by_then come) all ∥₁
+came_by_then all greeting receiver whole peer stream m only taken_in come =
+    let same : (greeting, receiver) ≡ (come.greeting, come.receiver) = ap (λ (s : List (Vec ℕ Global × ReceiverState)). first_of s (greeting, receiver)) (sym only ∙ come.only) in
+    let known : ∥ IsTakenIn all come.greeting.items come.receiver whole ∥₁ = subst (λ (entry : Vec ℕ Global × ReceiverState). ∥ IsTakenIn all entry.0.items entry.1 whole ∥₁) same taken_in in
+    ∥∥₁_map known (λ is. (is.rest, append_assoc come.greeting.items (taken come.receiver) is.rest ∙ sym is.bytes))
 
 pub taken_on : (messages : Vec code.Message Global) (all all' piece : List ℕ) (receiver receiver' : ReceiverState) → 0 < length piece → all' ≡ all ++ piece → IsPieceReceived receiver piece (map view messages.items) receiver' → taken receiver' ≡ taken receiver ++ piece →
     AreTakenOn messages all receiver all' receiver'

@@ -1,9 +1,11 @@
 //! What comes on a connection from a peer is taken in.
 ghost use Rattle.std.specs.Prelude.{◌≡◌, ◌≢◌, ◌∷◌, ◌++◌, ◌⊎◌, [], List, IfErr, IfOk, IfSome, Ok, Err, None, length, false, true};
+ghost use Rattle.wf_codec.specs.Message.{view};
 ghost use Rattle.wf_codec.specs.declared.message.Message as code;
+ghost use Rattle.wf_mail.specs.Mail.{IsFirstPart};
 ghost use Rattle.wf_mail.specs.Receiver.{Open};
 ghost use Rattle.wf_sockets.specs.Moved.{IsWithin, moved};
-ghost use Rattle.wf_wire.specs.FromPeer.{peer_of};
+ghost use Rattle.wf_wire.specs.FromPeer.{HasComeFrom, bytes_by_then, peer_of};
 ghost use Rattle.wf_wire.specs.Reception.{AreLostOn, AreReadOn, HasStillCome, IsLostOn, IsLoss, IsLostBy, IsReadBehind, IsReceivedAs, IsStoppedBy, waiting_in};
 
 use crate::from_peer::FromPeer;
@@ -180,14 +182,22 @@ impl<C: Connection + Drop> FromPeer<C> {
         self.messages.front()
     }
 
-    /// Takes out the first of the messages that wait.
+    /// Takes out the first of the messages that wait. It carries what had come on this connection:
+    /// the greeting, and the receiver.
     pub fn pop(&mut self) -> Option<PeerMessage>
         ensures first { IfSome result (λ m.
             waiting_in self.old ≡ m.message ∷ waiting_in self.new) }
+        ensures stream { IfSome result (λ m.
+            m.stream.items ≡ (self.old.greeting, self.old.receiver) ∷ []) }
+        // All bytes that had come by then are a beginning of those that have come.
+        ensures came { IfSome result (λ m.
+            (come : HasComeFrom m.from m.stream.items (view m.message)) →
+            ∥ IsFirstPart (bytes_by_then come) (C.came self.new.connection) ∥₁) }
         ensures none { result ≡ None → (self.old.said ≡ None) ⊎ (waiting_in self.old ≡ []) }
         ensures let_in { self.new.is_let_in ≡ self.old.is_let_in }
         ensures said { self.new.said ≡ self.old.said }
         ensures connection { self.new.connection ≡ self.old.connection }
+        ensures greeting { self.new.greeting ≡ self.old.greeting }
         ensures receiver { self.new.receiver ≡ self.old.receiver }
     {
         let Some(said) = self.said else {

@@ -3,7 +3,8 @@ use Rattle.std.specs.declared.alloc.Global.{Global}
 use Rattle.wf_mail.specs.Receiver.{ReceiverState}
 use Rattle.wf_peer.specs.declared.greeting.Greeting.{Greeting}
 use Rattle.wf_wire.specs.FromPeer.{IsGreetedBy}
-use Rattle.wf_wire.proofs.Arrival.{among_behind, come_from}
+use Rattle.wf_codec.specs.Message.{view}
+use Rattle.wf_wire.proofs.Arrival.{among_behind, came_by_then, come_from}
 use Rattle.wf_wire.proofs.from_peer.FromPeer.pop.Goals as goal
 
 pub invariant_of-self : goal.invariant_of-self
@@ -23,3 +24,9 @@ invariant_of-result g c =
           (c.and.ensures ∙ ap (λ (l : List (Vec ℕ Global × ReceiverState)). l ++ (self.greeting, self.receiver) ∷ []) c.new.ensures)
           (subst (λ (s : Option Greeting). ∥ IsGreetedBy s self.greeting.items ∥₁) c.in-Some.is self.is_said) c.always_reads.ensures.1 c.in-Some-pop_front.ensures.items self.waiting;
     }
+
+pub returns-in-Some-pop_front-clause-came : goal.returns-in-Some-pop_front-clause-came
+returns-in-Some-pop_front-clause-came g c come =
+    let self = c.args.self.now in
+    came_by_then (g.C.Connection.came self.connection) self.greeting self.receiver self.is_whole c.in-Some.said.node c.and.result.items (view c.in-Some-pop_front.message)
+    (c.and.ensures ∙ ap (λ (l : List (Vec ℕ Global × ReceiverState)). l ++ (self.greeting, self.receiver) ∷ []) c.new.ensures) self.taken_in come

@@ -1,5 +1,5 @@
 -- What a file of a folder has, by the folder's calls.
-use Rattle.std.specs.Prelude.{ℕ, Bool, true, false, List, [], ◌∷◌, Option, None, if◌then◌else◌}
+use Rattle.std.specs.Prelude.{◌≡◌, ◌⊎◌, ℕ, Bool, true, false, List, [], ◌∷◌, Option, None, Some, if◌then◌else◌}
 use Rattle.wf_store.specs.Call.{Call}
 use Rattle.wf_store.specs.declared.deed.Deed.{Deed}
 use Rattle.wf_store.specs.declared.deed.Deed.TheVariants as deeds
@@ -9,6 +9,10 @@ use Rattle.wf_store.specs.declared.file_name.FileName.TheVariants as names
 abbrev pub is_farm : FileName → Bool
 is_farm names.Farm = true
 is_farm file = false
+
+abbrev pub is_heard : FileName → Bool
+is_heard names.Heard = true
+is_heard file = false
 
 abbrev pub is_replaced : FileName → Bool
 is_replaced names.Replaced = true
@@ -36,3 +40,17 @@ text_by is deed bytes earlier = earlier
 abbrev pub text_in : (FileName → Bool) → List Call → Option (List ℕ)
 text_in is [] = None
 text_in is (call ∷ earlier) = text_by is call.deed call.bytes (text_in is earlier)
+
+-- ---- what becomes of it
+
+-- it stays, whichever file it is
+abbrev pub TextsStay : (old new : List Call) → Type 0
+TextsStay old new = (is : FileName → Bool) → text_in is new ≡ text_in is old
+
+-- a text was put in the place of a file; each other one stays
+abbrev pub IsTextPut : FileName → List ℕ → (old new : List Call) → Type 0
+IsTextPut file text old new = (is : FileName → Bool) → text_in is new ≡ (if is file then Some text else text_in is old)
+
+-- it may have been
+abbrev pub MayBeIn : FileName → List ℕ → (old new : List Call) → Type 0
+MayBeIn file text old new = (is : FileName → Bool) → (text_in is new ≡ text_in is old) ⊎ (text_in is new ≡ (if is file then Some text else text_in is old))
