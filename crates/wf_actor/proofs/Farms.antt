@@ -1,8 +1,8 @@
 -- Processes that show their lives are a farm.
 use Rattle.std.proofs.Common.{◌≡◌, ℕ, ◌<◌, ◌==◌, Bool, true, false, List, [], ◌∷◌, ◌++◌, refl, sym, ap, subst, ◌∙◌, inl, inr, eq-eqb}
 use Rattle.std.specs.Prelude.{if◌then◌else◌}
-use Rattle.wf_career.specs.Career.{IsOneOf, AreInTurn, items_by}
-use Rattle.wf_career.specs.Run.{Act, Input, IsRun, given_to}
+use Rattle.wf_execution.specs.Execution.{IsOneOf, AreInTurn, items_by}
+use Rattle.wf_execution.specs.Run.{Act, Input, IsRun, given_to}
 use Rattle.wf_codec.specs.declared.message.Message.{Message}
 use Rattle.wf_model.specs.declared.action.Action.TheVariants as action
 use Rattle.wf_tape.specs.declared.tape.Tape.{Ghosts as Tape}
@@ -56,7 +56,7 @@ in_turn n (step ∷ steps) sent emitted members among own carried =
     )
 
 pub processes_are_farm : {T : Type 0} (tapes : Tape T) → ProcessesAreFarm tapes
-processes_are_farm tapes = λ n careers steps are. record {
+processes_are_farm tapes = λ n executions steps are. record {
   each = are.each;
   own = are.shown;
   in_turn = in_turn n steps [] (λ i. []) are.members (λ i m there. there) are.own are.carried;

@@ -1,9 +1,9 @@
 -- The life of a node goes on with each of its steps.
 use Rattle.std.proofs.Common.{◌≡◌, ◌⊎◌, inl, inr, ℕ, Bool, true, false, List, [], ◌∷◌, ◌++◌, Vec, Result, Ok, Err, IfOk, IfErr, refl, sym, ap, subst, ◌∙◌, append-nil, append_assoc}
 use Rattle.std.specs.declared.alloc.Global.{Global}
-use Rattle.wf_career.specs.Career.{values_after, values_in}
-use Rattle.wf_career.specs.RunTheorems.{last_more, done_more, fold_stands, outputs_more}
-use Rattle.wf_career.specs.Run.{Act, Input, IsAct, Run, given_to, last_of, outputs}
+use Rattle.wf_execution.specs.Execution.{values_after, values_in}
+use Rattle.wf_execution.specs.RunTheorems.{last_more, done_more, fold_stands, outputs_more}
+use Rattle.wf_execution.specs.Run.{Act, Input, IsAct, Run, given_to, last_of, outputs}
 use Rattle.wf_codec.specs.declared.message.Message.{Message}
 use Rattle.wf_edge.specs.StepResult.{IsStepResult}
 use Rattle.wf_edge.specs.RequestEffect.{HandsOut, MovesOnce, Stays, Proposes}

@@ -5,7 +5,7 @@ use Rattle.std.specs.Char.{is_ascii_digit}
 use Rattle.std.specs.List.{list_all}
 use Rattle.std.specs.Prelude.{⊤, codes, if◌then◌else◌}
 use Rattle.std.specs.declared.alloc.Global.{Global}
-use Rattle.wf_career.specs.Theorems.{OneHistory}
+use Rattle.wf_execution.specs.Theorems.{OneHistory}
 use Rattle.wf_def.specs.Definition.{Definition}
 use Rattle.wf_edge.specs.Theorem.{AnswerAlike, EqualRequestsHaveEqualResponses, are_asked_alike, stand_alike}
 use Rattle.wf_mail.specs.Mail.{IsFirstPart}
@@ -81,8 +81,8 @@ module _ (history xs ys : List Definition) (first : IsFirstPart xs history) (sec
 
 pub processes_respond : {T : Type 0} (tapes : Tape T) → OneHistory tapes → EqualRequestsHaveEqualResponses Global tapes → ProcessesRespondAlike tapes
 processes_respond tapes histories equal =
-    λ n careers items farm node other held also input query after other_after sent other_sent response another asks alike responds fine responds_too fine_too.
-    let so = histories n careers items farm in
+    λ n executions items farm node other held also input query after other_after sent other_sent response another asks alike responds fine responds_too fine_too.
+    let so = histories n executions items farm in
     equal input query node after other other_after sent other_sent response another asks
     (answer_alike so.history node.parts.history other.parts.history (so.each node held) (so.each other also) query alike)
     responds fine responds_too fine_too

@@ -1,6 +1,6 @@
 -- A run with one more act at its end.
 use Rattle.std.proofs.Common.{◌≡◌, List, [], ◌∷◌, ◌++◌, sym, ap, subst, ◌∙◌, append_assoc, append-nil}
-use Rattle.wf_career.specs.Run.{Act, given_to, outputs}
+use Rattle.wf_execution.specs.Run.{Act, given_to, outputs}
 use Rattle.wf_codec.specs.declared.message.Message.{Message}
 use Rattle.wf_actor.specs.Life.{all_from, delivered, AreOwnAmong, AreOwnReceived}
 use Rattle.wf_actor.specs.declared.actor.Origin.{Origin}

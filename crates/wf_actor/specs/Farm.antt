@@ -1,7 +1,7 @@
--- Processes that show their lives are a farm: what `wf_career` has theorems about.
+-- Processes that show their lives are a farm: what `wf_execution` has theorems about.
 use Rattle.std.specs.Prelude.{◌≡◌, ℕ, ◌<◌, ◌==◌, ⊤, List, [], ◌∷◌, ◌++◌, map, Some, if◌then◌else◌}
-use Rattle.wf_career.specs.Career.{Career, Item, IsCareer, IsFarm, items_by, items_in, items_of}
-use Rattle.wf_career.specs.Run.{Act, Input, Run, IsRun, given_to, last}
+use Rattle.wf_execution.specs.Execution.{Execution, Item, IsExecution, IsFarm, items_by, items_in, items_of}
+use Rattle.wf_execution.specs.Run.{Act, Input, Run, IsRun, given_to, last}
 use Rattle.wf_codec.specs.declared.message.Message.{Message}
 use Rattle.wf_node.specs.Node.{Node}
 use Rattle.wf_tape.specs.declared.tape.Tape.{Ghosts as Tape}
@@ -10,8 +10,8 @@ use Rattle.wf_wire.specs.Post.{AreAmong}
 use Rattle.wf_actor.specs.declared.actor.Origin.{Origin}
 use Rattle.wf_actor.specs.declared.actor.Origin.TheVariants.{Own, Peer}
 
--- an item of `wf_career` with where its input came from: the process of that number gave its node
--- this input, which returned these messages
+-- an item of `wf_execution` with where its input came from: the process of that number gave its
+-- node this input, which returned these messages
 pub record Step : Type 0 where
   pub process : ℕ
   pub takes : Input
@@ -61,20 +61,20 @@ AreMembers n (step ∷ steps) = (step.process < n) × AreMembers n steps
 
 -- n processes of which each shows its runs, and hears only its own messages and those that
 -- connections carry, in one order of time.
-pub record AreProcesses {T : Type 0} (tapes : Tape T) (n : ℕ) (careers : ℕ → Career T) (steps : List Step) : Type 0 where
+pub record AreProcesses {T : Type 0} (tapes : Tape T) (n : ℕ) (executions : ℕ → Execution T) (steps : List Step) : Type 0 where
   pub members : AreMembers n steps
-  pub each : (i : ℕ) → i < n → IsCareer tapes n i (careers i)
-  pub shown : (i : ℕ) → i < n → items_of i (items steps) ≡ items_in i (careers i).ended (careers i).now
+  pub each : (i : ℕ) → i < n → IsExecution tapes n i (executions i)
+  pub shown : (i : ℕ) → i < n → items_of i (items steps) ≡ items_in i (executions i).ended (executions i).now
   pub own : (i : ℕ) → i < n → AreOwn [] (steps_of i steps)
   pub carried : AreCarried [] steps
 
 -- ---- the theorems
 
--- They are a farm of `wf_career`.
+-- They are a farm of `wf_execution`.
 abbrev pub ProcessesAreFarm : {T : Type 0} → Tape T → Type 0
-ProcessesAreFarm {T} tapes = (n : ℕ) (careers : ℕ → Career T) (steps : List Step) → AreProcesses tapes n careers steps → IsFarm tapes n careers (items steps)
+ProcessesAreFarm {T} tapes = (n : ℕ) (executions : ℕ → Execution T) (steps : List Step) → AreProcesses tapes n executions steps → IsFarm tapes n executions (items steps)
 
--- One run's part of that: a run of `wf_career` up to the node as it is, from the bytes that were
+-- One run's part of that: a run of `wf_execution` up to the node as it is, from the bytes that were
 -- read of the tape from which it was opened, which are its content if it is durable. Its items are
 -- these steps, which hear only their own messages.
 pub record IsRunPart {T : Type 0} (tapes : Tape T) (read_from : List (T × ℕ)) (stood : List (Node T × ℕ)) (node : Node T) : Type 0 where
@@ -95,10 +95,10 @@ abbrev pub LifeIsPart : {T : Type 0} → Tape T → Type 0
 LifeIsPart {T} tapes = (read_from : List (T × ℕ)) (stood : List (Node T × ℕ)) (given : List (Message × Origin)) (emitted : List Message) (node : Node T) →
     IsLife tapes read_from stood given emitted node → IsRunPart tapes read_from stood node
 
--- Where the tape is durable and was empty, that is the first run of a process of `wf_career`.
+-- Where the tape is durable and was empty, that is the first run of a process of `wf_execution`.
 abbrev pub PartIsFirst : {T : Type 0} → Tape T → Type 0
 PartIsFirst {T} tapes = (read_from : List (T × ℕ)) (stood : List (Node T × ℕ)) (node : Node T) (part : IsRunPart tapes read_from stood node) → tapes.durable → tapes.content part.tape ≡ [] →
-    IsCareer tapes node.n node.id (record { ended = []; now = Some part.run })
+    IsExecution tapes node.n node.id (record { ended = []; now = Some part.run })
 
 -- Runs one after the other hear only their own messages, if each of them does.
 abbrev pub RunsAreOwn : Type 0

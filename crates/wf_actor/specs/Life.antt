@@ -1,8 +1,8 @@
 -- The life of a node in a process: its acts since it was opened, and where its inputs came from.
 use Rattle.std.specs.Prelude.{◌≡◌, ℕ, ⊤, List, [], ◌∷◌, ◌++◌, map}
 use Rattle.wf_codec.specs.declared.message.Message.{Message}
-use Rattle.wf_career.specs.Career.{values_in}
-use Rattle.wf_career.specs.Run.{Act, Run, AreDone, IsOpenedFromTape, given_to, last, outputs}
+use Rattle.wf_execution.specs.Execution.{values_in}
+use Rattle.wf_execution.specs.Run.{Act, Run, AreDone, IsOpenedFromTape, given_to, last, outputs}
 use Rattle.wf_model.specs.Chosen.{IsIn}
 use Rattle.wf_node.specs.Node.{Node}
 use Rattle.wf_tape.specs.declared.tape.Tape.{Ghosts as Tape}
@@ -55,7 +55,7 @@ module _ {T : Type 0} (tapes : Tape T) where
     pub opened : IsOpenedFromTape tapes node.n node.id tape node
 
   -- A node that was opened from the tape that `read_from` has is this one by now, by the acts of a
-  -- run of `wf_career`, with the values that `stood` has. By them it was given exactly these
+  -- run of `wf_execution`, with the values that `stood` has. By them it was given exactly these
   -- messages, and returned exactly these, and of its own messages it was given only what it had
   -- returned.
   pub record IsLife (read_from : List (T × ℕ)) (stood : List (Node T × ℕ)) (given : List (Message × Origin)) (emitted : List Message) (node : Node T) : Type 0 where

@@ -1,8 +1,8 @@
 -- Processes of a farm respond alike: whole HTTP responses.
 use Rattle.std.specs.Prelude.{◌≡◌, ◌≢◌, ℕ, List, length, Some, Vec}
 use Rattle.std.specs.declared.alloc.Global.{Global}
-use Rattle.wf_career.specs.Career.{Career, Item, IsFarm}
-use Rattle.wf_career.specs.Theorems.{IsHeld}
+use Rattle.wf_execution.specs.Execution.{Execution, Item, IsFarm}
+use Rattle.wf_execution.specs.Theorems.{IsHeld}
 use Rattle.wf_codec.specs.declared.message.Message.{Message}
 use Rattle.wf_def.specs.Definition.{Definition}
 use Rattle.wf_edge.specs.Theorem.{AsksMapService}
@@ -22,8 +22,8 @@ pub data AskedAlike (query : List ℕ) (history other : List Definition) : Type 
 -- equal bytes, whatever comes after the request, if neither responds that an allocation failed
 -- (503).
 abbrev pub ProcessesRespondAlike : {T : Type 0} → Tape T → Type 0
-ProcessesRespondAlike {T} tapes = (n : ℕ) (careers : ℕ → Career T) (items : List Item) → IsFarm tapes n careers items →
-    (node other : Node T) → IsHeld n careers node → IsHeld n careers other → (input query : List ℕ) (after other_after : Node T) (sent other_sent : Vec Message Global) (response another : Response) →
+ProcessesRespondAlike {T} tapes = (n : ℕ) (executions : ℕ → Execution T) (items : List Item) → IsFarm tapes n executions items →
+    (node other : Node T) → IsHeld n executions node → IsHeld n executions other → (input query : List ℕ) (after other_after : Node T) (sent other_sent : Vec Message Global) (response another : Response) →
     AsksMapService input query → AskedAlike query node.parts.history other.parts.history →
     Responds tapes (Some input) node response sent after → response.status ≢ 503 →
     Responds tapes (Some input) other another other_sent other_after → another.status ≢ 503 →

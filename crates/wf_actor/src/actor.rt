@@ -47,7 +47,7 @@ impl<T: Tape> Actor<T> {
     ghost use Rattle.wf_actor.specs.Sent.{AreCome};
     ghost use Rattle.wf_actor.specs.Start.{IsOpened};
     ghost use Rattle.wf_def.specs.Definition.{Definition};
-    ghost use Rattle.wf_career.specs.Run.{given_to};
+    ghost use Rattle.wf_execution.specs.Run.{given_to};
     ghost use Rattle.wf_edge.specs.StepResult.{IsStepResult};
     ghost use Rattle.wf_edge.specs.Receipt.{CountsReceiving};
     ghost use Rattle.wf_edge.specs.Completion.{CountsCompleting};

@@ -8,7 +8,7 @@
 //! given to those that they are for; and a log of the runs that have ended (`specs/Process.antt`).
 //!
 //! **Promises.**
-//! - Whatever was called, the node's acts since it was opened are a run of `wf_career`, from the
+//! - Whatever was called, the node's acts since it was opened are a run of `wf_execution`, from the
 //!   bytes that were read of its tape, or that it wrote to it when it moved there
 //!   ([`Process::of`]), and end at the node as it is now ([`Process::always_lived`],
 //!   [`a_life_is_part_of_a_farm`]). So a loop over a process needs no invariant to say what it did.
@@ -27,7 +27,7 @@
 //!   reads. [`Process::reopen`] is its next run, on a tape that has what the node had stored, or
 //!   that and the record of the step that failed.
 //! - Processes of which each shows its life, and hears only what was sent before, are a farm of
-//!   `wf_career` ([`processes_are_a_farm`]).
+//!   `wf_execution` ([`processes_are_a_farm`]).
 //! - Node values that processes of a farm ever held respond to equal requests to the map service
 //!   with equal bytes, as whole HTTP responses, where they have published equally many maps or are
 //!   asked for one map; a 503 for a failed allocation aside ([`processes_respond_alike`],

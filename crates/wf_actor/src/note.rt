@@ -3,7 +3,7 @@
 ghost use Rattle.std.specs.Prelude.{◌≡◌, ◌++◌};
 ghost use Rattle.wf_actor.specs.Life.{all_from};
 ghost use Rattle.wf_wire.specs.Post.{logged};
-ghost use Rattle.wf_career.specs.Run.{given_to};
+ghost use Rattle.wf_execution.specs.Run.{given_to};
 ghost use Rattle.wf_delivery.specs.Reachability.{outputs_by};
 
 use crate::actor::Origin;

@@ -44,7 +44,7 @@ impl<T: Tape> Process<T> {
     ghost use Rattle.wf_actor.specs.Sent.{AreCome};
     ghost use Rattle.wf_wire.specs.declared.target.Target.TheVariants as target;
     ghost use Rattle.wf_actor.specs.declared.actor.Origin.TheVariants as origin;
-    ghost use Rattle.wf_career.specs.Run.{given_to};
+    ghost use Rattle.wf_execution.specs.Run.{given_to};
     ghost use Rattle.wf_codec.specs.declared.message.Message.TheVariants as message;
     ghost use Rattle.wf_journal.specs.Journal.{Follows, ReadsSame, IsWhyFailed};
     ghost use Rattle.wf_model.specs.Chosen.{IsIn};
@@ -298,8 +298,8 @@ impl<T: Tape> Process<T> {
         }
     }
 
-    /// The life of the node in this run, always: some run of `wf_career`, from what was read of the
-    /// tape on which it was opened, of which its logs tell. The call does nothing.
+    /// The life of the node in this run, always: some run of `wf_execution`, from what was read of
+    /// the tape on which it was opened, of which its logs tell. The call does nothing.
     pub fn always_lived(&self)
         ensures { ∥ IsLife T.Tape self.now.actor.read_from.items self.now.actor.stood.items
             self.now.actor.given.items (logged self.now.actor.emitted.items) self.now.actor.node ∥₁ }

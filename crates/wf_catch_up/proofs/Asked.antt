@@ -1,4 +1,4 @@
--- Questions, and their answers to the asker alone, are events of the model that lead the nodes on.
+-- Questions, and their answers to the requester alone, are events of the model that lead the nodes on.
 use Rattle.std.proofs.Common.{◌≡◌, ◌<◌, ◌≤◌, ◌+◌, ◌||◌, ℕ, zero, suc, Bool, true, false, List, [], ◌∷◌, ◌++◌, map, length, slice_get, slice_set, Some, refl, sym, ap, subst, ◌∙◌, inl, inr, arith, append_assoc, slice_index_or, take, drop, ◌-◌}
 use Rattle.wf_catch_up.proofs.Common.{lt-ltb, append-nil, take_all, none-some, last_sequence, Message, Definition, definition_eq, DurableState, next_sequence, published, most_reports, on_ask, on_catch_up, on_message, step_rejection, transition, only_sends, store, reports_from, World, steps, Node, volatile_of, IsTransition, transition_of, bytes_of, Asks, CatchUpIsReachable, HasReceived, HaveAsked, IsOneQuestion, IsDeliveryTaken, LevelRests, Rests, StandLevel, AnyPart, IsOne, Refines, StandFor, StandInTurn, TakeOne, halted_twice, keeps_turn_twice, IsSturdy, Takes, AreReachableFrom, AreReachableSending, IsReachableWith, ReachSending, set_same, set_there, KeepsEntry, Running, set_twice}
 use Rattle.std.proofs.Math.Bool.{or_assoc}
@@ -91,9 +91,9 @@ module _ {T : Type 0} (tapes : Tape T) (nodes : List (Node T)) (i : ℕ) (turns 
 
 -- ---- a question
 
-module _ {T : Type 0} (tapes : Tape T) (asked asker : ℕ) (nodes after : List (Node T)) (lost : Bool) (turns : StandInTurn nodes) (is : IsOneQuestion tapes asked asker nodes lost after) where
+module _ {T : Type 0} (tapes : Tape T) (asked requester : ℕ) (nodes after : List (Node T)) (lost : Bool) (turns : StandInTurn nodes) (is : IsOneQuestion tapes asked requester nodes lost after) where
   asking_reachable : AreReachableSending tapes nodes (is.question ∷ []) nodes
-  asking_reachable = subst (AreReachableSending tapes nodes (is.question ∷ [])) (set_same nodes asker is.before is.asker_at) (takes_reachable tapes nodes asker is.before is.before table.CatchUp (is.question ∷ []) is.asker_at turns tt false is.asks)
+  asking_reachable = subst (AreReachableSending tapes nodes (is.question ∷ [])) (set_same nodes requester is.before is.requester_at) (takes_reachable tapes nodes requester is.before is.before table.CatchUp (is.question ∷ []) is.requester_at turns tt false is.asks)
 
   answering_reachable : AreReachableSending tapes nodes (is.question ∷ is.answer) nodes
   answering_reachable =
@@ -103,31 +103,31 @@ module _ {T : Type 0} (tapes : Tape T) (asked asker : ℕ) (nodes after : List (
   question_reachable : AreReachableFrom tapes nodes after
   question_reachable =
       let sent = sent_after is.answer is.answer is.question (sent_themselves is.answer) in
-      let received = received_reachable tapes nodes asker turns is.answer (is.question ∷ is.answer) is.unheard nodes is.before is.after sent is.asker_at is.receives answering_reachable in
-      subst (AreReachableFrom tapes nodes) (sym is.nodes_are) (unheard_is_reachable tapes nodes (slice_set nodes asker is.after) received.0 received.1)
+      let received = received_reachable tapes nodes requester turns is.answer (is.question ∷ is.answer) is.unheard nodes is.before is.after sent is.requester_at is.receives answering_reachable in
+      subst (AreReachableFrom tapes nodes) (sym is.nodes_are) (unheard_is_reachable tapes nodes (slice_set nodes requester is.after) received.0 received.1)
 
 -- ---- many questions
 
 module _ {T : Type 0} (tapes : Tape T) (asked : ℕ) (nodes : List (Node T)) where
   pub have_asked_reachable : (lost : Bool) (after : List (Node T)) → StandInTurn nodes → HaveAsked tapes asked nodes lost after → AreReachableFrom tapes nodes after
   have_asked_reachable _ _ turns Rests = nothing_is_reachable tapes nodes
-  have_asked_reachable _ _ turns (Asks asker lost loses middle after so_far is) =
+  have_asked_reachable _ _ turns (Asks requester lost loses middle after so_far is) =
       let reachable = have_asked_reachable lost middle turns so_far in
-      reachable_is_transitive tapes nodes middle after reachable (question_reachable tapes asked asker middle after loses (reachable.turn.in_turn turns) is)
+      reachable_is_transitive tapes nodes middle after reachable (question_reachable tapes asked requester middle after loses (reachable.turn.in_turn turns) is)
 
   -- Where all nodes that run stand level, none asks.
   none_asked : (lost : Bool) (after : List (Node T)) → StandLevel nodes → HaveAsked tapes asked nodes lost after → after ≡ nodes
   none_asked _ _ level Rests = refl
-  none_asked _ _ level (Asks asker lost loses middle after so_far is) =
+  none_asked _ _ level (Asks requester lost loses middle after so_far is) =
       let same = none_asked lost middle level so_far in
-      absurd (not_level middle asked asker is.behind (subst StandLevel (sym same) level))
+      absurd (not_level middle asked requester is.behind (subst StandLevel (sym same) level))
 
   -- More questions to the same node.
   pub asked_twice : (lost : Bool) (middle : List (Node T)) (loses : Bool) (after : List (Node T)) → HaveAsked tapes asked nodes lost middle → HaveAsked tapes asked middle loses after → HaveAsked tapes asked nodes (lost || loses) after
   asked_twice lost middle _ _ first Rests = subst (λ b. HaveAsked tapes asked nodes b middle) (sym (or_false lost)) first
-  asked_twice lost middle _ _ first (Asks asker others loses between after so_far is) =
+  asked_twice lost middle _ _ first (Asks requester others loses between after so_far is) =
       subst (λ b. HaveAsked tapes asked nodes b after) (or_assoc lost others loses)
-      (Asks asker (lost || others) loses between after (asked_twice lost middle others between first so_far) is)
+      (Asks requester (lost || others) loses between after (asked_twice lost middle others between first so_far) is)
 
 pub catch_up_is_reachable : {T : Type 0} (tapes : Tape T) → CatchUpIsReachable tapes
 catch_up_is_reachable tapes = λ nodes after lost turns caught. have_asked_reachable tapes caught.asked nodes lost after turns caught.have_asked

@@ -33,8 +33,8 @@ unfoldable pub HasMost : {T : Type 0} → List (Node T) → ℕ → Type 0
 HasMost nodes i = (k : ℕ) → rank_at nodes k ≤ rank_at nodes i
 
 -- The node runs, and hasn't come as far as the one that it asks.
-abbrev pub IsBehind : {T : Type 0} → List (Node T) → (asked asker : ℕ) → Type 0
-IsBehind nodes asked asker = (0 < rank_at nodes asker) × (rank_at nodes asker < rank_at nodes asked)
+abbrev pub IsBehind : {T : Type 0} → List (Node T) → (asked requester : ℕ) → Type 0
+IsBehind nodes asked requester = (0 < rank_at nodes requester) × (rank_at nodes requester < rank_at nodes asked)
 
 -- All nodes that run have published equally many maps.
 unfoldable pub StandLevel : {T : Type 0} → List (Node T) → Type 0
@@ -59,16 +59,16 @@ module _ {T : Type 0} (tapes : Tape T) where
 
   -- One question: a node that is behind asks for the definition after its last one; its message is
   -- delivered to the node that it asks, and to no other; and what that one sends is delivered to
-  -- the asker alone. The delivery of the question or of one message of the answer may be lost, and
-  -- then no more are made.
-  pub record IsOneQuestion (asked asker : ℕ) (nodes : List (Node T)) (lost : Bool) (nodes_after : List (Node T)) : Type 0 where
-    pub behind : IsBehind nodes asked asker
-    -- the asker before it asks, and after it heard the answer; and the one that is asked, which is
-    -- unchanged
+  -- the requester alone. The delivery of the question or of one message of the answer may be lost,
+  -- and then no more are made.
+  pub record IsOneQuestion (asked requester : ℕ) (nodes : List (Node T)) (lost : Bool) (nodes_after : List (Node T)) : Type 0 where
+    pub behind : IsBehind nodes asked requester
+    -- the requester before it asks, and after it heard the answer; and the one that is asked, which
+    -- is unchanged
     pub before : Node T
     pub after : Node T
     pub other : Node T
-    pub asker_at : slice_get nodes asker ≡ Some before
+    pub requester_at : slice_get nodes requester ≡ Some before
     pub asked_at : slice_get nodes asked ≡ Some other
     pub question : Message
     pub asks : Takes tapes false table.CatchUp before before (question ∷ [])
@@ -78,12 +78,12 @@ module _ {T : Type 0} (tapes : Tape T) where
     pub unheard : Bool
     pub receives : HasReceived answer unheard before after
     pub is_lost : lost ≡ (unanswered || unheard)
-    pub nodes_are : nodes_after ≡ slice_set nodes asker after
+    pub nodes_are : nodes_after ≡ slice_set nodes requester after
 
   -- Any number of questions to one node, one after the other; and whether a delivery was lost.
   pub data HaveAsked (asked : ℕ) (nodes : List (Node T)) : Bool → List (Node T) → Type 0 where
     Rests : HaveAsked asked nodes false nodes
-    Asks : (asker : ℕ) (lost loses : Bool) (middle after : List (Node T)) → HaveAsked asked nodes lost middle → IsOneQuestion asked asker middle loses after → HaveAsked asked nodes (lost || loses) after
+    Asks : (requester : ℕ) (lost loses : Bool) (middle after : List (Node T)) → HaveAsked asked nodes lost middle → IsOneQuestion asked requester middle loses after → HaveAsked asked nodes (lost || loses) after
 
   -- All questions were to one node, than which none had come further.
   pub record HaveCaughtUp (nodes : List (Node T)) (lost : Bool) (nodes_after : List (Node T)) : Type 0 where
@@ -109,12 +109,12 @@ module _ {T : Type 0} (tapes : Tape T) where
 
 -- ---- for the crate's own contracts
 
--- The messages answer the question of the asker: at most eight definitions, from the one after its
--- last one on.
-pub record AreAnswersTo {T : Type 0} (nodes : List (Node T)) (asked asker : ℕ) (answer : List Message) : Type 0 where
+-- The messages answer the question of the requester: at most eight definitions, from the one after
+-- its last one on.
+pub record AreAnswersTo {T : Type 0} (nodes : List (Node T)) (asked requester : ℕ) (answer : List Message) : Type 0 where
   pub before : Node T
   pub other : Node T
-  pub asker_at : slice_get nodes asker ≡ Some before
+  pub requester_at : slice_get nodes requester ≡ Some before
   pub asked_at : slice_get nodes asked ≡ Some other
   pub answer_is : map message.view answer ≡ reports_from other.parts.history (length before.parts.history + 1) most_reports
 
@@ -126,26 +126,26 @@ pub record ReceivesAt {T : Type 0} (tapes : Tape T) (i : ℕ) (messages : List M
   pub received : HasReceived tapes messages lost before after
   pub hosts_are : hosts_after ≡ slice_set hosts i (Running after)
 
--- No node but the asker is changed, and it hasn't come further than the one that it asks.
-pub record OneChanges {T : Type 0} (asked asker : ℕ) (nodes nodes_after : List (Node T)) : Type 0 where
-  pub others : (k : ℕ) → (k ≡ asker → ⊥) → slice_get nodes_after k ≡ slice_get nodes k
+-- No node but the requester is changed, and it hasn't come further than the one that it asks.
+pub record OneChanges {T : Type 0} (asked requester : ℕ) (nodes nodes_after : List (Node T)) : Type 0 where
+  pub others : (k : ℕ) → (k ≡ requester → ⊥) → slice_get nodes_after k ≡ slice_get nodes k
   pub asked_stays : slice_get nodes_after asked ≡ slice_get nodes asked
-  pub within : rank_at nodes_after asker ≤ rank_at nodes asked
+  pub within : rank_at nodes_after requester ≤ rank_at nodes asked
 
--- A question brings the asker on, unless its tape fails; or a delivery is lost, and it is behind
--- still.
-abbrev pub BringsOn : {T : Type 0} → (asked asker : ℕ) → List (Node T) → Bool → List (Node T) → Type 0
-BringsOn asked asker nodes true nodes_after = IsBehind nodes_after asked asker
-BringsOn asked asker nodes false nodes_after = (rank_at nodes_after asker ≡ 0) ⊎ (rank_at nodes asker < rank_at nodes_after asker)
+-- A question brings the requester on, unless its tape fails; or a delivery is lost, and it is
+-- behind still.
+abbrev pub BringsOn : {T : Type 0} → (asked requester : ℕ) → List (Node T) → Bool → List (Node T) → Type 0
+BringsOn asked requester nodes true nodes_after = IsBehind nodes_after asked requester
+BringsOn asked requester nodes false nodes_after = (rank_at nodes_after requester ≡ 0) ⊎ (rank_at nodes requester < rank_at nodes_after requester)
 
 -- The node has caught up, unless its tape has failed; or a delivery was lost, and it is behind
 -- still.
-abbrev pub IsLevelAt : {T : Type 0} → List (Node T) → (asked asker : ℕ) → Type 0
-IsLevelAt nodes asked asker = (rank_at nodes asker ≡ 0) ⊎ (rank_at nodes asker ≡ rank_at nodes asked)
+abbrev pub IsLevelAt : {T : Type 0} → List (Node T) → (asked requester : ℕ) → Type 0
+IsLevelAt nodes asked requester = (rank_at nodes requester ≡ 0) ⊎ (rank_at nodes requester ≡ rank_at nodes asked)
 
-abbrev pub EndsUp : {T : Type 0} → (asked asker : ℕ) → Bool → List (Node T) → Type 0
-EndsUp asked asker true nodes = IsBehind nodes asked asker
-EndsUp asked asker false nodes = IsLevelAt nodes asked asker
+abbrev pub EndsUp : {T : Type 0} → (asked requester : ℕ) → Bool → List (Node T) → Type 0
+EndsUp asked requester true nodes = IsBehind nodes asked requester
+EndsUp asked requester false nodes = IsLevelAt nodes asked requester
 
 -- The first nodes, this many, have caught up so.
 abbrev pub FirstEndUp : {T : Type 0} → (asked count : ℕ) → Bool → List (Node T) → Type 0
@@ -157,5 +157,5 @@ abbrev pub lacks_by : ℕ → ℕ → ℕ
 lacks_by zero most = 0
 lacks_by (suc count) most = most - suc count
 
-abbrev pub lacks : {T : Type 0} → List (Node T) → (asked asker : ℕ) → ℕ
-lacks nodes asked asker = lacks_by (rank_at nodes asker) (rank_at nodes asked)
+abbrev pub lacks : {T : Type 0} → List (Node T) → (asked requester : ℕ) → ℕ
+lacks nodes asked requester = lacks_by (rank_at nodes requester) (rank_at nodes asked)

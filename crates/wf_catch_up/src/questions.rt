@@ -123,8 +123,8 @@ fn ask_each<T: Tape>(alloc: Global, hosts: &mut [NodeHost<T>], asked: usize) -> 
     ensures entries { KeepEntries T.Tape hosts.old hosts.new }
 {
     let mut lost = false;
-    for asker in 0..hosts.len() {
-        lost = either(lost, ask_while_behind(alloc, hosts, asked, asker));
+    for requester in 0..hosts.len() {
+        lost = either(lost, ask_while_behind(alloc, hosts, asked, requester));
     }
     lost
 }
@@ -142,17 +142,17 @@ fn ask_while_behind<T: Tape>(
     alloc: Global,
     hosts: &mut [NodeHost<T>],
     asked: usize,
-    asker: usize,
+    requester: usize,
 ) -> bool
-    requires within { rank_at (nodes_of hosts.old) asker ≤ rank_at (nodes_of hosts.old) asked }
+    requires within { rank_at (nodes_of hosts.old) requester ≤ rank_at (nodes_of hosts.old) asked }
     ensures have_asked { HaveAsked T.Tape asked (nodes_of hosts.old) result
         (nodes_of hosts.new) }
-    ensures one { OneChanges asked asker (nodes_of hosts.old) (nodes_of hosts.new) }
-    ensures ends { EndsUp asked asker result (nodes_of hosts.new) }
+    ensures one { OneChanges asked requester (nodes_of hosts.old) (nodes_of hosts.new) }
+    ensures ends { EndsUp asked requester result (nodes_of hosts.new) }
     ensures entries { KeepEntries T.Tape hosts.old hosts.new }
 {
-    while is_behind(hosts, asked, asker) {
-        if ask(alloc, hosts, asked, asker) {
+    while is_behind(hosts, asked, requester) {
+        if ask(alloc, hosts, asked, requester) {
             return true;
         }
     }
@@ -160,12 +160,12 @@ fn ask_while_behind<T: Tape>(
 }
 
 /// Whether a node runs and is behind another.
-fn is_behind<T: Tape>(hosts: &[NodeHost<T>], asked: usize, asker: usize) -> bool
-    ensures behind { result ≡ true → IsBehind (nodes_of hosts.now) asked asker }
-    ensures level { result ≡ false → rank_at (nodes_of hosts.now) asker ≡ 0
-        ⊎ (rank_at (nodes_of hosts.now) asked ≤ rank_at (nodes_of hosts.now) asker) }
+fn is_behind<T: Tape>(hosts: &[NodeHost<T>], asked: usize, requester: usize) -> bool
+    ensures behind { result ≡ true → IsBehind (nodes_of hosts.now) asked requester }
+    ensures level { result ≡ false → rank_at (nodes_of hosts.now) requester ≡ 0
+        ⊎ (rank_at (nodes_of hosts.now) asked ≤ rank_at (nodes_of hosts.now) requester) }
 {
-    let rank = rank_at(hosts, asker);
+    let rank = rank_at(hosts, requester);
     0 < rank && rank < rank_at(hosts, asked)
 }
 
@@ -203,17 +203,17 @@ fn rank_of<T: Tape>(node: &Node<T>) -> usize
 
 /// Lets a node that is behind ask another, and delivers the answer to it; returns whether a
 /// delivery was lost.
-fn ask<T: Tape>(alloc: Global, hosts: &mut [NodeHost<T>], asked: usize, asker: usize) -> bool
-    requires behind { IsBehind (nodes_of hosts.old) asked asker }
-    ensures question { IsOneQuestion T.Tape asked asker (nodes_of hosts.old) result
+fn ask<T: Tape>(alloc: Global, hosts: &mut [NodeHost<T>], asked: usize, requester: usize) -> bool
+    requires behind { IsBehind (nodes_of hosts.old) asked requester }
+    ensures question { IsOneQuestion T.Tape asked requester (nodes_of hosts.old) result
         (nodes_of hosts.new) }
-    ensures one { OneChanges asked asker (nodes_of hosts.old) (nodes_of hosts.new) }
-    ensures on { BringsOn asked asker (nodes_of hosts.old) result (nodes_of hosts.new) }
+    ensures one { OneChanges asked requester (nodes_of hosts.old) (nodes_of hosts.new) }
+    ensures on { BringsOn asked requester (nodes_of hosts.old) result (nodes_of hosts.new) }
     ensures entries { KeepEntries T.Tape hosts.old hosts.new }
 {
-    match answer_at(alloc, hosts, asked, asker) {
+    match answer_at(alloc, hosts, asked, requester) {
         Ok(answer) => {
-            let lost = consume_at(alloc, hosts, asker, &answer);
+            let lost = consume_at(alloc, hosts, requester, &answer);
             drop(answer);
             lost
         }
@@ -222,20 +222,20 @@ fn ask<T: Tape>(alloc: Global, hosts: &mut [NodeHost<T>], asked: usize, asker: u
 }
 
 /// The answer of one node to the question of another, which is behind it: at most eight
-/// definitions, from the one after the asker's last one on. The model's steps of both nodes for
+/// definitions, from the one after the requester's last one on. The model's steps of both nodes for
 /// that change neither of them.
 fn answer_at<T: Tape>(
     alloc: Global,
     hosts: &[NodeHost<T>],
     asked: usize,
-    asker: usize,
+    requester: usize,
 ) -> Result<Vec<Message>, AllocError>
-    requires behind { IsBehind (nodes_of hosts.now) asked asker }
+    requires behind { IsBehind (nodes_of hosts.now) asked requester }
     ensures answer { IfOk result (λ answer.
-        AreAnswersTo (nodes_of hosts.now) asked asker answer.items) }
+        AreAnswersTo (nodes_of hosts.now) asked requester answer.items) }
     ensures most { rank_at (nodes_of hosts.now) asked ≤ last_sequence + 1 }
 {
-    let NodeHost::Running(node) = &hosts[asker] else {
+    let NodeHost::Running(node) = &hosts[requester] else {
         unreachable!();
     };
     let NodeHost::Running(other) = &hosts[asked] else {
@@ -255,7 +255,7 @@ fn answer<T: Tape>(
         reports_from other.now.parts.history (length node.now.parts.history + 1) most_reports) }
     ensures most { length other.now.parts.history ≤ last_sequence }
 {
-    // No node has published more than the last sequence, so that there is one after the asker's
+    // No node has published more than the last sequence, so that there is one after the requester's
     // last one.
     let _ = other.published();
     match node.history().next_slot() {

@@ -8,8 +8,8 @@ use Rattle.wf_actor.specs.Sent.{AreCome, AreGivenCome}
 use Rattle.wf_actor.specs.declared.actor.Actor.{Actor}
 use Rattle.wf_actor.specs.declared.actor.Origin.{Origin}
 use Rattle.wf_actor.specs.declared.actor.Origin.TheVariants.{Own, Peer}
-use Rattle.wf_career.specs.Career.{items_by, items_of}
-use Rattle.wf_career.specs.Run.{Act, AreDone, given_to, outputs}
+use Rattle.wf_execution.specs.Execution.{items_by, items_of}
+use Rattle.wf_execution.specs.Run.{Act, AreDone, given_to, outputs}
 use Rattle.wf_codec.specs.declared.message.Message.{Message}
 use Rattle.wf_model.specs.Chosen.{IsIn}
 use Rattle.wf_node.specs.Node.{Node}

@@ -6,10 +6,10 @@ use Rattle.wf_actor.specs.Farm.{AreMembers, Step, items, steps_by, steps_of}
 use Rattle.wf_actor.specs.Life.{AreOwnReceived}
 use Rattle.wf_actor.specs.declared.actor.Actor.{Actor}
 use Rattle.wf_actor.specs.declared.actor.Origin.{Origin}
-use Rattle.wf_career.specs.Career.{Career}
-use Rattle.wf_career.specs.Continuation.{left}
-use Rattle.wf_career.specs.Run.{Act, Between, RunEnd, Failed, Within, given_to}
-use Rattle.wf_career.specs.Theorems.{outputs_in}
+use Rattle.wf_execution.specs.Execution.{Execution}
+use Rattle.wf_execution.specs.Continuation.{left}
+use Rattle.wf_execution.specs.Run.{Act, Between, RunEnd, Failed, Within, given_to}
+use Rattle.wf_execution.specs.Theorems.{outputs_in}
 use Rattle.wf_codec.specs.declared.message.Message.{Message}
 use Rattle.wf_tape.specs.declared.tape.Tape.{Ghosts as Tape}
 use Rattle.wf_histories.specs.Advance.{ActAdvances, IsInFirstRun, NothingAdvances, ReadsAfter, RunAdvances, StartAdvances, in_next_run, last_cut, one_act_more, run_in, with_folder}
@@ -77,7 +77,7 @@ module _ {T : Type 0} (tapes : Tape T) where
       | inr differs ↦ subst (P j) (sym (other_folder j differs)) (elsewhere differs)
     ]
 
-  advances : (n i : ℕ) (before : ℕ → Career T) (sent : List Message) (folders : ℕ → List (NodeProcess tapes)) (steps more : List Step) (processes : List (NodeProcess tapes)) →
+  advances : (n i : ℕ) (before : ℕ → Execution T) (sent : List Message) (folders : ℕ → List (NodeProcess tapes)) (steps more : List Step) (processes : List (NodeProcess tapes)) →
       AreNodeProcesses tapes n before sent folders steps → i < n → AreOnFolder tapes n i (left (before i)) processes → steps_on tapes i processes ≡ steps_on tapes i (folders i) ++ more → AreStepsOf i more →
       AreSentBefore (sent ++ outputs_in (items steps)) more → AreNodeProcesses tapes n before sent (with_folder tapes folders i processes) (steps ++ more)
   advances n i before sent folders steps more processes are less on_folder grown own connected = record {

@@ -4,8 +4,8 @@ use Rattle.std.proofs.Math.Logic.{∥∥₁_elim, ∥∥₁_map, ∥∥₁_map�
 use Rattle.wf_actor.specs.Farm.{Step}
 use Rattle.wf_actor.specs.Responses.{ProcessesRespondAlike}
 use Rattle.wf_actor.specs.declared.actor.Actor.{Actor}
-use Rattle.wf_career.specs.Career.{Career, Item}
-use Rattle.wf_career.specs.Theorems.{IsHeld, ListsGrow, OneDefinition, OneHistory}
+use Rattle.wf_execution.specs.Execution.{Execution, Item}
+use Rattle.wf_execution.specs.Theorems.{IsHeld, ListsGrow, OneDefinition, OneHistory}
 use Rattle.wf_node.specs.Node.{Node}
 use Rattle.wf_tape.specs.declared.tape.Tape.{Ghosts as Tape}
 use Rattle.wf_histories.specs.Nodes.{NodeProcess}
@@ -31,8 +31,8 @@ module _ {T : Type 0} (tapes : Tape T) where
 
   -- ---- agreement
 
-  module _ (n : ℕ) (before : ℕ → Career T) (earlier : List Item) (folders : ℕ → List (NodeProcess tapes)) (steps : List Step) (are : AreFarm tapes n before earlier folders steps) where
-    pub held : (node : Node T) → IsEver tapes n before folders node → IsHeld n are.careers node
+  module _ (n : ℕ) (before : ℕ → Execution T) (earlier : List Item) (folders : ℕ → List (NodeProcess tapes)) (steps : List Step) (are : AreFarm tapes n before earlier folders steps) where
+    pub held : (node : Node T) → IsEver tapes n before folders node → IsHeld n are.executions node
     held node ever = record {
       process = ever.number;
       is_member = ever.is.member;
@@ -42,23 +42,23 @@ module _ {T : Type 0} (tapes : Tape T) where
 
     shared : OneHistory tapes → ShareHistory tapes n before folders
     shared one =
-        let has = one n are.careers _ are.farm in
+        let has = one n are.executions _ are.farm in
         record { history = has.history; each = λ node ever. has.each node (held node ever) }
 
     one_definition : OneDefinition tapes → NeverDiffer tapes n before folders
     unfolding NeverDiffer
-    one_definition one = λ node other is also. one n are.careers _ are.farm node other (held node is) (held other also)
+    one_definition one = λ node other is also. one n are.executions _ are.farm node other (held node is) (held other also)
 
     grown : ListsGrow tapes → NeverGoBack tapes n before folders
     unfolding NeverGoBack
     grown grow = λ i moment later node next order is also.
         let values = are.held i is.member in
-        grow n i (are.careers i) moment later node next (are.farm.each i is.member) order
+        grow n i (are.executions i) moment later node next (are.farm.each i is.member) order
         (subst (λ (vs : List (Node T)). slice_get vs moment ≡ Some node) (sym values) is.at) (subst (λ (vs : List (Node T)). slice_get vs later ≡ Some next) (sym values) also.at)
 
     alike : ProcessesRespondAlike tapes → RespondEqually tapes n before folders
     unfolding RespondEqually
-    alike respond = λ node other is also. respond n are.careers _ are.farm node other (held node is) (held other also)
+    alike respond = λ node other is also. respond n are.executions _ are.farm node other (held node is) (held other also)
 
     equal : RespondEqually tapes n before folders → GetEqually tapes n before folders
     unfolding RespondEqually GetEqually

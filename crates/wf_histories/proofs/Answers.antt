@@ -5,8 +5,8 @@ use Rattle.std.proofs.lemmas.Option.{none-some, same_Some}
 use Rattle.wf_actor.specs.Life.{AreAmongValues}
 use Rattle.wf_actor.specs.declared.actor.Actor.{Actor}
 use Rattle.wf_actor.specs.declared.process.Process.{Process}
-use Rattle.wf_career.specs.Career.{Career, values, values_after, values_in}
-use Rattle.wf_career.specs.Run.{Act, Run}
+use Rattle.wf_execution.specs.Execution.{Execution, values, values_after, values_in}
+use Rattle.wf_execution.specs.Run.{Act, Run}
 use Rattle.wf_client.specs.Client.{Client}
 use Rattle.wf_model.specs.Chosen.{IsIn}
 use Rattle.wf_node.specs.Node.{Node}
@@ -130,7 +130,7 @@ module _ {T : Type 0} (tapes : Tape T) where
       (whole_values node process.ended.items process.actor p.lives p.made
       (subst (λ over. length (run_in tapes process.ended.items process.actor p.lives over).run.acts ≤ p.made) whole.over whole.made) was)
 
-  pub was_ever : (n : ℕ) (before : ℕ → Career T) (folders : ℕ → List (NodeProcess tapes)) (i : ℕ) (p : NodeProcess tapes) → i < n → IsIn p (folders i) → (node : Node T) → IsIn node (values_made (made_by tapes p))
+  pub was_ever : (n : ℕ) (before : ℕ → Execution T) (folders : ℕ → List (NodeProcess tapes)) (i : ℕ) (p : NodeProcess tapes) → i < n → IsIn p (folders i) → (node : Node T) → IsIn node (values_made (made_by tapes p))
       → IsEver tapes n before folders node
   was_ever n before folders i p member is_in node made =
       let found = at_place node (values_ever tapes before folders i) (in_right node (values (before i)) (values_on tapes (folders i)) (its_values p (folders i) node is_in made)) in

@@ -6,7 +6,7 @@ use Rattle.wf_actor.specs.Sent.{AreCome}
 use Rattle.wf_actor.specs.declared.actor.Origin.{Origin}
 use Rattle.wf_actor.specs.declared.actor.Origin.TheVariants.{Own, Peer}
 use Rattle.wf_ballot.specs.Ballot.{Ballot}
-use Rattle.wf_career.specs.Run.{given_to}
+use Rattle.wf_execution.specs.Run.{given_to}
 use Rattle.wf_codec.specs.Message.{view, view_votes}
 use Rattle.wf_codec.specs.declared.message.Message.{Message}
 use Rattle.wf_codec.specs.declared.message.Message.TheVariants as code

@@ -1,12 +1,12 @@
--- The processes on one folder are the career of their node.
+-- The processes on one folder are the execution of their node.
 use Rattle.std.proofs.Common.{◌≡◌, ℕ, List, [], ◌∷◌, ◌++◌, Option, Some, refl, sym, ap, subst, ◌∙◌, append-nil, append_assoc}
 use Rattle.std.proofs.lemmas.List.{map-append}
 use Rattle.wf_actor.specs.Farm.{AreOwn, RunsAreOwn, Step, item_of, items}
 use Rattle.wf_actor.specs.declared.actor.Actor.{Actor}
 use Rattle.wf_actor.specs.declared.actor.Origin.{Origin}
-use Rattle.wf_career.specs.Career.{AreRuns, Ended, items_at, items_by, items_in, values_in, values_of}
-use Rattle.wf_career.specs.CrashImages.{ComparisonLeaves}
-use Rattle.wf_career.specs.Run.{Between, RunEnd, Failed, IsOpenedFrom, IsRun, Run, Within, outputs}
+use Rattle.wf_execution.specs.Execution.{AreRuns, Ended, items_at, items_by, items_in, values_in, values_of}
+use Rattle.wf_execution.specs.CrashImages.{ComparisonLeaves}
+use Rattle.wf_execution.specs.Run.{Between, RunEnd, Failed, IsOpenedFrom, IsRun, Run, Within, outputs}
 use Rattle.wf_codec.specs.declared.message.Message.{Message}
 use Rattle.wf_voter.specs.Continuation.{AreRunsFrom}
 use Rattle.wf_node.specs.Node.{stored_of}
@@ -16,7 +16,7 @@ use Rattle.wf_histories.specs.Carried.{AreStepsCome}
 use Rattle.wf_histories.specs.Nodes.{AreOnFolder, HasEndedBefore, IsCutGiven, IsProcessOf, NodeProcess, bytes_read, cut_before, cut_step, made_by, steps_on, values_on}
 use Rattle.wf_histories.specs.Runs.{steps_made, steps_over, values_made, values_over}
 use Rattle.wf_histories.proofs.Acts.{IsReceived, items_made, made_come, own_made, received_of}
-use Rattle.wf_histories.proofs.Careers.{IsCareerWith, career_with}
+use Rattle.wf_histories.proofs.Executions.{IsExecutionWith, execution_with}
 use Rattle.wf_histories.proofs.Carried.{come_both}
 use Rattle.wf_histories.proofs.Left.{left_before}
 
@@ -69,25 +69,25 @@ module _ {T : Type 0} (tapes : Tape T) (n i : ℕ) where
       (sym (earlier.ended ∙ ap (λ (runs : List (Actor T tapes × ℕ)). runs ++ earlier.since) none)) earlier.runs
 
   pub with_later : ComparisonLeaves tapes → (p : NodeProcess tapes) → IsProcessOf tapes n i p → (later : List (Ended T)) (now : Option (Run T))
-      → ((from : List ℕ) → IsRun tapes n i from (made_by tapes p).last.run → AreRuns tapes n i from later now) → IsCareerWith tapes n i (bytes_read tapes p) (made_by tapes p) later now
+      → ((from : List ℕ) → IsRun tapes n i from (made_by tapes p).last.run → AreRuns tapes n i from later now) → IsExecutionWith tapes n i (bytes_read tapes p) (made_by tapes p) later now
   with_later compares p is later now next =
-      career_with tapes n i compares (bytes_read tapes p) p.has.started.actor p.has.on.voter.process.ended.items p.has.on.voter.process.actor (opened_as p is)
+      execution_with tapes n i compares (bytes_read tapes p) p.has.started.actor p.has.on.voter.process.ended.items p.has.on.voter.process.actor (opened_as p is)
       p.has.is_started.begun.stood (all_runs p) p.lives p.over p.made later now next
 
   -- ---- all of them
 
-  -- Runs of a career from these bytes, whose items are those of the processes' steps, and whose
+  -- Runs of an execution from these bytes, whose items are those of the processes' steps, and whose
   -- values are theirs.
-  pub record AreCareer (bytes : List ℕ) (processes : List (NodeProcess tapes)) : Type 0 where
+  pub record AreExecution (bytes : List ℕ) (processes : List (NodeProcess tapes)) : Type 0 where
     pub ended : List (Ended T)
     pub now : Option (Run T)
     pub runs : AreRuns tapes n i bytes ended now
     pub its_items : items (steps_on tapes i processes) ≡ items_in i ended now
     pub its_values : values_of ended now ≡ values_on tapes processes
 
-  pub last_career : ComparisonLeaves tapes → (p : NodeProcess tapes) → IsProcessOf tapes n i p → AreCareer (bytes_read tapes p) (p ∷ [])
+  pub last_execution : ComparisonLeaves tapes → (p : NodeProcess tapes) → IsProcessOf tapes n i p → AreExecution (bytes_read tapes p) (p ∷ [])
   unfolding steps_on values_on items_in values_of
-  last_career compares p is =
+  last_execution compares p is =
       let made = made_by tapes p in
       let so = with_later compares p is [] (Some made.last.run) (λ from run. run) in
       record {
@@ -98,10 +98,10 @@ module _ {T : Type 0} (tapes : Tape T) (n i : ℕ) where
         its_values = so.its_values ∙ sym (append-nil (values_made made));
       }
 
-  more_career : ComparisonLeaves tapes → (p next : NodeProcess tapes) (later : List (NodeProcess tapes)) (left : List ℕ) → AreOnFolder tapes n i left (p ∷ (next ∷ later)) → AreCareer (bytes_read tapes next) (next ∷ later)
-      → AreCareer (bytes_read tapes p) (p ∷ (next ∷ later))
+  more_execution : ComparisonLeaves tapes → (p next : NodeProcess tapes) (later : List (NodeProcess tapes)) (left : List ℕ) → AreOnFolder tapes n i left (p ∷ (next ∷ later)) → AreExecution (bytes_read tapes next) (next ∷ later)
+      → AreExecution (bytes_read tapes p) (p ∷ (next ∷ later))
   unfolding steps_on values_on items_in values_of
-  more_career compares p next later left are rest =
+  more_execution compares p next later left are rest =
       let made = made_by tapes p in
       let over : Ended T = record { run = made.last.run; end = p.end; left = bytes_read tapes next } in
       let so = with_later compares p are.0 (over ∷ rest.ended) rest.now
@@ -125,9 +125,9 @@ module _ {T : Type 0} (tapes : Tape T) (n i : ℕ) where
             ∙ ap (λ xs. values_made made ++ xs) rest.its_values;
       }
 
-  pub career_from : ComparisonLeaves tapes → (p : NodeProcess tapes) (later : List (NodeProcess tapes)) (left : List ℕ) → AreOnFolder tapes n i left (p ∷ later) → AreCareer (bytes_read tapes p) (p ∷ later)
-  career_from compares p [] left are = last_career compares p are.0
-  career_from compares p (next ∷ later) left are = more_career compares p next later left are (career_from compares next later p.left are.3)
+  pub execution_from : ComparisonLeaves tapes → (p : NodeProcess tapes) (later : List (NodeProcess tapes)) (left : List ℕ) → AreOnFolder tapes n i left (p ∷ later) → AreExecution (bytes_read tapes p) (p ∷ later)
+  execution_from compares p [] left are = last_execution compares p are.0
+  execution_from compares p (next ∷ later) left are = more_execution compares p next later left are (execution_from compares next later p.left are.3)
 
   -- ---- what they hear
 

@@ -1,10 +1,10 @@
 -- What the processes of a folder that joins have learned.
 use Rattle.std.proofs.Common.{◌≡◌, ℕ, List, [], ◌∷◌, ◌++◌, take, None, refl, sym, subst, append-nil, append_assoc}
 use Rattle.wf_actor.specs.Farm.{AreOwn, RunsAreOwn, Step, items}
-use Rattle.wf_career.specs.Career.{AreRuns, Ended, items_at, items_by, items_in}
-use Rattle.wf_career.specs.Continuation.{left_by}
-use Rattle.wf_career.specs.CrashImages.{ComparisonLeaves}
-use Rattle.wf_career.specs.Run.{HasLeft}
+use Rattle.wf_execution.specs.Execution.{AreRuns, Ended, items_at, items_by, items_in}
+use Rattle.wf_execution.specs.Continuation.{left_by}
+use Rattle.wf_execution.specs.CrashImages.{ComparisonLeaves}
+use Rattle.wf_execution.specs.Run.{HasLeft}
 use Rattle.wf_codec.specs.declared.message.Message.{Message}
 use Rattle.wf_journal.specs.Records.{AreReadOneWay}
 use Rattle.wf_replacement.specs.Timeline.{returned_through}

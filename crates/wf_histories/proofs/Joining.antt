@@ -6,8 +6,8 @@ use Rattle.std.specs.Prelude.{map}
 use Rattle.wf_actor.specs.Farm.{Step, items}
 use Rattle.wf_actor.specs.declared.actor.Origin.{Origin}
 use Rattle.wf_actor.specs.declared.actor.Origin.TheVariants.{Own, Peer}
-use Rattle.wf_career.specs.Run.{Between, RunEnd, Failed, Input, Within, given_to}
-use Rattle.wf_career.specs.Theorems.{outputs_in}
+use Rattle.wf_execution.specs.Run.{Between, RunEnd, Failed, Input, Within, given_to}
+use Rattle.wf_execution.specs.Theorems.{outputs_in}
 use Rattle.wf_codec.specs.Message.{view}
 use Rattle.wf_codec.specs.declared.message.Message.{Message}
 use Rattle.wf_model.specs.Chosen.{IsIn}

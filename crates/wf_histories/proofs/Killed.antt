@@ -6,8 +6,8 @@ use Rattle.std.proofs.Props.{props}
 use Rattle.std.proofs.lemmas.Option.{none-some, same_Some}
 use Rattle.wf_actor.specs.declared.actor.Actor.{Actor}
 use Rattle.wf_actor.specs.declared.process.Process.{Process}
-use Rattle.wf_career.specs.Career.{Career, values_after, values_in}
-use Rattle.wf_career.specs.Run.{Act, Run}
+use Rattle.wf_execution.specs.Execution.{Execution, values_after, values_in}
+use Rattle.wf_execution.specs.Run.{Act, Run}
 use Rattle.wf_mail.specs.Mail.{IsFirstPart}
 use Rattle.wf_model.specs.Chosen.{IsIn}
 use Rattle.wf_node.specs.Node.{Node}
@@ -22,7 +22,7 @@ use Rattle.wf_histories.specs.Nodes.{NodeProcess, made_by}
 use Rattle.wf_histories.specs.Runs.{LifeOf, LivesOf, made_of, values_made, values_over}
 use Rattle.wf_histories.specs.Theorems.{GetEqually, IsEver, NodesAgree, WasSent}
 use Rattle.wf_histories.proofs.Answers.{in_left, in_right, logged_then, one_of, take_whole, was_ever}
-use Rattle.wf_histories.proofs.Careers.{first_or}
+use Rattle.wf_histories.proofs.Executions.{first_or}
 
 module _ {T : Type 0} (tapes : Tape T) where
   -- ---- the values of the first acts
@@ -212,13 +212,13 @@ module _ {T : Type 0} (tapes : Tape T) where
   -- ---- equal bytes
 
   -- a client that was answered by its own moment, if that is within the acts
-  client_ever : (n : ℕ) (before : ℕ → Career T) (folders : ℕ → List (NodeProcess tapes)) (came response : List ℕ) (client : WasAnsweredByThen tapes n folders came response) →
+  client_ever : (n : ℕ) (before : ℕ → Execution T) (folders : ℕ → List (NodeProcess tapes)) (came response : List ℕ) (client : WasAnsweredByThen tapes n folders came response) →
       ∥ IsEver tapes n before folders client.voter.process.actor.node ∥₁
   client_ever n before folders came response client =
       earlier_answers n before folders client.number client.process client.member client.is_in client.place client.count client.voter client.at client.within client.place client.count client.voter
       (omega arith) client.at
 
-  was_sent : (n : ℕ) (before : ℕ → Career T) (folders : ℕ → List (NodeProcess tapes)) (came response : List ℕ) (client : WasAnsweredByThen tapes n folders came response) →
+  was_sent : (n : ℕ) (before : ℕ → Execution T) (folders : ℕ → List (NodeProcess tapes)) (came response : List ℕ) (client : WasAnsweredByThen tapes n folders came response) →
       IsEver tapes n before folders client.voter.process.actor.node → WasSent tapes n before folders came response
   was_sent n before folders came response client ever =
       record { process = client.voter.process; after = client.after; status = client.status; count = client.written; answer = client.answer; answers = client.answers; ever = ever }

@@ -3,7 +3,7 @@
 use Rattle.std.proofs.Common.{◌≡◌, ℕ, ◌<◌, List, [], length, Some, refl, sym, ap, subst, ◌∙◌, inl, inr, arith, length-append}
 use Rattle.std.proofs.lemmas.Option.{same_Some}
 use Rattle.wf_ballot.specs.Field.{frame}
-use Rattle.wf_career.specs.Run.{Input, Run, last, RunEnd, Between, Within, Failed, HasLeft, IsOpenedFrom, StandForEither}
+use Rattle.wf_execution.specs.Run.{Input, Run, last, RunEnd, Between, Within, Failed, HasLeft, IsOpenedFrom, StandForEither}
 use Rattle.wf_def.specs.Definition.{Definition}
 use Rattle.wf_journal.specs.Records.{AreReadOneWay, BeginsWithNone}
 use Rattle.wf_journal.specs.Encoding.{spelling, text_spelling}

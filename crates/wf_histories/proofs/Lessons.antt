@@ -7,8 +7,8 @@ use Rattle.wf_actor.specs.Life.{AreOwnAmong, delivered}
 use Rattle.wf_actor.specs.declared.actor.Actor.{Actor}
 use Rattle.wf_actor.specs.declared.actor.Origin.{Origin}
 use Rattle.wf_actor.specs.declared.actor.Origin.TheVariants.{Own, Peer}
-use Rattle.wf_career.specs.Career.{Ended, Item, items_at, items_by, items_in}
-use Rattle.wf_career.specs.Run.{Act, Between, RunEnd, Failed, Input, Within, given_to, outputs}
+use Rattle.wf_execution.specs.Execution.{Ended, Item, items_at, items_by, items_in}
+use Rattle.wf_execution.specs.Run.{Act, Between, RunEnd, Failed, Input, Within, given_to, outputs}
 use Rattle.wf_codec.specs.declared.message.Message.{Message}
 use Rattle.wf_codec.specs.declared.message.Message.TheVariants as code
 use Rattle.wf_model.specs.Chosen.{IsIn}

@@ -2,7 +2,7 @@ mod Acts
 mod Carried
 mod Left
 mod Turns
-mod Careers
+mod Executions
 mod Folders
 mod Relay
 mod Farms

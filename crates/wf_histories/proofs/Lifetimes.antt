@@ -6,10 +6,10 @@ use Rattle.wf_actor.specs.Farm.{AreOwn, RunsAreOwn, Step, steps_by}
 use Rattle.wf_actor.specs.Life.{AreOwnReceived}
 use Rattle.wf_actor.specs.declared.actor.Actor.{Actor}
 use Rattle.wf_actor.specs.declared.actor.Origin.{Origin}
-use Rattle.wf_career.specs.Career.{values_after, values_in}
-use Rattle.wf_career.specs.CrashImages.{ComparisonLeaves}
-use Rattle.wf_career.specs.Run.{Act, AreDone, Failed, FailedAt, HasLeft, IsOpenedFrom, IsRun, Run, last, last_of}
-use Rattle.wf_career.specs.Run.{Input as ActInput}
+use Rattle.wf_execution.specs.Execution.{values_after, values_in}
+use Rattle.wf_execution.specs.CrashImages.{ComparisonLeaves}
+use Rattle.wf_execution.specs.Run.{Act, AreDone, Failed, FailedAt, HasLeft, IsOpenedFrom, IsRun, Run, last, last_of}
+use Rattle.wf_execution.specs.Run.{Input as ActInput}
 use Rattle.wf_codec.specs.declared.message.Message.{Message}
 use Rattle.wf_def.specs.Definition.{Definition}
 use Rattle.wf_delivery.specs.NodeInput.{Fails, Halts, Rejects, Takes}
@@ -28,7 +28,7 @@ use Rattle.wf_histories.specs.Lifetimes.{AreOnLater, values_later, values_lived}
 use Rattle.wf_histories.specs.Nodes.{AreOnFolder, NodeProcess, bytes_read, cut_before, cut_step, made_by, steps_on, values_on}
 use Rattle.wf_histories.specs.Runs.{LivesOf, TracedRun, first_acts, made_of, steps_made, steps_over, traced_by, values_made, values_over}
 use Rattle.wf_histories.proofs.Acts.{received_first}
-use Rattle.wf_histories.proofs.Careers.{is_cut_run, is_run, opened_next, same_id, same_n}
+use Rattle.wf_histories.proofs.Executions.{is_cut_run, is_run, opened_next, same_id, same_n}
 use Rattle.wf_histories.proofs.Carried.{come_both}
 use Rattle.wf_histories.proofs.Folders.{all_runs, come_on, opened_as, own_on}
 use Rattle.wf_histories.proofs.Left.{left_before, opened_empty}

@@ -1,8 +1,8 @@
--- The runs of a career that has ended, and others that went on from what it left.
+-- The runs of an execution that has ended, and others that went on from what it left.
 use Rattle.std.proofs.Common.{◌≡◌, ℕ, List, [], ◌∷◌, ◌++◌, Option, Some, None, refl, sym, ap, ◌∙◌, append_assoc}
-use Rattle.wf_career.specs.Career.{AreRuns, Ended, items_at, items_by, items_in, values_in, values_of}
-use Rattle.wf_career.specs.Continuation.{left_by}
-use Rattle.wf_career.specs.Run.{Run}
+use Rattle.wf_execution.specs.Execution.{AreRuns, Ended, items_at, items_by, items_in, values_in, values_of}
+use Rattle.wf_execution.specs.Continuation.{left_by}
+use Rattle.wf_execution.specs.Run.{Run}
 use Rattle.wf_journal.specs.Records.{AreReadOneWay}
 use Rattle.wf_tape.specs.declared.tape.Tape.{Ghosts as Tape}
 use Rattle.wf_histories.specs.Nodes.{StandsAsBefore}

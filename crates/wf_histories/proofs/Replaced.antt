@@ -1,8 +1,8 @@
 -- The lifetimes of nodes are a timeline, and so they agree.
 use Rattle.std.proofs.Common.{◌≡◌, ℕ, ◌<◌, List, [], slice_get, Some, sym, ap, subst, ◌∙◌, arith}
 use Rattle.wf_actor.specs.Farm.{RunsAreOwn, Step, items, steps_of}
-use Rattle.wf_career.specs.Career.{AreInTurn}
-use Rattle.wf_career.specs.CrashImages.{ComparisonLeaves}
+use Rattle.wf_execution.specs.Execution.{AreInTurn}
+use Rattle.wf_execution.specs.CrashImages.{ComparisonLeaves}
 use Rattle.wf_journal.specs.Records.{AreReadOneWay}
 use Rattle.wf_node.specs.Node.{Node}
 use Rattle.wf_rejoin.specs.declared.joining.Joining.{Joining}

@@ -6,8 +6,8 @@ use Rattle.std.proofs.lemmas.Option.{none-some}
 use Rattle.std.specs.Prelude.{if◌then◌else◌}
 use Rattle.wf_actor.specs.Farm.{AreMembers, Step, items, steps_of}
 use Rattle.wf_actor.specs.declared.actor.Origin.{Origin}
-use Rattle.wf_career.specs.Career.{AreInTurn, IsOneOf}
-use Rattle.wf_career.specs.Run.{Act, Between, RunEnd, Failed, HasLeft, IsAct, IsOpenedFrom, Run, Within, last, last_of}
+use Rattle.wf_execution.specs.Execution.{AreInTurn, IsOneOf}
+use Rattle.wf_execution.specs.Run.{Act, Between, RunEnd, Failed, HasLeft, IsAct, IsOpenedFrom, Run, Within, last, last_of}
 use Rattle.wf_codec.specs.declared.message.Message.{Message}
 use Rattle.wf_node.specs.Node.{Node}
 use Rattle.wf_rejoin_guard.specs.Learned.{AreLooselyPossible, IsGone, IsLooselyPossible}

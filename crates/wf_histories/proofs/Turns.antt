@@ -5,9 +5,9 @@ use Rattle.wf_actor.specs.Farm.{AreCarried, AreMembers, AreOwn, ArePeersAmong, S
 use Rattle.wf_actor.specs.Life.{AreOwnAmong}
 use Rattle.wf_actor.specs.declared.actor.Origin.{Origin}
 use Rattle.wf_actor.specs.declared.actor.Origin.TheVariants.{Own, Peer}
-use Rattle.wf_career.specs.Career.{AreInTurn, IsOneOf, Item, items_of}
-use Rattle.wf_career.specs.Run.{Input, given_to}
-use Rattle.wf_career.specs.Theorems.{outputs_in}
+use Rattle.wf_execution.specs.Execution.{AreInTurn, IsOneOf, Item, items_of}
+use Rattle.wf_execution.specs.Run.{Input, given_to}
+use Rattle.wf_execution.specs.Theorems.{outputs_in}
 use Rattle.wf_codec.specs.declared.message.Message.{Message}
 use Rattle.wf_model.specs.Chosen.{IsIn}
 use Rattle.wf_model.specs.declared.action.Action.TheVariants as action

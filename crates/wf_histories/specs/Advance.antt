@@ -4,10 +4,10 @@ use Rattle.std.specs.Prelude.{◌≡◌, ℕ, zero, suc, ◌<◌, ◌==◌, List
 use Rattle.wf_actor.specs.Farm.{Step, items}
 use Rattle.wf_actor.specs.declared.actor.Actor.{Actor}
 use Rattle.wf_actor.specs.declared.actor.Origin.{Origin}
-use Rattle.wf_career.specs.Career.{Career}
-use Rattle.wf_career.specs.Continuation.{left, unstarted}
-use Rattle.wf_career.specs.Run.{Act, given_to}
-use Rattle.wf_career.specs.Theorems.{outputs_in}
+use Rattle.wf_execution.specs.Execution.{Execution}
+use Rattle.wf_execution.specs.Continuation.{left, unstarted}
+use Rattle.wf_execution.specs.Run.{Act, given_to}
+use Rattle.wf_execution.specs.Theorems.{outputs_in}
 use Rattle.wf_codec.specs.declared.message.Message.{Message}
 use Rattle.wf_tape.specs.declared.tape.Tape.{Ghosts as Tape}
 use Rattle.wf_histories.specs.Carried.{ArePeersSent, AreSentBefore}
@@ -46,7 +46,7 @@ module _ {T : Type 0} (tapes : Tape T) where
     pub reads : ReadsAfter left processes p
 
   abbrev pub StartAdvances : Type 0
-  StartAdvances = (n i : ℕ) (before : ℕ → Career T) (sent : List Message) (folders : ℕ → List (NodeProcess tapes)) (steps : List Step) (p : NodeProcess tapes) →
+  StartAdvances = (n i : ℕ) (before : ℕ → Execution T) (sent : List Message) (folders : ℕ → List (NodeProcess tapes)) (steps : List Step) (p : NodeProcess tapes) →
       AreNodeProcesses tapes n before sent folders steps → i < n → IsInFirstRun n i (left (before i)) (folders i) p → AreSentBefore (sent ++ outputs_in (items steps)) (last_cut i (folders i)) →
       AreNodeProcesses tapes n before sent (with_folder folders i (folders i ++ p ∷ [])) (steps ++ last_cut i (folders i))
 
@@ -70,7 +70,7 @@ module _ {T : Type 0} (tapes : Tape T) where
     pub origin_at : slice_get (run_of p).origins p.made ≡ Some origin
 
   abbrev pub ActAdvances : Type 0
-  ActAdvances = (n i : ℕ) (before : ℕ → Career T) (sent : List Message) (folders : ℕ → List (NodeProcess tapes)) (steps : List Step) (earlier : List (NodeProcess tapes)) (p : NodeProcess tapes) (act : Act T) (origin : Origin) →
+  ActAdvances = (n i : ℕ) (before : ℕ → Execution T) (sent : List Message) (folders : ℕ → List (NodeProcess tapes)) (steps : List Step) (earlier : List (NodeProcess tapes)) (p : NodeProcess tapes) (act : Act T) (origin : Origin) →
       AreNodeProcesses tapes n before sent folders steps → i < n → folders i ≡ earlier ++ p ∷ [] → IsNextAct p act origin → ArePeersSent (sent ++ outputs_in (items steps)) origin (given_to act.input) →
       AreNodeProcesses tapes n before sent (with_folder folders i (earlier ++ one_act_more p ∷ [])) (steps ++ record { process = i; takes = act.input; origin = origin; outputs = act.outputs } ∷ [])
 
@@ -85,6 +85,6 @@ module _ {T : Type 0} (tapes : Tape T) where
     pub another : p.over < length p.has.on.voter.process.ended.items
 
   abbrev pub RunAdvances : Type 0
-  RunAdvances = (n i : ℕ) (before : ℕ → Career T) (sent : List Message) (folders : ℕ → List (NodeProcess tapes)) (steps : List Step) (earlier : List (NodeProcess tapes)) (p : NodeProcess tapes) →
+  RunAdvances = (n i : ℕ) (before : ℕ → Execution T) (sent : List Message) (folders : ℕ → List (NodeProcess tapes)) (steps : List Step) (earlier : List (NodeProcess tapes)) (p : NodeProcess tapes) →
       AreNodeProcesses tapes n before sent folders steps → i < n → folders i ≡ earlier ++ p ∷ [] → HasNextRun p →
       AreNodeProcesses tapes n before sent (with_folder folders i (earlier ++ in_next_run p ∷ [])) steps

@@ -1,6 +1,6 @@
 -- By which values of its node a process answered clients.
 use Rattle.std.specs.Prelude.{◌≡◌, ℕ, ◌<◌, ◌≤◌, List, length, slice_get, Some}
-use Rattle.wf_career.specs.Career.{Career}
+use Rattle.wf_execution.specs.Execution.{Execution}
 use Rattle.wf_model.specs.Chosen.{IsIn}
 use Rattle.wf_tape.specs.declared.tape.Tape.{Ghosts as Tape}
 use Rattle.wf_voter.specs.declared.voter.Voter.{Voter}
@@ -16,5 +16,5 @@ module _ {T : Type 0} (tapes : Tape T) where
 
   -- The node that answered a client of such a process of the farm is one that was ever.
   abbrev pub AnswersAreOfNodes : Type 0
-  AnswersAreOfNodes = (n : ℕ) (before : ℕ → Career T) (folders : ℕ → List (NodeProcess tapes)) (i : ℕ) (p : NodeProcess tapes) → i < n → IsIn p (folders i) → HasMadeAll p →
+  AnswersAreOfNodes = (n : ℕ) (before : ℕ → Execution T) (folders : ℕ → List (NodeProcess tapes)) (i : ℕ) (p : NodeProcess tapes) → i < n → IsIn p (folders i) → HasMadeAll p →
       (place count : ℕ) (voter : Voter T tapes) → slice_get p.has.on.befores place ≡ Some (voter, count) → ∥ IsEver tapes n before folders voter.process.actor.node ∥₁

@@ -5,7 +5,7 @@ use Rattle.wf_actor.specs.Farm.{AreCarried, Step}
 use Rattle.wf_actor.specs.Sent.{AreCome}
 use Rattle.wf_actor.specs.declared.actor.Origin.{Origin}
 use Rattle.wf_actor.specs.declared.actor.Origin.TheVariants.{Own, Peer}
-use Rattle.wf_career.specs.Run.{given_to}
+use Rattle.wf_execution.specs.Run.{given_to}
 use Rattle.wf_codec.specs.Message.{view}
 use Rattle.wf_codec.specs.declared.message.Message.{Message}
 use Rattle.wf_def.specs.Definition.{Definition}

@@ -4,7 +4,7 @@ use Rattle.wf_actor.specs.Farm.{Step}
 use Rattle.wf_actor.specs.declared.actor.Actor.{Actor}
 use Rattle.wf_actor.specs.declared.actor.Origin.{Origin}
 use Rattle.wf_actor.specs.declared.actor.Origin.TheVariants.{Own}
-use Rattle.wf_career.specs.Run.{Act, Failed, Input}
+use Rattle.wf_execution.specs.Run.{Act, Failed, Input}
 use Rattle.wf_model.specs.declared.action.Action.TheVariants as action
 use Rattle.wf_replacement.specs.Timeline.{Acts, Ends, Loses, Opens, ProcessEvent, Rejoins, process_of}
 use Rattle.wf_tape.specs.declared.tape.Tape.{Ghosts as Tape}

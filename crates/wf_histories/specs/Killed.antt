@@ -3,8 +3,8 @@ use Rattle.std.specs.Prelude.{◌≡◌, ◌≢◌, ℕ, ◌<◌, ◌≤◌, Lis
 use Rattle.wf_actor.specs.Farm.{Step}
 use Rattle.wf_actor.specs.Responses.{AskedAlike}
 use Rattle.wf_actor.specs.declared.process.Process.{Process}
-use Rattle.wf_career.specs.Career.{Career, IsFarm, Item}
-use Rattle.wf_career.specs.Theorems.{outputs_in}
+use Rattle.wf_execution.specs.Execution.{Execution, IsFarm, Item}
+use Rattle.wf_execution.specs.Theorems.{outputs_in}
 use Rattle.wf_edge.specs.Theorem.{AsksMapService}
 use Rattle.wf_edge.specs.declared.outcome.Outcome.TheVariants.{Sent}
 use Rattle.wf_mail.specs.Mail.{IsFirstPart}
@@ -29,7 +29,7 @@ module _ {T : Type 0} (tapes : Tape T) where
   -- The node that had answered a client by such a moment, of such a process of the farm, is one
   -- that was ever.
   abbrev pub AnswersByThenAreOfNodes : Type 0
-  AnswersByThenAreOfNodes = (n : ℕ) (before : ℕ → Career T) (folders : ℕ → List (NodeProcess tapes)) (i : ℕ) (p : NodeProcess tapes) (past : Process T tapes) → i < n → IsIn p (folders i) →
+  AnswersByThenAreOfNodes = (n : ℕ) (before : ℕ → Execution T) (folders : ℕ → List (NodeProcess tapes)) (i : ℕ) (p : NodeProcess tapes) (past : Process T tapes) → i < n → IsIn p (folders i) →
       IsEarlier tapes past p.has.on.voter.process → IsWithinActs p past →
       (place count : ℕ) (voter : Voter T tapes) → slice_get p.has.on.befores place ≡ Some (voter, count) → IsEarlier tapes voter.process past →
       ∥ IsEver tapes n before folders voter.process.actor.node ∥₁
@@ -37,7 +37,7 @@ module _ {T : Type 0} (tapes : Tape T) where
   -- So if one client was answered at such a moment, that holds of it, and of each client that was
   -- answered before it.
   abbrev pub EarlierAnswersAreOfNodes : Type 0
-  EarlierAnswersAreOfNodes = (n : ℕ) (before : ℕ → Career T) (folders : ℕ → List (NodeProcess tapes)) (i : ℕ) (p : NodeProcess tapes) → i < n → IsIn p (folders i) →
+  EarlierAnswersAreOfNodes = (n : ℕ) (before : ℕ → Execution T) (folders : ℕ → List (NodeProcess tapes)) (i : ℕ) (p : NodeProcess tapes) → i < n → IsIn p (folders i) →
       (last last_count : ℕ) (later : Voter T tapes) → slice_get p.has.on.befores last ≡ Some (later, last_count) → IsWithinActs p later.process →
       (place count : ℕ) (voter : Voter T tapes) → place ≤ last → slice_get p.has.on.befores place ≡ Some (voter, count) →
       ∥ IsEver tapes n before folders voter.process.actor.node ∥₁
@@ -68,7 +68,7 @@ module _ {T : Type 0} (tapes : Tape T) where
   -- same, of nodes that have published equally many maps or for one map, get equal bytes: no
   -- premise says of them by which values they were answered.
   abbrev pub ClientsGetEqually : Type 0
-  ClientsGetEqually = (n : ℕ) (before : ℕ → Career T) (earlier : List Item) (folders : ℕ → List (NodeProcess tapes)) (steps : List Step) → IsFarm tapes n before earlier →
+  ClientsGetEqually = (n : ℕ) (before : ℕ → Execution T) (earlier : List Item) (folders : ℕ → List (NodeProcess tapes)) (steps : List Step) → IsFarm tapes n before earlier →
       AreNodeProcesses tapes n before (outputs_in earlier) folders steps →
       (came query response another : List ℕ) (one : WasAnsweredByThen n folders came response) (two : WasAnsweredByThen n folders came another) →
       AsksMapService came query → AskedAlike query one.voter.process.actor.node.parts.history two.voter.process.actor.node.parts.history → another ≡ response

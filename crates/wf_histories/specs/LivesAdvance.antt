@@ -2,7 +2,7 @@
 -- goes on, and a folder that joined takes the place of a lost one.
 use Rattle.std.specs.Prelude.{◌≡◌, ℕ, ◌<◌, ◌≤◌, ◌==◌, ⊤, List, [], ◌∷◌, ◌++◌, length, slice_get, Some, if◌then◌else◌}
 use Rattle.wf_actor.specs.Farm.{items}
-use Rattle.wf_career.specs.Theorems.{outputs_in}
+use Rattle.wf_execution.specs.Theorems.{outputs_in}
 use Rattle.wf_replacement.specs.Timeline.{Loses, Opens, ProcessEvent, Rejoins, process_of}
 use Rattle.wf_tape.specs.declared.tape.Tape.{Ghosts as Tape}
 use Rattle.wf_histories.specs.Advance.{run_of}

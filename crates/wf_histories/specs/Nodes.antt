@@ -4,9 +4,9 @@ use Rattle.wf_actor.specs.Farm.{Step, AreMembers, steps_of}
 use Rattle.wf_actor.specs.Life.{AreOwnAmong}
 use Rattle.wf_actor.specs.Sent.{AreCome}
 use Rattle.wf_actor.specs.declared.actor.Origin.{Origin}
-use Rattle.wf_career.specs.Career.{Career, values}
-use Rattle.wf_career.specs.Continuation.{left}
-use Rattle.wf_career.specs.Run.{RunEnd, Between, Within, Failed, HasLeft, given_to, outputs}
+use Rattle.wf_execution.specs.Execution.{Execution, values}
+use Rattle.wf_execution.specs.Continuation.{left}
+use Rattle.wf_execution.specs.Run.{RunEnd, Between, Within, Failed, HasLeft, given_to, outputs}
 use Rattle.wf_codec.specs.declared.message.Message.{Message}
 use Rattle.wf_def.specs.Definition.{Definition}
 use Rattle.wf_line.specs.declared.node_line.NodeLine.{NodeLine}
@@ -106,7 +106,7 @@ module _ {T : Type 0} (tapes : Tape T) where
   -- that had come on the connection were a beginning of what was sent on some connection, into
   -- which only messages were put that had been returned by then, by whichever node. At first
   -- nothing had started (`unstarted`), nothing was sent, and all tapes were empty.
-  pub record AreNodeProcesses (n : ℕ) (before : ℕ → Career T) (sent : List Message) (folders : ℕ → List NodeProcess) (steps : List Step) : Type 0 where
+  pub record AreNodeProcesses (n : ℕ) (before : ℕ → Execution T) (sent : List Message) (folders : ℕ → List NodeProcess) (steps : List Step) : Type 0 where
     pub ended : (i : ℕ) → i < n → (before i).now ≡ None
     pub on_folders : (i : ℕ) → i < n → AreOnFolder n i (left (before i)) (folders i)
     pub members : AreMembers n steps
@@ -114,5 +114,5 @@ module _ {T : Type 0} (tapes : Tape T) where
     pub connected : AreSentBefore sent steps
 
   -- all values that node i ever had
-  abbrev pub values_ever : (ℕ → Career T) → (ℕ → List NodeProcess) → ℕ → List (Node T)
+  abbrev pub values_ever : (ℕ → Execution T) → (ℕ → List NodeProcess) → ℕ → List (Node T)
   values_ever before folders i = values (before i) ++ values_on (folders i)

@@ -5,8 +5,8 @@ use Rattle.wf_actor.specs.Life.{IsLife}
 use Rattle.wf_actor.specs.Sent.{AreGivenCome}
 use Rattle.wf_actor.specs.declared.actor.Actor.{Actor}
 use Rattle.wf_actor.specs.declared.actor.Origin.{Origin}
-use Rattle.wf_career.specs.Career.{values_in}
-use Rattle.wf_career.specs.Run.{Run}
+use Rattle.wf_execution.specs.Execution.{values_in}
+use Rattle.wf_execution.specs.Run.{Run}
 use Rattle.wf_node.specs.Node.{Node}
 use Rattle.wf_tape.specs.declared.tape.Tape.{Ghosts as Tape}
 use Rattle.wf_wire.specs.Post.{logged}

@@ -14,8 +14,8 @@
 //!   what it was given in it from peers came on their connections ([`processes_show_what_came`]).
 //! - What came on connections of which all bytes had been sent before had been returned before
 //!   ([`sent_messages_are_carried`]).
-//! - With what was before, such processes are a farm of `wf_career`, whose processes held exactly
-//!   these values ([`nodes_are_one_farm`]).
+//! - With what was before, such processes are a farm of `wf_execution`, whose processes held
+//!   exactly these values ([`nodes_are_one_farm`]).
 //! - So there is one history, of which each list that a node ever published is a beginning; no two
 //!   have different definitions under one sequence; no list loses a definition, across restarts
 //!   too; and equal requests to the map service get equal bytes, a 503 for a failed allocation
@@ -42,15 +42,15 @@
 //! of a peer, all bytes that had come on the connection were a beginning of what was sent on some
 //! connection, into which only messages were put that had been returned by then. Of a step within
 //! which a process was killed: it was given what each step requires, of which no clause speaks
-//! then. What a process leaves is said as `wf_career` says it, which a durable tape gives. All of
-//! it can be met, one thing after the other ([`node_processes_go_on`], `specs/Advance.antt`).
-//! Of a folder that joins: what its file `joins` said is of its node and was answered; the file
-//! `farm` says no less when the next process reads it, which no clause says of what is put there.
-//! What is said of its processes can be met, too ([`joiners_go_on`], `specs/Joining.antt`).
-//! Of nodes that lose their disks (`AreLifetimes`): all began on empty tapes, nothing ran on a
-//! folder that was lost, each that took its place had joined by then, and no node was given a
-//! question of one that joins, which is no event of a timeline, unless a node had asked the same by
-//! then ([`lifetimes_go_on`], `specs/LivesAdvance.antt`).
+//! then. What a process leaves is said as `wf_execution` says it, which a durable tape gives. All
+//! of it can be met, one thing after the other ([`node_processes_go_on`], `specs/Advance.antt`). Of
+//! a folder that joins: what its file `joins` said is of its node and was answered; the file `farm`
+//! says no less when the next process reads it, which no clause says of what is put there. What is
+//! said of its processes can be met, too ([`joiners_go_on`], `specs/Joining.antt`). Of nodes that
+//! lose their disks (`AreLifetimes`): all began on empty tapes, nothing ran on a folder that was
+//! lost, each that took its place had joined by then, and no node was given a question of one that
+//! joins, which is no event of a timeline, unless a node had asked the same by then
+//! ([`lifetimes_go_on`], `specs/LivesAdvance.antt`).
 //!
 //! **Doesn't.** It opens no file and no socket, and no process of the program depends on it.
 #![tactic(auto)]

@@ -11,7 +11,7 @@ ghost use Rattle.wf_histories.specs.Replicas.{ReplicasAgree};
 ghost use Rattle.wf_histories.specs.Theorems.{NodesAgree, NodesAreOneFarm, ProcessesShowLives, ProcessesShowWhatCame};
 
 use wf_actor::{processes_respond_alike, runs_receive_their_own};
-use wf_career::{
+use wf_execution::{
     a_compared_node_goes_on, lists_grow, processes_agree, replicas_agree, replicas_answer_alike,
 };
 use wf_journal::records_are_read_one_way;
@@ -46,11 +46,11 @@ pub fn sent_messages_are_carried()
 }
 
 /// Processes of `wfarm node`, each node's one after the other on its folder, are a farm of
-/// `wf_career`, whether they returned, were killed or lost their power, and however often they
+/// `wf_execution`, whether they returned, were killed or lost their power, and however often they
 /// opened their tapes anew.
 ///
 /// What a process has of `HasServed` [`wf_node_command::run`] returns; from there
-/// [`node_processes_go_on`] leads to `AreNodeProcesses`, and `a_farm_goes_on` of `wf_career` to
+/// [`node_processes_go_on`] leads to `AreNodeProcesses`, and `a_farm_goes_on` of `wf_execution` to
 /// `IsFarm` of what was before.
 pub fn nodes_are_one_farm<T: Tape>()
     ensures { NodesAreOneFarm T.Tape }
@@ -142,7 +142,7 @@ pub fn replicas_are_of_the_farm<N: Tape, R: Tape>()
 pub fn joiners_have_learned<T: Tape>()
     ensures { JoinersHaveLearned T.Tape }
 {
-    // As processes that vote are runs of a career, so are these.
+    // As processes that vote are runs of an execution, so are these.
     records_are_read_one_way();
     a_compared_node_goes_on::<T>();
     runs_receive_their_own();

@@ -1,10 +1,10 @@
-pub use Rattle.wf_mesh.specs.declared.plan.LoopFault
-pub use Rattle.wf_mesh.specs.declared.plan.NodePlan
-pub use Rattle.wf_mesh.specs.Membership
+pub use Rattle.wf_peer_connections.specs.declared.plan.LoopFault
+pub use Rattle.wf_peer_connections.specs.declared.plan.NodePlan
+pub use Rattle.wf_peer_connections.specs.Membership
 pub use Rattle.wf_voter.specs.declared.reopening.NotReopened
 pub use Rattle.wf_voter.specs.declared.voter.Voter
 pub use Rattle.wf_voter.specs.Answer
 pub use Rattle.wf_voter.specs.Process
 pub use Rattle.wf_voter.specs.Lived
 pub use Rattle.wf_voter.specs.Continuation
-pub mod Hub
+pub mod EventLoop

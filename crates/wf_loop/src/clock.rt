@@ -5,7 +5,7 @@ ghost use Rattle.wf_voter.specs.Continuation.{Continues, ContinuesIn};
 use std::alloc::Global;
 use std::net::Net;
 use std::time::Clock;
-use wf_mesh::{Desk, Mesh, Pace};
+use wf_peer_connections::{Desk, PeerConnections, Timers};
 use wf_peering::{accept, ask_all, call_all, connect, greet_again, obey, save};
 use wf_sockets::Network;
 use wf_tape::Tape;
@@ -22,8 +22,8 @@ pub(crate) fn turn_by_clock<
     context: &Context<'_, '_, R, N>,
     voter: &mut Voter<T>,
     folder: &mut F,
-    mesh: &mut Mesh<N>,
-    pace: &mut Pace,
+    peers: &mut PeerConnections<N>,
+    timers: &mut Timers,
     desk: &mut Desk<N>,
     clients: &mut Clients<T, N>,
 )
@@ -31,9 +31,9 @@ pub(crate) fn turn_by_clock<
         (F.stands folder.new) voter.new }
     ensures befores { clients.new.before.items ≡ clients.old.before.items }
 {
-    tick(context, voter, folder, mesh, pace, desk, clients);
-    watch(context, &voter.process, mesh, pace);
-    call_all(context, voter, mesh);
+    tick(context, voter, folder, peers, timers, desk, clients);
+    watch(context, &voter.process, peers, timers);
+    call_all(context, voter, peers);
 }
 
 /// Does what is to be done at a tick, if one is over.
@@ -42,8 +42,8 @@ fn tick<R: Net + Clock + Eprint + AllocGlobal, T: Tape + Drop, F: NodeFolder<T>,
     context: &Context<'_, '_, R, N>,
     voter: &mut Voter<T>,
     folder: &mut F,
-    mesh: &mut Mesh<N>,
-    pace: &mut Pace,
+    peers: &mut PeerConnections<N>,
+    timers: &mut Timers,
     desk: &mut Desk<N>,
     clients: &mut Clients<T, N>,
 )
@@ -51,23 +51,23 @@ fn tick<R: Net + Clock + Eprint + AllocGlobal, T: Tape + Drop, F: NodeFolder<T>,
         (F.stands folder.new) voter.new }
     ensures befores { clients.new.before.items ≡ clients.old.before.items }
 {
-    if pace.is_tick(context.time) {
+    if timers.is_tick(context.time) {
         clients.accept(context);
         clients.tick(context.time);
         desk.tick(context);
-        obey(context, voter, folder, mesh);
-        go_on(context, voter, folder, mesh, pace);
+        obey(context, voter, folder, peers);
+        on_tick(context, voter, folder, peers, timers);
     }
 }
 
 /// What the node does at a tick: nothing while it is halted.
 #[tactic(auto, using(wf_voter::proofs::Continuation::still_in, wf_voter::proofs::Continuation::on_in, wf_voter::proofs::Continuation::twice_in))]
-fn go_on<R: Net + Clock + Eprint + AllocGlobal, T: Tape + Drop, F: NodeFolder<T>, N: Network>(
+fn on_tick<R: Net + Clock + Eprint + AllocGlobal, T: Tape + Drop, F: NodeFolder<T>, N: Network>(
     context: &Context<'_, '_, R, N>,
     voter: &mut Voter<T>,
     folder: &mut F,
-    mesh: &mut Mesh<N>,
-    pace: &mut Pace,
+    peers: &mut PeerConnections<N>,
+    timers: &mut Timers,
 )
     ensures on { ContinuesIn T.Tape (F.stands folder.old) voter.old
         (F.stands folder.new) voter.new }
@@ -75,8 +75,8 @@ fn go_on<R: Net + Clock + Eprint + AllocGlobal, T: Tape + Drop, F: NodeFolder<T>
     if voter.process.is_halted() {
         return;
     }
-    link(context, voter, folder, mesh);
-    respond_on(context, voter, folder, mesh, pace);
+    link(context, voter, folder, peers);
+    respond_on(context, voter, folder, peers, timers);
 }
 
 /// Accepts the connections of peers, ends those on which nothing comes, and connects to peers:
@@ -86,7 +86,7 @@ fn link<R: Net + Clock + Eprint + AllocGlobal, T: Tape + Drop, F: NodeFolder<T>,
     context: &Context<'_, '_, R, N>,
     voter: &mut Voter<T>,
     folder: &mut F,
-    mesh: &mut Mesh<N>,
+    peers: &mut PeerConnections<N>,
 )
     ensures on { ContinuesIn T.Tape (F.stands folder.old) voter.old
         (F.stands folder.new) voter.new }
@@ -94,9 +94,9 @@ fn link<R: Net + Clock + Eprint + AllocGlobal, T: Tape + Drop, F: NodeFolder<T>,
     if !voter.connects() {
         return;
     }
-    accept(context, voter, folder, mesh);
-    mesh.close_silent(context, voter.process.node().published().number());
-    connect(context, voter, mesh);
+    accept(context, voter, folder, peers);
+    peers.close_silent(context, voter.process.node().published().number());
+    connect(context, voter, peers);
 }
 
 /// What the node says by the clock, and what it saves of what it heard.
@@ -105,17 +105,17 @@ fn respond_on<R: Clock + Eprint + AllocGlobal, T: Tape + Drop, F: NodeFolder<T>,
     context: &Context<'_, '_, R, N>,
     voter: &mut Voter<T>,
     folder: &mut F,
-    mesh: &mut Mesh<N>,
-    pace: &mut Pace,
+    peers: &mut PeerConnections<N>,
+    timers: &mut Timers,
 )
     ensures on { ContinuesIn T.Tape (F.stands folder.old) voter.old
         (F.stands folder.new) voter.new }
 {
-    retry_if_due(context.alloc(), voter, mesh, pace, context.time);
-    if pace.is_second(context.time) {
-        ask_all(context.alloc(), voter, mesh);
-        greet_again(context, voter, mesh);
-        let _ = save(context, voter, folder, mesh);
+    retry_if_due(context.alloc(), voter, peers, timers, context.time);
+    if timers.is_second(context.time) {
+        ask_all(context.alloc(), voter, peers);
+        greet_again(context, voter, peers);
+        let _ = save(context, voter, folder, peers);
     }
 }
 
@@ -124,14 +124,14 @@ fn respond_on<R: Clock + Eprint + AllocGlobal, T: Tape + Drop, F: NodeFolder<T>,
 fn retry_if_due<T: Tape + Drop, N: Network>(
     alloc: Global,
     voter: &mut Voter<T>,
-    mesh: &Mesh<N>,
-    pace: &mut Pace,
+    peers: &PeerConnections<N>,
+    timers: &mut Timers,
     time: u64,
 )
     ensures { Continues T.Tape voter.old voter.new }
 {
     let proposal = voter.process.node().proposal();
-    if pace.is_retry_due(proposal, mesh, time) {
+    if timers.is_retry_due(proposal, peers, time) {
         retry(alloc, voter);
     }
 }
@@ -140,12 +140,12 @@ fn retry_if_due<T: Tape + Drop, N: Network>(
 fn watch<R: Clock + Eprint, T: Tape + Drop, N: Network>(
     context: &Context<'_, '_, R, N>,
     process: &Process<T>,
-    mesh: &mut Mesh<N>,
-    pace: &mut Pace,
+    peers: &mut PeerConnections<N>,
+    timers: &mut Timers,
 ) {
     let node = process.node();
     if process.is_halted() {
-        pace.note_failed_tape(context, mesh, node.tape().cause());
+        timers.note_failed_tape(context, peers, node.tape().cause());
     }
-    pace.watch_proposal(context.log, node.proposal());
+    timers.watch_proposal(context.log, node.proposal());
 }

@@ -1,12 +1,12 @@
-//! How a hub begins and goes on, turn after turn.
+//! How an event loop begins and goes on, turn after turn.
 ghost use Rattle.std.specs.Prelude.{◌≡◌, ◌≤◌, ◌+◌, ◌↔◌, ◌++◌, ◌∷◌, [], ℕ, List, true, Err, IfErr, IfOk, IsSome, IsTrue, OnErr, OnOk, Option};
 ghost use Rattle.wf_voter.specs.Process.{IsJustOpened};
 ghost use Rattle.wf_digest.specs.Digest.{AreDigestsOf};
 ghost use Rattle.wf_folder.specs.declared.suspension.Suspension.{Suspension as SuspensionValue};
-ghost use Rattle.wf_loop.specs.Hub.{GreetsAsNow, HasAnswered, IsBusy, IsHeardFirst, IsJoiner, IsOutvoted, IsOver, IsReopeningDue, IsSuspended, OnlyAnswersAsks, OnlyLearns, address_of, kept_of, membership_of, process_of, taken_in_by, time_of};
-ghost use Rattle.wf_mesh.specs.Membership.{membership_by};
-ghost use Rattle.wf_mesh.specs.StartErrors.{IsStartError};
-ghost use Rattle.wf_mesh.specs.declared.plan.NodePlan.{NodePlan as NodePlanValue};
+ghost use Rattle.wf_loop.specs.EventLoop.{GreetsAsNow, HasAnswered, IsBusy, IsHeardFirst, IsJoiner, IsOutvoted, IsOver, IsReopeningDue, IsSuspended, OnlyAnswersAsks, OnlyLearns, address_of, kept_of, membership_of, process_of, taken_in_by, time_of};
+ghost use Rattle.wf_peer_connections.specs.Membership.{membership_by};
+ghost use Rattle.wf_peer_connections.specs.StartErrors.{IsStartError};
+ghost use Rattle.wf_peer_connections.specs.declared.plan.NodePlan.{NodePlan as NodePlanValue};
 ghost use Rattle.wf_node.specs.Reopening.{HasStoredAs};
 ghost use Rattle.wf_visitors.specs.Visitors.{responses_of};
 ghost use Rattle.wf_voter.specs.Continuation.{ContinuesIn, IsNextRun, StaysInRun, KeepsEarlier, StaysSuspended};
@@ -14,16 +14,18 @@ ghost use Rattle.wf_voter.specs.Folder.{counted};
 ghost use Rattle.wf_voter.specs.Lived.{HasLived};
 
 use crate::clock::turn_by_clock;
-use crate::hub::Hub;
+use crate::event_loop::EventLoop;
 use crate::turn::{answer_operators, has_more, serve_all};
 use std::alloc::Global;
 use std::net::{Net, SocketAddr};
 use std::rt::Files;
 use std::time::Clock;
 use wf_membership::Gate;
-use wf_mesh::{HubParts, HubStart, LoopFault, NodeEvent, NodePlan, Pace, TICK_MILLIS, bind};
 use wf_operator::Behind;
 use wf_peer::PeerProgress;
+use wf_peer_connections::{
+    LoopFault, LoopParts, LoopStart, NodeEvent, NodePlan, TICK_MILLIS, Timers, bind,
+};
 use wf_peering::keep_reach;
 use wf_sockets::{Network, NetworkError, SystemNetwork};
 use wf_store::FileName;
@@ -50,30 +52,30 @@ fn fault_of(error: NetworkError, plan: &NodePlan) -> LoopFault
     }
 }
 
-/// A hub of these parts. Err: that of the parts; the process is dropped.
-fn hub_of<T: Tape + Drop, N: Network + Drop>(
+/// An event loop of these parts. Err: that of the parts; the process is dropped.
+fn event_loop_of<T: Tape + Drop, N: Network + Drop>(
     alloc: Global,
-    begun: Result<HubStart<N>, LoopFault>,
+    begun: Result<LoopStart<N>, LoopFault>,
     process: Process<T>,
     known: PeerProgress,
     time: u64,
-) -> Result<Hub<T, N>, LoopFault>
+) -> Result<EventLoop<T, N>, LoopFault>
     requires { IfOk begun (λ begun. responses_of begun.visitors ≡ []) }
-    ensures hub { IfOk result (λ hub. process_of hub ≡ process) }
-    ensures kept { IfOk result (λ hub. kept_of hub ≡ known) }
-    ensures time { IfOk result (λ hub. time_of hub ≡ time) }
+    ensures event_loop { IfOk result (λ event_loop. process_of event_loop ≡ process) }
+    ensures kept { IfOk result (λ event_loop. kept_of event_loop ≡ known) }
+    ensures time { IfOk result (λ event_loop. time_of event_loop ≡ time) }
     ensures suspended { (suspension : Option SuspensionValue) →
-        IfOk begun (λ begun. begun.parts.mesh.suspension ≡ suspension) →
+        IfOk begun (λ begun. begun.parts.peers.suspension ≡ suspension) →
         IsSome suspension → IfOk result IsSuspended }
-    ensures joins { (plan : NodePlanValue) → IfOk begun (λ begun. begun.parts.mesh.plan ≡ plan) →
+    ensures joins { (plan : NodePlanValue) → IfOk begun (λ begun. begun.parts.peers.plan ≡ plan) →
         IsSome plan.joining → IfOk result IsJoiner }
     ensures membership { (plan : NodePlanValue) →
-        IfOk begun (λ begun. begun.parts.mesh.plan ≡ plan) →
-        IfOk result (λ hub. membership_of hub ≡ membership_by plan) }
+        IfOk begun (λ begun. begun.parts.peers.plan ≡ plan) →
+        IfOk result (λ event_loop. membership_of event_loop ≡ membership_by plan) }
     ensures fault { IfErr result (λ fault. begun ≡ Err fault) }
 {
     match begun {
-        Ok(HubStart { parts, visitors }) => Ok(assemble(
+        Ok(LoopStart { parts, visitors }) => Ok(assemble(
             alloc, parts, visitors, process, known, time,
         )),
         Err(fault) => {
@@ -83,54 +85,54 @@ fn hub_of<T: Tape + Drop, N: Network + Drop>(
     }
 }
 
-/// A hub of these parts.
+/// An event loop of these parts.
 fn assemble<T: Tape + Drop, N: Network + Drop>(
     alloc: Global,
-    parts: HubParts<N>,
+    parts: LoopParts<N>,
     visitors: Visitors<N>,
     process: Process<T>,
     known: PeerProgress,
     time: u64,
-) -> Hub<T, N>
+) -> EventLoop<T, N>
     requires { responses_of visitors ≡ [] }
-    ensures hub { process_of result ≡ process }
+    ensures event_loop { process_of result ≡ process }
     ensures kept { kept_of result ≡ known }
-    ensures suspended { IsSome parts.mesh.suspension → IsSuspended result }
-    ensures joins { IsSome parts.mesh.plan.joining → IsJoiner result }
-    ensures membership { membership_of result ≡ membership_by parts.mesh.plan }
+    ensures suspended { IsSome parts.peers.suspension → IsSuspended result }
+    ensures joins { IsSome parts.peers.plan.joining → IsJoiner result }
+    ensures membership { membership_of result ≡ membership_by parts.peers.plan }
     ensures time { time_of result ≡ time }
 {
-    let pace = parts.pace(time);
+    let timers = parts.timers(time);
     let http = visitors.address(&parts.network);
     let clients = Clients::new(visitors);
     let voter = Voter::new(
         alloc,
         process,
         known,
-        &parts.mesh.suspension,
-        parts.mesh.plan.membership(),
+        &parts.peers.suspension,
+        parts.peers.plan.membership(),
     );
-    hub_with(parts, clients, voter, pace, http, time)
+    event_loop_with(parts, clients, voter, timers, http, time)
 }
 
-/// A hub with these clients, of whom nobody was answered yet.
-fn hub_with<T: Tape, N: Network>(
-    parts: HubParts<N>,
+/// An event loop with these clients, of whom nobody was answered yet.
+fn event_loop_with<T: Tape, N: Network>(
+    parts: LoopParts<N>,
     clients: Clients<T, N>,
     voter: Voter<T>,
-    pace: Pace,
+    timers: Timers,
     http: Option<SocketAddr>,
     time: u64,
-) -> Hub<T, N>
+) -> EventLoop<T, N>
     requires { clients.before.items ≡ [] }
     ensures voter { result.voter ≡ voter }
     ensures time { time_of result ≡ time }
 {
-    Hub {
+    EventLoop {
         parts,
         clients,
         voter,
-        pace,
+        timers,
         behind: Behind::default(),
         http,
         time,
@@ -138,7 +140,7 @@ fn hub_with<T: Tape, N: Network>(
     }
 }
 
-impl<T: Tape + Drop> Hub<T> {
+impl<T: Tape + Drop> EventLoop<T> {
     /// Binds the addresses of a node of the system. Err: `Poll` if the system gives no poll;
     /// `Http`, `Listen`, `Admin` or `Readers` if that address is taken or not permitted, the first
     /// one in this order; `Memory` if an allocation fails. The process is dropped then.
@@ -148,19 +150,20 @@ impl<T: Tape + Drop> Hub<T> {
         process: Process<T>,
         known: PeerProgress,
     ) -> Result<Self, LoopFault>
-        ensures process { IfOk result (λ hub. process_of hub ≡ process) }
+        ensures process { IfOk result (λ event_loop. process_of event_loop ≡ process) }
         // What the file `heard` has is what was heard, as long as nothing is written to it.
-        ensures kept { IfOk result (λ hub. kept_of hub ≡ known) }
+        ensures kept { IfOk result (λ event_loop. kept_of event_loop ≡ known) }
         // A node that its folder says is suspended begins so.
         ensures suspended { IsSome plan.suspension → IfOk result IsSuspended }
         // One whose folder joins does so from the first turn on.
         ensures joins { IsSome plan.joining → IfOk result IsJoiner }
         // It goes by what its folder said of replacements.
-        ensures membership { IfOk result (λ hub. membership_of hub ≡ membership_by plan) }
+        ensures membership { IfOk result (λ event_loop.
+            membership_of event_loop ≡ membership_by plan) }
         ensures cause { IfErr result (IsStartError plan) }
     {
         match SystemNetwork::new(rt) {
-            Ok(network) => Hub::on(rt, network, plan, process, known, now(rt)),
+            Ok(network) => EventLoop::on(rt, network, plan, process, known, now(rt)),
             Err(error) => {
                 let fault = fault_of(error, &plan);
                 drop(plan);
@@ -174,7 +177,7 @@ impl<T: Tape + Drop> Hub<T> {
     /// One turn: waits until a socket is ready or a tick is over, and does a bounded part of what
     /// there is to do. What has to be in the node's folder is written there: that it is suspended
     /// at once, and each second how far it is.
-    pub fn go_on<R: Net + Files + Clock + Eprint + AllocGlobal, F: NodeFolder<T>>(
+    pub fn wait_and_run<R: Net + Files + Clock + Eprint + AllocGlobal, F: NodeFolder<T>>(
         &mut self,
         rt: &R,
         log: &Log<'_, R>,
@@ -214,11 +217,11 @@ impl<T: Tape + Drop> Hub<T> {
         let mut tokens = [0usize; MOST_READY];
         let millis = self.patience(now(rt));
         let count = self.parts.network.wait(millis, &mut tokens);
-        self.turn(rt, log, folder, &tokens[..count], now(rt));
+        self.run_once(rt, log, folder, &tokens[..count], now(rt));
     }
 }
 
-impl<T: Tape + Drop, N: Network + Drop> Hub<T, N> {
+impl<T: Tape + Drop, N: Network + Drop> EventLoop<T, N> {
     /// Binds the addresses of a node on a network, at this time in milliseconds. Err: `Http`,
     /// `Listen`, `Admin` or `Readers` if that address is taken or not permitted, the first one in
     /// this order; `Memory` if an allocation fails. The process is dropped then.
@@ -230,19 +233,20 @@ impl<T: Tape + Drop, N: Network + Drop> Hub<T, N> {
         known: PeerProgress,
         time: u64,
     ) -> Result<Self, LoopFault>
-        ensures process { IfOk result (λ hub. process_of hub ≡ process) }
+        ensures process { IfOk result (λ event_loop. process_of event_loop ≡ process) }
         // What the file `heard` has is what was heard, as long as nothing is written to it.
-        ensures kept { IfOk result (λ hub. kept_of hub ≡ known) }
+        ensures kept { IfOk result (λ event_loop. kept_of event_loop ≡ known) }
         // A node that its folder says is suspended begins so.
         ensures suspended { IsSome plan.suspension → IfOk result IsSuspended }
         // One whose folder joins does so from the first turn on.
         ensures joins { IsSome plan.joining → IfOk result IsJoiner }
         // It goes by what its folder said of replacements.
-        ensures membership { IfOk result (λ hub. membership_of hub ≡ membership_by plan) }
-        ensures time { IfOk result (λ hub. time_of hub ≡ time) }
+        ensures membership { IfOk result (λ event_loop.
+            membership_of event_loop ≡ membership_by plan) }
+        ensures time { IfOk result (λ event_loop. time_of event_loop ≡ time) }
         ensures cause { IfErr result (IsStartError plan) }
     {
-        hub_of(
+        event_loop_of(
             rt.alloc(),
             bind(rt, network, plan, known, time),
             process,
@@ -271,14 +275,14 @@ impl<T: Tape + Drop, N: Network + Drop> Hub<T, N> {
     pub fn is_over(&self) -> bool
         ensures { IsTrue result ↔ IsOver self.now }
     {
-        self.parts.mesh.is_over
+        self.parts.peers.is_over
     }
 
-    /// How many messages the node took in since the hub began, its own too. It saturates.
+    /// How many messages the node took in since the event loop began, its own too. It saturates.
     pub fn message_count(&self) -> u64
         ensures { result ≡ taken_in_by self.now }
     {
-        self.parts.mesh.steps.number
+        self.parts.peers.steps.number
     }
 
     /// The node's process.
@@ -304,7 +308,7 @@ impl<T: Tape + Drop, N: Network + Drop> Hub<T, N> {
     pub fn is_reopening_due(&self) -> bool
         ensures { IsTrue result ↔ IsReopeningDue self.now }
     {
-        self.voter.process.is_halted() && self.pace.is_reopening_due(self.time)
+        self.voter.process.is_halted() && self.timers.is_reopening_due(self.time)
     }
 
     /// Opens the node again on the tape of its folder, once it has failed: the node that it was, of
@@ -347,8 +351,8 @@ impl<T: Tape + Drop, N: Network + Drop> Hub<T, N> {
                 Ok(())
             }
             Err(why) => {
-                self.pace.postpone_reopening(self.time);
-                let NodePlan { folder, own, .. } = &self.parts.mesh.plan;
+                self.timers.postpone_reopening(self.time);
+                let NodePlan { folder, own, .. } = &self.parts.peers.plan;
                 log.write(&TapeNotReopened {
                     folder: folder.as_str(),
                     tape: FileName::NodeTape(own.node.number()),
@@ -381,8 +385,8 @@ impl<T: Tape + Drop, N: Network + Drop> Hub<T, N> {
             starts,
         } = next;
         begin_run(&mut self.voter, process);
-        self.parts.mesh.begin_run(digests, starts, self.time);
-        self.pace.note_reopening(self.time);
+        self.parts.peers.begin_run(digests, starts, self.time);
+        self.timers.note_reopening(self.time);
     }
 
     /// For how long the next turn may be waited for at most where no socket is ready, in
@@ -396,12 +400,12 @@ impl<T: Tape + Drop, N: Network + Drop> Hub<T, N> {
             return 0;
         }
         let history = self.voter.process.node().history();
-        let most = if self.parts.mesh.wants_digests(history) {
+        let most = if self.parts.peers.wants_digests(history) {
             MOMENT_MILLIS
         } else {
             TICK_MILLIS
         };
-        self.pace.rest(time).min(most)
+        self.timers.rest(time).min(most)
     }
 
     /// Whether there is more to do: a turn left some, or messages of the node to itself wait.
@@ -415,7 +419,7 @@ impl<T: Tape + Drop, N: Network + Drop> Hub<T, N> {
     /// sockets with these tokens and by the clock, and waits for nothing. What has to be in the
     /// node's folder is written there: that it is suspended at once, and each second how far it is.
     /// The tokens are of sockets that may be ready; one that isn't costs a look at it.
-    pub fn turn<R: Net + Files + Clock + Eprint + AllocGlobal, F: NodeFolder<T>>(
+    pub fn run_once<R: Net + Files + Clock + Eprint + AllocGlobal, F: NodeFolder<T>>(
         &mut self,
         rt: &R,
         log: &Log<'_, R>,
@@ -456,7 +460,7 @@ impl<T: Tape + Drop, N: Network + Drop> Hub<T, N> {
         ensures now { time ≤ time_of self.new }
     {
         let could_wait = !self.has_work();
-        let is_over = self.parts.mesh.is_over;
+        let is_over = self.parts.peers.is_over;
         self.time = time.max(self.time);
         self.judge(log);
         self.is_busy = self.act_unless(is_over, rt, log, folder, ready, could_wait);
@@ -475,13 +479,13 @@ impl<T: Tape + Drop, N: Network + Drop> Hub<T, N> {
         ensures befores { self.new.clients.before.items ≡ self.old.clients.before.items }
         ensures time { time_of self.new ≡ time_of self.old }
     {
-        let gate = self.parts.mesh.gate(self.time);
-        let is_outvoted = self.parts.mesh.judge_histories(log, self.time);
+        let gate = self.parts.peers.gate(self.time);
+        let is_outvoted = self.parts.peers.judge_histories(log, self.time);
         self.voter.judge(gate, is_outvoted);
         if self.voter.gate == Gate::Suspended {
             self.clients.close();
             self.parts.desk.readers.close();
-            self.parts.mesh.close_all(self.time);
+            self.parts.peers.close_all(self.time);
         } else if is_outvoted || self.voter.membership.joins {
             self.clients.dismiss();
             self.parts.desk.readers.dismiss();
@@ -495,20 +499,20 @@ impl<T: Tape + Drop, N: Network + Drop> Hub<T, N> {
         ensures time { time_of self.new ≡ time_of self.old }
         ensures stands { F.stands folder.new ≡ F.stands folder.old }
     {
-        let is_due = self.pace.is_keeping_due(self.time);
-        let HubParts { mesh, .. } = &mut self.parts;
-        let kept = if let Some(suspension) = mesh.unkept_suspension(is_due) {
+        let is_due = self.timers.is_keeping_due(self.time);
+        let LoopParts { peers, .. } = &mut self.parts;
+        let kept = if let Some(suspension) = peers.unkept_suspension(is_due) {
             let kept = folder.suspend(suspension);
-            mesh.is_suspension_kept = kept.is_ok();
+            peers.is_suspension_kept = kept.is_ok();
             kept
         } else if is_due && !self.voter.process.is_halted() {
-            keep_reach(&self.voter.process, &mut mesh.notes, folder)
+            keep_reach(&self.voter.process, &mut peers.table, folder)
         } else {
             return;
         };
         match kept {
-            Ok(()) => mesh.note_written(FileName::Farm),
-            Err(why) => mesh.note_unwritten(log, self.time, FileName::Farm, why),
+            Ok(()) => peers.note_written(FileName::Farm),
+            Err(why) => peers.note_unwritten(log, self.time, FileName::Farm, why),
         }
     }
 
@@ -557,18 +561,18 @@ impl<T: Tape + Drop, N: Network + Drop> Hub<T, N> {
             self.new.clients.before.items ≡ self.old.clients.before.items }
         ensures time { time_of self.new ≡ time_of self.old }
     {
-        let Hub {
+        let EventLoop {
             parts,
             clients,
             voter,
-            pace,
+            timers,
             behind,
             time,
             ..
         } = self;
-        let HubParts {
+        let LoopParts {
             network,
-            mesh,
+            peers,
             desk,
             ..
         } = parts;
@@ -578,10 +582,10 @@ impl<T: Tape + Drop, N: Network + Drop> Hub<T, N> {
             network,
             time: *time,
         };
-        mesh.begin_turn(could_wait, ready.len());
-        serve_all(&context, voter, folder, mesh, desk, clients, ready);
-        turn_by_clock(&context, voter, folder, mesh, pace, desk, clients);
-        answer_operators(&context, voter, mesh, desk, clients, behind);
-        has_more(voter, mesh, clients)
+        peers.begin_turn(could_wait, ready.len());
+        serve_all(&context, voter, folder, peers, desk, clients, ready);
+        turn_by_clock(&context, voter, folder, peers, timers, desk, clients);
+        answer_operators(&context, voter, peers, desk, clients, behind);
+        has_more(voter, peers, clients)
     }
 }

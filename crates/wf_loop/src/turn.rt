@@ -6,8 +6,8 @@ ghost use Rattle.wf_voter.specs.Continuation.{Continues, ContinuesIn};
 use std::net::Net;
 use std::rt::Files;
 use std::time::Clock;
-use wf_mesh::{Desk, Mesh, NodeView, Socket};
 use wf_operator::Behind;
+use wf_peer_connections::{Desk, NodeView, PeerConnections, Socket};
 use wf_peering::{accept, call, read_inbound, send_all, state_of};
 use wf_sockets::Network;
 use wf_tape::Tape;
@@ -30,7 +30,7 @@ pub(crate) fn serve_all<
     context: &Context<'_, '_, R, N>,
     voter: &mut Voter<T>,
     folder: &mut F,
-    mesh: &mut Mesh<N>,
+    peers: &mut PeerConnections<N>,
     desk: &mut Desk<N>,
     clients: &mut Clients<T, N>,
     tokens: &[usize],
@@ -44,18 +44,18 @@ pub(crate) fn serve_all<
     ensures earlier { StayEarlier T.Tape clients.old.before.items clients.new.before.items
         voter.old.process voter.new.process }
 {
-    act_on_all(context, voter, folder, mesh, desk, clients, tokens);
-    handle_all_own(context, voter, mesh);
-    serve_clients(context, voter, mesh, clients);
+    act_on_all(context, voter, folder, peers, desk, clients, tokens);
+    handle_all_own(context, voter, peers);
+    serve_clients(context, voter, peers, clients);
 }
 
 /// Whether there is more to do.
 pub(crate) fn has_more<T: Tape + Drop, N: Network>(
     voter: &Voter<T>,
-    mesh: &Mesh<N>,
+    peers: &PeerConnections<N>,
     clients: &Clients<T, N>,
 ) -> bool {
-    mesh.is_busy || (voter.answers() && clients.visitors().is_busy())
+    peers.is_busy || (voter.answers() && clients.visitors().is_busy())
 }
 
 /// Does what the sockets with these tokens ask for: those of peers first.
@@ -64,7 +64,7 @@ fn act_on_all<R: Net + Clock + Eprint + AllocGlobal, T: Tape + Drop, F: NodeFold
     context: &Context<'_, '_, R, N>,
     voter: &mut Voter<T>,
     folder: &mut F,
-    mesh: &mut Mesh<N>,
+    peers: &mut PeerConnections<N>,
     desk: &mut Desk<N>,
     clients: &mut Clients<T, N>,
     tokens: &[usize],
@@ -73,8 +73,8 @@ fn act_on_all<R: Net + Clock + Eprint + AllocGlobal, T: Tape + Drop, F: NodeFold
         (F.stands folder.new) voter.new }
     ensures befores { clients.new.before.items ≡ clients.old.before.items }
 {
-    act_on_those(context, voter, folder, mesh, desk, clients, tokens, true);
-    act_on_those(context, voter, folder, mesh, desk, clients, tokens, false);
+    act_on_those(context, voter, folder, peers, desk, clients, tokens, true);
+    act_on_those(context, voter, folder, peers, desk, clients, tokens, false);
 }
 
 /// Does what those of the sockets with these tokens ask for that are of peers, or the others.
@@ -88,7 +88,7 @@ fn act_on_those<
     context: &Context<'_, '_, R, N>,
     voter: &mut Voter<T>,
     folder: &mut F,
-    mesh: &mut Mesh<N>,
+    peers: &mut PeerConnections<N>,
     desk: &mut Desk<N>,
     clients: &mut Clients<T, N>,
     tokens: &[usize],
@@ -103,7 +103,7 @@ fn act_on_those<
         if socket.is_of_peer() != are_of_peers {
             continue;
         }
-        act_on(context, voter, folder, mesh, desk, clients, socket);
+        act_on(context, voter, folder, peers, desk, clients, socket);
     }
 }
 
@@ -113,7 +113,7 @@ fn act_on<R: Net + Clock + Eprint + AllocGlobal, T: Tape + Drop, F: NodeFolder<T
     context: &Context<'_, '_, R, N>,
     voter: &mut Voter<T>,
     folder: &mut F,
-    mesh: &mut Mesh<N>,
+    peers: &mut PeerConnections<N>,
     desk: &mut Desk<N>,
     clients: &mut Clients<T, N>,
     socket: Socket,
@@ -124,17 +124,17 @@ fn act_on<R: Net + Clock + Eprint + AllocGlobal, T: Tape + Drop, F: NodeFolder<T
 {
     match socket {
         Socket::Http => clients.accept(context),
-        Socket::Client(index) => clients.turn(context, index),
-        Socket::Listen => accept(context, voter, folder, mesh),
-        Socket::Dial(index) => call(context, voter, folder, mesh, index),
-        Socket::Inbound(index) => read_inbound(context, voter, folder, mesh, index),
+        Socket::Client(index) => clients.on_ready(context, index),
+        Socket::Listen => accept(context, voter, folder, peers),
+        Socket::Dial(index) => call(context, voter, folder, peers, index),
+        Socket::Inbound(index) => read_inbound(context, voter, folder, peers, index),
         Socket::Admin => desk.operators.accept(context),
-        Socket::Asker(index) => desk.operators.turn(context, index),
+        Socket::Operator(index) => desk.operators.on_ready(context, index),
         Socket::Readers => desk.readers.accept(context),
         Socket::Reader(index) => {
             // nothing of the node can change by it
             let history = voter.process.node().history();
-            desk.answer_reader(context, history, &mut mesh.notes, index);
+            desk.answer_reader(context, history, &mut peers.table, index);
         }
     }
 }
@@ -144,12 +144,12 @@ fn act_on<R: Net + Clock + Eprint + AllocGlobal, T: Tape + Drop, F: NodeFolder<T
 fn handle_all_own<R: Clock + Eprint + AllocGlobal, T: Tape + Drop, N: Network>(
     context: &Context<'_, '_, R, N>,
     voter: &mut Voter<T>,
-    mesh: &mut Mesh<N>,
+    peers: &mut PeerConnections<N>,
 )
     ensures { Continues T.Tape voter.old voter.new }
 {
     for _ in 0..MOST_OWN {
-        if !handle_next_own(context, voter, mesh) {
+        if !handle_next_own(context, voter, peers) {
             return;
         }
     }
@@ -161,16 +161,16 @@ fn handle_all_own<R: Clock + Eprint + AllocGlobal, T: Tape + Drop, N: Network>(
 fn handle_next_own<R: Clock + Eprint + AllocGlobal, T: Tape + Drop, N: Network>(
     context: &Context<'_, '_, R, N>,
     voter: &mut Voter<T>,
-    mesh: &mut Mesh<N>,
+    peers: &mut PeerConnections<N>,
 ) -> bool
     ensures { Continues T.Tape voter.old voter.new }
 {
-    send_all(context, voter, mesh);
+    send_all(context, voter, peers);
     let from = micros(context.rt);
     if !handle_own(context.alloc(), voter) {
         return false;
     }
-    mesh.steps.add(from, micros(context.rt));
+    peers.steps.add(from, micros(context.rt));
     true
 }
 
@@ -179,7 +179,7 @@ fn handle_next_own<R: Clock + Eprint + AllocGlobal, T: Tape + Drop, N: Network>(
 fn serve_clients<R: Clock + Eprint + AllocGlobal, T: Tape + Drop, N: Network>(
     context: &Context<'_, '_, R, N>,
     voter: &mut Voter<T>,
-    mesh: &mut Mesh<N>,
+    peers: &mut PeerConnections<N>,
     clients: &mut Clients<T, N>,
 )
     ensures on { Continues T.Tape voter.old voter.new }
@@ -191,7 +191,7 @@ fn serve_clients<R: Clock + Eprint + AllocGlobal, T: Tape + Drop, N: Network>(
         voter.old.process voter.new.process }
 {
     for _ in 0..MOST_SERVED {
-        if !serve_next(context, voter, mesh, clients) {
+        if !serve_next(context, voter, peers, clients) {
             return;
         }
     }
@@ -203,7 +203,7 @@ fn serve_clients<R: Clock + Eprint + AllocGlobal, T: Tape + Drop, N: Network>(
 fn serve_next<R: Clock + Eprint + AllocGlobal, T: Tape + Drop, N: Network>(
     context: &Context<'_, '_, R, N>,
     voter: &mut Voter<T>,
-    mesh: &mut Mesh<N>,
+    peers: &mut PeerConnections<N>,
     clients: &mut Clients<T, N>,
 ) -> bool
     ensures on { Continues T.Tape voter.old voter.new }
@@ -217,8 +217,8 @@ fn serve_next<R: Clock + Eprint + AllocGlobal, T: Tape + Drop, N: Network>(
     let Some(index) = clients.answer_next(context, voter) else {
         return false;
     };
-    send_all(context, voter, mesh);
-    clients.turn(context, index);
+    send_all(context, voter, peers);
+    clients.on_ready(context, index);
     true
 }
 
@@ -226,26 +226,26 @@ fn serve_next<R: Clock + Eprint + AllocGlobal, T: Tape + Drop, N: Network>(
 pub(crate) fn answer_operators<R: Files + Clock + Eprint + AllocGlobal, T: Tape + Drop, N: Network>(
     context: &Context<'_, '_, R, N>,
     voter: &Voter<T>,
-    mesh: &mut Mesh<N>,
+    peers: &mut PeerConnections<N>,
     desk: &mut Desk<N>,
     clients: &Clients<T, N>,
     behind: &mut Behind,
 ) {
     let history = voter.process.node().history();
-    let is_behind = behind.judge(history.published().number() < mesh.latest(), context.time);
+    let is_behind = behind.judge(history.published().number() < peers.latest(), context.time);
     if desk.operators.waits() {
         // what was published in this turn has its digests too
-        mesh.notes.extend(history);
-        note_states(mesh, context.time);
-        tell_operators(context, voter, mesh, desk, clients, is_behind);
+        peers.table.extend(history);
+        note_states(peers, context.time);
+        tell_operators(context, voter, peers, desk, clients, is_behind);
     }
 }
 
 /// Notes which peers are heard, how many messages to them were posted and dropped, and how many
 /// bytes were written.
-fn note_states<N: Network>(mesh: &mut Mesh<N>, time: u64) {
-    for index in 0..mesh.dials.len() {
-        mesh.note_state(index, time);
+fn note_states<N: Network>(peers: &mut PeerConnections<N>, time: u64) {
+    for index in 0..peers.dials.len() {
+        peers.note_state(index, time);
     }
 }
 
@@ -253,7 +253,7 @@ fn note_states<N: Network>(mesh: &mut Mesh<N>, time: u64) {
 fn tell_operators<R: Files + Clock + Eprint + AllocGlobal, T: Tape + Drop, N: Network>(
     context: &Context<'_, '_, R, N>,
     voter: &Voter<T>,
-    mesh: &mut Mesh<N>,
+    peers: &mut PeerConnections<N>,
     desk: &mut Desk<N>,
     clients: &Clients<T, N>,
     is_behind: bool,
@@ -272,5 +272,5 @@ fn tell_operators<R: Files + Clock + Eprint + AllocGlobal, T: Tape + Drop, N: Ne
         unkept: process.cache().unkept(),
         clients: clients.visitors().taken_slots(),
     };
-    mesh.answer_operators(context, desk, &view, is_behind);
+    peers.answer_operators(context, desk, &view, is_behind);
 }

@@ -1,5 +1,5 @@
 //! What a node goes by while its process runs, and its peers' connections too: words that
-//! `wf_voter` and `wf_mesh` share, which are proved side by side.
+//! `wf_voter` and `wf_peer_connections` share, which are proved side by side.
 //!
 //! - [`Membership`] is what it goes by of replacements, constant for a run; [`Gate`] says whether
 //!   it acts.
@@ -9,8 +9,8 @@
 //! **Promises.** An error names the file that is the cause, if a file is
 //! (`specs/FolderErrors.antt`).
 //!
-//! **Doesn't.** When a node acts is decided in `wf_mesh`, and what follows from that is said in
-//! `wf_voter`. What is counted has no clause.
+//! **Doesn't.** When a node acts is decided in `wf_peer_connections`, and what follows from that is
+//! said in `wf_voter`. What is counted has no clause.
 #![tactic(auto)]
 
 mod error_file;

@@ -3,8 +3,8 @@ use Rattle.std.proofs.Common.{◌≡◌, ◌∙◌, ℕ, List, [], ◌∷◌, �
 use Rattle.std.specs.Prelude.{Result, Ok, Err, OnErr, OnOk}
 use Rattle.wf_loop.specs.Process.{IsJustOpened, Actor, Process}
 use Rattle.wf_loop.specs.Continuation.{StaysInRun, besides_chosen, besides_questions}
-use Rattle.wf_loop.specs.Hub.{IsJoiner, OnlyLearns, process_of}
-use Rattle.wf_loop.specs.declared.hub.Hub.{Hub}
+use Rattle.wf_loop.specs.EventLoop.{IsJoiner, OnlyLearns, process_of}
+use Rattle.wf_loop.specs.declared.event_loop.EventLoop.{EventLoop}
 use Rattle.wf_loop.specs.NotReopened.{NotReopened}
 use Rattle.wf_node_command.specs.Learned.{HasOnlyLearned, HaveOnlyLearned, IsLearner, IsLearning}
 use Rattle.wf_sockets.specs.declared.connection.Connection.{Ghosts as Connection}
@@ -39,12 +39,12 @@ module _ {T : Type 0} (tapes : Tape T) where
     ended = subst (λ (runs : List (Actor T tapes × ℕ)). HaveOnlyLearned tapes runs) (sym first) no_runs;
   }
 
-  pub learner_at_first : {N C L : Type 0} {connections : Connection C} (hub : Hub T N C L tapes connections) (process : Process T tapes) → process_of hub ≡ process → IsJustOpened process → process.ended.items ≡ [] → IsJoiner hub
-      → IsLearner tapes hub
-  learner_at_first hub process same opened first joins = (joins, subst (λ (p : Process T tapes). HasOnlyLearned tapes p) (sym same) (begins process opened first))
+  pub learner_at_first : {N C L : Type 0} {connections : Connection C} (event_loop : EventLoop T N C L tapes connections) (process : Process T tapes) → process_of event_loop ≡ process → IsJustOpened process → process.ended.items ≡ [] → IsJoiner event_loop
+      → IsLearner tapes event_loop
+  learner_at_first event_loop process same opened first joins = (joins, subst (λ (p : Process T tapes). HasOnlyLearned tapes p) (sym same) (begins process opened first))
 
   -- a turn
-  pub learner_on : {N C L : Type 0} {connections : Connection C} (old new : Hub T N C L tapes connections) → StaysInRun tapes (process_of old) (process_of new) → (IsJoiner old → OnlyLearns old new) → IsLearner tapes old → IsLearner tapes new
+  pub learner_on : {N C L : Type 0} {connections : Connection C} (old new : EventLoop T N C L tapes connections) → StaysInRun tapes (process_of old) (process_of new) → (IsJoiner old → OnlyLearns old new) → IsLearner tapes old → IsLearner tapes new
   learner_on old new stays learns was =
       let only = learns was.0 in (
         only.joins,
@@ -55,7 +55,7 @@ module _ {T : Type 0} (tapes : Tape T) where
       )
 
   -- a tape that was opened again, or not
-  pub learner_reopened : {N C L : Type 0} {connections : Connection C} (old new : Hub T N C L tapes connections) (result : Result (Unit {0}) NotReopened) → (IsJoiner old → IsJoiner new) → OnOk result (IsJustOpened (process_of new))
+  pub learner_reopened : {N C L : Type 0} {connections : Connection C} (old new : EventLoop T N C L tapes connections) (result : Result (Unit {0}) NotReopened) → (IsJoiner old → IsJoiner new) → OnOk result (IsJustOpened (process_of new))
       → OnOk result ((process_of new).ended.items ≡ (process_of old).ended.items ++ ((process_of old).actor, 0) ∷ []) → OnErr result (process_of new ≡ process_of old) → IsLearner tapes old → IsLearner tapes new
   learner_reopened old new (Ok done) joins opened ended same was = (
     joins was.0,
@@ -66,5 +66,5 @@ module _ {T : Type 0} (tapes : Tape T) where
   )
   learner_reopened old new (Err why) joins opened ended same was = (joins was.0, subst (λ (p : Process T tapes). HasOnlyLearned tapes p) (sym same) was.1)
 
-  pub learner_still : {N C L : Type 0} {connections : Connection C} (hub : Hub T N C L tapes connections) → IsLearner tapes hub → IsLearner tapes hub
-  learner_still hub is = is
+  pub learner_still : {N C L : Type 0} {connections : Connection C} (event_loop : EventLoop T N C L tapes connections) → IsLearner tapes event_loop → IsLearner tapes event_loop
+  learner_still event_loop is = is

@@ -9,9 +9,9 @@ use Rattle.wf_folder.specs.NodeFile.{IsNodeFile}
 use Rattle.wf_line.specs.declared.node_line.NodeLine.{NodeLine}
 use Rattle.wf_loop.proofs.Earlier.{its_own}
 use Rattle.wf_loop.specs.Continuation.{AreHeardFrom, AreRunsHeardFrom, IsEarlier, KeepsEarlier}
-use Rattle.wf_loop.specs.Hub.{HasAnswered, IsHeardFirst, IsJoiner, IsOver, IsReopeningDue, kept_of, membership_of, process_of}
+use Rattle.wf_loop.specs.EventLoop.{HasAnswered, IsHeardFirst, IsJoiner, IsOver, IsReopeningDue, kept_of, membership_of, process_of}
 use Rattle.wf_loop.specs.Lived.{HasLived}
-use Rattle.wf_loop.specs.declared.hub.Hub.{Hub}
+use Rattle.wf_loop.specs.declared.event_loop.EventLoop.{EventLoop}
 use Rattle.wf_loop.specs.Membership.{membership_by}
 use Rattle.wf_membership.specs.declared.membership.Membership.{Membership}
 use Rattle.wf_loop.specs.LoopFault.{LoopFault}
@@ -64,20 +64,20 @@ module _ {T : Type 0} (tapes : Tape T) where
   kept_same before after same = λ past earlier. subst (λ (p : Process T tapes). IsEarlier tapes past p) (sym same) earlier
 
   -- it was time to open the tape of a halted node again
-  pub kept_due : {N C L : Type 0} {connections : Connection C} (hub : Hub T N C L tapes connections) (after : Process T tapes) (due : Bool) → (IsTrue due ↔ IsReopeningDue hub) → due ≡ true → ((process_of hub).actor.node.halted ≡ true → KeepsEarlier tapes (process_of hub) after)
-      → KeepsEarlier tapes (process_of hub) after
-  kept_due hub after due decides is keeps = keeps (decides.0 is).0
+  pub kept_due : {N C L : Type 0} {connections : Connection C} (event_loop : EventLoop T N C L tapes connections) (after : Process T tapes) (due : Bool) → (IsTrue due ↔ IsReopeningDue event_loop) → due ≡ true → ((process_of event_loop).actor.node.halted ≡ true → KeepsEarlier tapes (process_of event_loop) after)
+      → KeepsEarlier tapes (process_of event_loop) after
+  kept_due event_loop after due decides is keeps = keeps (decides.0 is).0
 
-  -- the hub's process, at whatever end, is a later moment of the one that it began with
-  pub lived_on : {N C L : Type 0} {connections : Connection C} (begun hub : Hub T N C L tapes connections) (plan : NodePlan) (calls : List Call) → HasLived tapes (process_of hub) → HasAnswered tapes hub
-      → KeepsEarlier tapes (process_of begun) (process_of hub) → IsHeardFirst (heard_in calls) hub → membership_of hub ≡ membership_by plan → (IsSome plan.joining → IsLearner tapes hub)
+  -- the event loop's process, at whatever end, is a later moment of the one that it began with
+  pub lived_on : {N C L : Type 0} {connections : Connection C} (begun event_loop : EventLoop T N C L tapes connections) (plan : NodePlan) (calls : List Call) → HasLived tapes (process_of event_loop) → HasAnswered tapes event_loop
+      → KeepsEarlier tapes (process_of begun) (process_of event_loop) → IsHeardFirst (heard_in calls) event_loop → membership_of event_loop ≡ membership_by plan → (IsSome plan.joining → IsLearner tapes event_loop)
       → HasLivedOn tapes (process_of begun) plan calls
-  lived_on begun hub plan calls lived answered keeps heard goes_by learns = record {
-    voter = hub.voter;
+  lived_on begun event_loop plan calls lived answered keeps heard goes_by learns = record {
+    voter = event_loop.voter;
     lived = lived;
-    befores = hub.clients.before.items;
-    clients = responses_of hub.clients.visitors;
-    afters = hub.clients.after.items;
+    befores = event_loop.clients.before.items;
+    clients = responses_of event_loop.clients.visitors;
+    afters = event_loop.clients.after.items;
     answered = answered.each;
     answering = answered.earlier;
     earlier = keeps (process_of begun) (its_own tapes (process_of begun));
@@ -87,24 +87,24 @@ module _ {T : Type 0} (tapes : Tape T) where
   }
 
   -- a node that is ready was served, as that of a folder that joins if it does
-  pub served_first : {N C L : Type 0} {connections : Connection C} (ready : ReadyNode T tapes) (hub held : Hub T N C L tapes connections) (old began new : List Call) → IsJustStarted tapes ready old → process_of hub ≡ ready.process → held ≡ hub
-      → (IsSome ready.plan.joining → IsJoiner hub) → membership_of hub ≡ membership_by ready.plan → began ≡ old
+  pub served_first : {N C L : Type 0} {connections : Connection C} (ready : ReadyNode T tapes) (event_loop held : EventLoop T N C L tapes connections) (old began new : List Call) → IsJustStarted tapes ready old → process_of event_loop ≡ ready.process → held ≡ event_loop
+      → (IsSome ready.plan.joining → IsJoiner event_loop) → membership_of event_loop ≡ membership_by ready.plan → began ≡ old
       → ((plan : NodePlan) → membership_of held ≡ membership_by plan → (IsSome plan.joining → IsLearner tapes held) → HasLivedOn tapes (process_of held) plan new) → ∥ StaysFrom began new ∥₁
       → IsNodeServed tapes ready.process ready.plan old new (Ok tt)
-  served_first {N} {C} {L} {connections} ready hub held old began new fresh same is joins goes_by stood on stays =
-      let held_is : process_of held ≡ ready.process = ap (λ (h : Hub T N C L tapes connections). process_of h) is ∙ same in
-      let held_joins : IsSome ready.plan.joining → IsJoiner held = λ some. subst (λ (h : Hub T N C L tapes connections). IsJoiner h) (sym is) (joins some) in
-      let held_by : membership_of held ≡ membership_by ready.plan = ap (λ (h : Hub T N C L tapes connections). membership_of h) is ∙ goes_by in
+  served_first {N} {C} {L} {connections} ready event_loop held old began new fresh same is joins goes_by stood on stays =
+      let held_is : process_of held ≡ ready.process = ap (λ (h : EventLoop T N C L tapes connections). process_of h) is ∙ same in
+      let held_joins : IsSome ready.plan.joining → IsJoiner held = λ some. subst (λ (h : EventLoop T N C L tapes connections). IsJoiner h) (sym is) (joins some) in
+      let held_by : membership_of held ≡ membership_by ready.plan = ap (λ (h : EventLoop T N C L tapes connections). membership_of h) is ∙ goes_by in
       let lived : HasLivedOn tapes (process_of held) ready.plan new =
       on ready.plan held_by (λ some. learner_at_first tapes held ready.process held_is fresh.begun fresh.first (held_joins some)) in (
         subst (λ (p : Process T tapes). HasLivedOn tapes p ready.plan new) held_is lived,
         subst (λ (calls : List Call). ∥ StaysFrom calls new ∥₁) stood stays,
       )
 
-  -- a hub that is over stays
-  pub over_still : {N C L : Type 0} {connections : Connection C} (first now next : Hub T N C L tapes connections) (over : Bool) → (IsTrue over ↔ IsOver now) → over ≡ false → (IsOver first → now ≡ first) → IsOver first → next ≡ first
+  -- an event loop that is over stays
+  pub over_still : {N C L : Type 0} {connections : Connection C} (first now next : EventLoop T N C L tapes connections) (over : Bool) → (IsTrue over ↔ IsOver now) → over ≡ false → (IsOver first → now ≡ first) → IsOver first → next ≡ first
   over_still {N} {C} {L} {connections} first now next over decides not same is =
-      absurd (false≢true (sym not ∙ decides.1 (subst (λ (h : Hub T N C L tapes connections). IsOver h) (sym (same is)) is)))
+      absurd (false≢true (sym not ∙ decides.1 (subst (λ (h : EventLoop T N C L tapes connections). IsOver h) (sym (same is)) is)))
 
   -- nothing was given to it yet, and what it heard is in the file
   none_given_yet : (known : List (Option HeardOfNode)) → AreHeardFrom known []
@@ -121,22 +121,22 @@ module _ {T : Type 0} (tapes : Tape T) where
   no_runs : (known : List (Option HeardOfNode)) (runs : List (Actor T tapes × ℕ)) → runs ≡ [] → AreRunsHeardFrom tapes known runs
   no_runs known runs none = subst (λ (xs : List (Actor T tapes × ℕ)). AreRunsHeardFrom tapes known xs) (sym none) (none_ended_yet known)
 
-  heard_at_first : {N C L : Type 0} {connections : Connection C} (ready : ReadyNode T tapes) (hub : Hub T N C L tapes connections) (calls : List Call) → IsJustStarted tapes ready calls → process_of hub ≡ ready.process → kept_of hub ≡ ready.heard
-      → IsHeardFirst (heard_in calls) hub
-  heard_at_first ready hub calls fresh same kept = record {
+  heard_at_first : {N C L : Type 0} {connections : Connection C} (ready : ReadyNode T tapes) (event_loop : EventLoop T N C L tapes connections) (calls : List Call) → IsJustStarted tapes ready calls → process_of event_loop ≡ ready.process → kept_of event_loop ≡ ready.heard
+      → IsHeardFirst (heard_in calls) event_loop
+  heard_at_first ready event_loop calls fresh same kept = record {
     known = fresh.known;
     text = fresh.heard;
     all = λ i m is. left_hears (heard_of fresh.known i) (latest_of ready.plan.replacements i) (heard_of ready.heard i) (fresh.left i) m (subst (λ (k : List (Option HeardOfNode)). IsHeardOf k i (view m)) kept is);
-    given = none_given (kept_of hub) (process_of hub).actor.given.items (ap (λ (p : Process T tapes). p.actor.given.items) same ∙ fresh.begun.given);
-    ended = no_runs (kept_of hub) (process_of hub).ended.items (ap (λ (p : Process T tapes). p.ended.items) same ∙ fresh.first);
+    given = none_given (kept_of event_loop) (process_of event_loop).actor.given.items (ap (λ (p : Process T tapes). p.actor.given.items) same ∙ fresh.begun.given);
+    ended = no_runs (kept_of event_loop) (process_of event_loop).ended.items (ap (λ (p : Process T tapes). p.ended.items) same ∙ fresh.first);
   }
 
-  -- so it is of the hub as it is held, and of the calls as the held folder has them
-  pub heard_at_start : {N C L : Type 0} {connections : Connection C} (ready : ReadyNode T tapes) (hub held : Hub T N C L tapes connections) (calls held_calls : List Call) → IsJustStarted tapes ready calls → process_of hub ≡ ready.process
-      → kept_of hub ≡ ready.heard → held ≡ hub → held_calls ≡ calls → IsHeardFirst (heard_in held_calls) held
-  heard_at_start {N} {C} {L} {connections} ready hub held calls held_calls fresh same kept is are =
-      subst (λ (h : Hub T N C L tapes connections). IsHeardFirst (heard_in held_calls) h) (sym is)
-      (subst (λ (cs : List Call). IsHeardFirst (heard_in cs) hub) (sym are) (heard_at_first ready hub calls fresh same kept))
+  -- so it is of the event loop as it is held, and of the calls as the held folder has them
+  pub heard_at_start : {N C L : Type 0} {connections : Connection C} (ready : ReadyNode T tapes) (event_loop held : EventLoop T N C L tapes connections) (calls held_calls : List Call) → IsJustStarted tapes ready calls → process_of event_loop ≡ ready.process
+      → kept_of event_loop ≡ ready.heard → held ≡ event_loop → held_calls ≡ calls → IsHeardFirst (heard_in held_calls) held
+  heard_at_start {N} {C} {L} {connections} ready event_loop held calls held_calls fresh same kept is are =
+      subst (λ (h : EventLoop T N C L tapes connections). IsHeardFirst (heard_in held_calls) h) (sym is)
+      (subst (λ (cs : List Call). IsHeardFirst (heard_in cs) event_loop) (sym are) (heard_at_first ready event_loop calls fresh same kept))
 
   heard_text : (bytes : Option (List ℕ)) (known : List (Option HeardOfNode)) → IsHeardIn bytes known → IsHeardText bytes known
   heard_text None known is = is

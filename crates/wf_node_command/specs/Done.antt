@@ -30,11 +30,11 @@ use Rattle.wf_tape.specs.declared.tape.Tape.{Ghosts as Tape}
 -- ---- node
 
 module _ {T : Type 0} (tapes : Tape T) where
-  -- The process has gone on in a hub, whose voter it is of at a later moment, and has lived; each
-  -- client was sent the response to exactly what had come of its request, by this process, as it
-  -- was before, which had lived so; and what any message of a peer that it was given tells of the
-  -- peer's round and promise is in the file `heard`. To its end it went by what its plan says of
-  -- replacements, and if its folder joins, it has only learned.
+  -- The process has gone on in an event loop, whose voter it is of at a later moment, and has
+  -- lived; each client was sent the response to exactly what had come of its request, by this
+  -- process, as it was before, which had lived so; and what any message of a peer that it was given
+  -- tells of the peer's round and promise is in the file `heard`. To its end it went by what its
+  -- plan says of replacements, and if its folder joins, it has only learned.
   pub record HasLivedOn (started : Process T tapes) (plan : NodePlan) (calls : List Call) : Type 0 where
     pub voter : Voter T tapes
     pub lived : HasLived tapes voter.process

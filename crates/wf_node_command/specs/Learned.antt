@@ -2,8 +2,8 @@
 use Rattle.std.specs.Prelude.{◌≡◌, ℕ, List, [], ◌∷◌}
 use Rattle.wf_loop.specs.Process.{Actor, Process}
 use Rattle.wf_loop.specs.Continuation.{besides_chosen, besides_questions}
-use Rattle.wf_loop.specs.Hub.{IsJoiner, process_of}
-use Rattle.wf_loop.specs.declared.hub.Hub.{Hub}
+use Rattle.wf_loop.specs.EventLoop.{IsJoiner, process_of}
+use Rattle.wf_loop.specs.declared.event_loop.EventLoop.{EventLoop}
 use Rattle.wf_sockets.specs.declared.connection.Connection.{Ghosts as Connection}
 use Rattle.wf_tape.specs.declared.tape.Tape.{Ghosts as Tape}
 use Rattle.wf_wire.specs.Post.{logged}
@@ -25,6 +25,6 @@ pub record HasOnlyLearned {T : Type 0} (tapes : Tape T) (process : Process T tap
   pub now : IsLearning tapes process.actor
   pub ended : HaveOnlyLearned tapes process.ended.items
 
--- the folder of a hub's process joins, and the process has only learned
-abbrev pub IsLearner : {T N C L : Type 0} (tapes : Tape T) {connections : Connection C} → Hub T N C L tapes connections → Type 0
-IsLearner tapes hub = IsJoiner hub × HasOnlyLearned tapes (process_of hub)
+-- the folder of an event loop's process joins, and the process has only learned
+abbrev pub IsLearner : {T N C L : Type 0} (tapes : Tape T) {connections : Connection C} → EventLoop T N C L tapes connections → Type 0
+IsLearner tapes event_loop = IsJoiner event_loop × HasOnlyLearned tapes (process_of event_loop)

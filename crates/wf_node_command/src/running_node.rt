@@ -3,7 +3,7 @@ ghost use Rattle.std.specs.Prelude.{◌≡◌, ◌≤◌, ◌↔◌, IfErr, IfOk
 ghost use Rattle.wf_folder.specs.NodeFile.{IsNodeFile};
 ghost use Rattle.wf_line.specs.NodeLine.{IsNodeInRange};
 ghost use Rattle.wf_loop.specs.Continuation.{KeepsEarlier};
-ghost use Rattle.wf_loop.specs.Hub.{HasAnswered, IsHeardFirst, IsOver, kept_of, membership_of, process_of, taken_in_by};
+ghost use Rattle.wf_loop.specs.EventLoop.{HasAnswered, IsHeardFirst, IsOver, kept_of, membership_of, process_of, taken_in_by};
 ghost use Rattle.wf_loop.specs.Lived.{HasLived};
 ghost use Rattle.wf_loop.specs.Membership.{membership_by};
 ghost use Rattle.wf_node_folder.specs.Fault.{IsFromSystem};
@@ -20,16 +20,16 @@ use std::rt::Files;
 use std::time::Clock;
 use wf_folder::NodeFile;
 use wf_line::NodeLine;
-use wf_loop::{Hub, Log, NodeEvent, NodeFolder, Process};
+use wf_loop::{EventLoop, Log, NodeEvent, NodeFolder, Process};
 use wf_node_folder::{CommandFault, HeldFolder, ReadyNode, start_node};
 use wf_sockets::{Network, SystemNetwork};
 use wf_store::Store;
 use wf_tape::Tape;
 
 /// A node that runs on its folder, which it has locked, over a network: its caller waits for
-/// sockets and steps it. A clause sees its hub and its folder.
+/// sockets and steps it. A clause sees its event loop and its folder.
 pub struct RunningNode<S: Store, N: Network = SystemNetwork> {
-    hub: Hub<S::Tape, N>,
+    event_loop: EventLoop<S::Tape, N>,
     folder: HeldFolder<S>,
 }
 
@@ -51,13 +51,14 @@ impl<S: Store, N: Network + Drop> RunningNode<S, N> {
         time: u64,
     ) -> Result<Self, (CommandFault, S)>
         requires { IsNodeInRange line.now }
-        ensures running { IfOk result (λ node. IsRunning S.Tape.Tape line.now (process_of node.hub)
-            (kept_of node.hub) (membership_of node.hub) (S.calls store)
+        ensures running { IfOk result (λ node.
+            IsRunning S.Tape.Tape line.now (process_of node.event_loop)
+            (kept_of node.event_loop) (membership_of node.event_loop) (S.calls store)
             (S.calls node.folder.running.store)) }
         ensures began { IfOk result (λ node. calls_in S.calls node.folder.running.began.items ≡
             S.calls node.folder.running.store) }
         ensures heard { IfOk result (λ node.
-            IsHeardFirst (heard_in (S.calls node.folder.running.store)) node.hub) }
+            IsHeardFirst (heard_in (S.calls node.folder.running.store)) node.event_loop) }
         ensures fault { IfErr result (λ failed.
             IsNodeFault line.now (S.calls store) (S.calls failed.1) failed.0) }
     {
@@ -79,14 +80,15 @@ impl<S: Store, N: Network + Drop> RunningNode<S, N> {
     ) -> Result<Self, (CommandFault, S)>
         requires file { IsNodeFile ready.file }
         requires fresh { IsJustStarted S.Tape.Tape ready (S.calls store) }
-        ensures process { IfOk result (λ node. process_of node.hub ≡ ready.process) }
-        ensures kept { IfOk result (λ node. kept_of node.hub ≡ ready.heard) }
+        ensures process { IfOk result (λ node. process_of node.event_loop ≡ ready.process) }
+        ensures kept { IfOk result (λ node. kept_of node.event_loop ≡ ready.heard) }
         ensures membership { IfOk result (λ node.
-            membership_of node.hub ≡ membership_by ready.plan) }
+            membership_of node.event_loop ≡ membership_by ready.plan) }
         ensures same { IfOk result (λ node. S.calls node.folder.running.store ≡ S.calls store) }
         ensures began { IfOk result (λ node. calls_in S.calls node.folder.running.began.items ≡
             S.calls store) }
-        ensures heard { IfOk result (λ node. IsHeardFirst (heard_in (S.calls store)) node.hub) }
+        ensures heard { IfOk result (λ node.
+            IsHeardFirst (heard_in (S.calls store)) node.event_loop) }
         ensures fault { IfErr result (λ failed. IsFromSystem failed.0) }
         ensures left { IfErr result (λ failed. S.calls failed.1 ≡ S.calls store) }
     {
@@ -97,56 +99,61 @@ impl<S: Store, N: Network + Drop> RunningNode<S, N> {
             file,
         } = ready;
         let listen = plan.listen;
-        match Hub::on(rt, network, plan, process, heard, time) {
-            Ok(hub) => {
-                log_begun(&Log::new(rt, line.log), &hub, &file, listen);
-                Ok(RunningNode::of(rt.alloc(), hub, store, file))
+        match EventLoop::on(rt, network, plan, process, heard, time) {
+            Ok(event_loop) => {
+                log_begun(&Log::new(rt, line.log), &event_loop, &file, listen);
+                Ok(RunningNode::of(rt.alloc(), event_loop, store, file))
             }
             Err(fault) => Err((CommandFault::Loop(fault), store)),
         }
     }
 
-    /// The node of a hub, on the folder whose file was written last so.
-    pub(crate) fn of(alloc: Global, hub: Hub<S::Tape, N>, store: S, file: NodeFile) -> Self
+    /// The node of an event loop, on the folder whose file was written last so.
+    pub(crate) fn of(
+        alloc: Global,
+        event_loop: EventLoop<S::Tape, N>,
+        store: S,
+        file: NodeFile,
+    ) -> Self
         requires { IsNodeFile file }
-        ensures hub { result.hub ≡ hub }
+        ensures event_loop { result.event_loop ≡ event_loop }
         ensures same { S.calls result.folder.running.store ≡ S.calls store }
         ensures began { calls_in S.calls result.folder.running.began.items ≡ S.calls store }
     {
         RunningNode {
-            hub,
+            event_loop,
             folder: HeldFolder::new(alloc, store, file),
         }
     }
 
     /// How many messages the node took in since it was started, its own too. It saturates.
     pub fn message_count(&self) -> u64
-        ensures { result ≡ taken_in_by self.now.hub }
+        ensures { result ≡ taken_in_by self.now.event_loop }
     {
-        self.hub.message_count()
+        self.event_loop.message_count()
     }
 
     /// The node's process.
     pub fn process(&self) -> &Process<S::Tape>
-        ensures { result.now ≡ process_of self.now.hub }
+        ensures { result.now ≡ process_of self.now.event_loop }
     {
-        self.hub.process()
+        self.event_loop.process()
     }
 
     /// The life of the node and what clients were answered, always. The call does nothing.
     pub fn always_lived(&self)
-        ensures lived { HasLived S.Tape.Tape (process_of self.now.hub) }
-        ensures answered { HasAnswered S.Tape.Tape self.now.hub }
+        ensures lived { HasLived S.Tape.Tape (process_of self.now.event_loop) }
+        ensures answered { HasAnswered S.Tape.Tape self.now.event_loop }
     {
-        self.hub.always_lived();
+        self.event_loop.always_lived();
     }
 
     /// Whether what its process wrote is for the next start of its folder: it is given nothing any
     /// more, and is to end without an error.
     pub fn is_over(&self) -> bool
-        ensures { IsTrue result ↔ IsOver self.now.hub }
+        ensures { IsTrue result ↔ IsOver self.now.event_loop }
     {
-        self.hub.is_over()
+        self.event_loop.is_over()
     }
 
     /// For how long the next turn may be waited for at most where no socket is ready, in
@@ -154,13 +161,13 @@ impl<S: Store, N: Network + Drop> RunningNode<S, N> {
     pub fn patience(&self, time: u64) -> u64
         ensures { result ≤ 100 }
     {
-        self.hub.patience(time)
+        self.event_loop.patience(time)
     }
 
     /// One turn, at this time in milliseconds, for the sockets with these tokens, which may be
     /// ready; it waits for nothing. Where the tape has failed, it is opened again once that is due.
     #[tactic(auto, using(crate::proofs::Learned::learner_on, crate::proofs::Served::kept_still))]
-    pub fn turn<R: Files<File = File> + Clock + Eprint + Net + AllocGlobal>(
+    pub fn run_once<R: Files<File = File> + Clock + Eprint + Net + AllocGlobal>(
         &mut self,
         rt: &R,
         log: &Log<'_, R>,
@@ -169,27 +176,28 @@ impl<S: Store, N: Network + Drop> RunningNode<S, N> {
     )
         // Whatever came, the node has lived by its acts, was given only what receivers returned,
         // and sent only what it returned.
-        ensures lived { HasLived S.Tape.Tape (process_of self.new.hub) }
+        ensures lived { HasLived S.Tape.Tape (process_of self.new.event_loop) }
         // Each client was sent the response to exactly what had come of its request, by this
         // process as it then was.
-        ensures answered { HasAnswered S.Tape.Tape self.new.hub }
+        ensures answered { HasAnswered S.Tape.Tape self.new.event_loop }
         // It goes on in its run, or its run has ended and another began.
-        ensures earlier { KeepsEarlier S.Tape.Tape (process_of self.old.hub)
-            (process_of self.new.hub) }
+        ensures earlier { KeepsEarlier S.Tape.Tape (process_of self.old.event_loop)
+            (process_of self.new.event_loop) }
         // What it goes by of replacements stays, whatever it was told.
-        ensures membership { membership_of self.new.hub ≡ membership_of self.old.hub }
+        ensures membership { membership_of self.new.event_loop ≡ membership_of self.old.event_loop }
         // If its folder joins, it goes on learning: it doesn't vote.
-        ensures learns { IsLearner S.Tape.Tape self.old.hub → IsLearner S.Tape.Tape self.new.hub }
+        ensures learns { IsLearner S.Tape.Tape self.old.event_loop →
+            IsLearner S.Tape.Tape self.new.event_loop }
         ensures began { calls_in S.calls self.new.folder.running.began.items ≡
             calls_in S.calls self.old.folder.running.began.items }
         ensures heard { IsHeardFirst
-            (heard_in (S.calls self.old.folder.running.store)) self.old.hub →
-            IsHeardFirst (heard_in (S.calls self.new.folder.running.store)) self.new.hub }
+            (heard_in (S.calls self.old.folder.running.store)) self.old.event_loop →
+            IsHeardFirst (heard_in (S.calls self.new.folder.running.store)) self.new.event_loop }
     {
-        let RunningNode { hub, folder } = self;
-        hub.turn(rt, log, folder, ready, time);
-        reopen_if_due(rt, log, hub, folder);
-        hub.always_lived();
+        let RunningNode { event_loop, folder } = self;
+        event_loop.run_once(rt, log, folder, ready, time);
+        reopen_if_due(rt, log, event_loop, folder);
+        event_loop.always_lived();
     }
 
     /// Ends the node. Its folder is handed back, unlocked where it is dropped: no tape of it was
@@ -199,8 +207,8 @@ impl<S: Store, N: Network + Drop> RunningNode<S, N> {
         ensures stays { ∥ StaysFrom (calls_in S.calls self.folder.running.began.items)
             (S.calls result) ∥₁ }
     {
-        let RunningNode { hub, folder } = self;
-        drop(hub);
+        let RunningNode { event_loop, folder } = self;
+        drop(event_loop);
         folder.close()
     }
 }
@@ -208,40 +216,41 @@ impl<S: Store, N: Network + Drop> RunningNode<S, N> {
 impl<S: Store> RunningNode<S> {
     /// One turn over the network of the system, for which it waits.
     #[tactic(auto, using(crate::proofs::Learned::learner_on, crate::proofs::Served::kept_still))]
-    pub(crate) fn go_on<R: Files<File = File> + Clock + Eprint + Net + AllocGlobal>(
+    pub(crate) fn wait_and_run<R: Files<File = File> + Clock + Eprint + Net + AllocGlobal>(
         &mut self,
         rt: &R,
         log: &Log<'_, R>,
     )
-        ensures earlier { KeepsEarlier S.Tape.Tape (process_of self.old.hub)
-            (process_of self.new.hub) }
-        ensures membership { membership_of self.new.hub ≡ membership_of self.old.hub }
-        ensures learns { IsLearner S.Tape.Tape self.old.hub → IsLearner S.Tape.Tape self.new.hub }
+        ensures earlier { KeepsEarlier S.Tape.Tape (process_of self.old.event_loop)
+            (process_of self.new.event_loop) }
+        ensures membership { membership_of self.new.event_loop ≡ membership_of self.old.event_loop }
+        ensures learns { IsLearner S.Tape.Tape self.old.event_loop →
+            IsLearner S.Tape.Tape self.new.event_loop }
         ensures began { calls_in S.calls self.new.folder.running.began.items ≡
             calls_in S.calls self.old.folder.running.began.items }
         ensures heard { IsHeardFirst
-            (heard_in (S.calls self.old.folder.running.store)) self.old.hub →
-            IsHeardFirst (heard_in (S.calls self.new.folder.running.store)) self.new.hub }
+            (heard_in (S.calls self.old.folder.running.store)) self.old.event_loop →
+            IsHeardFirst (heard_in (S.calls self.new.folder.running.store)) self.new.event_loop }
     {
-        let RunningNode { hub, folder } = self;
-        hub.go_on(rt, log, folder);
-        reopen_if_due(rt, log, hub, folder);
+        let RunningNode { event_loop, folder } = self;
+        event_loop.wait_and_run(rt, log, folder);
+        reopen_if_due(rt, log, event_loop, folder);
     }
 }
 
 /// Logs where the node listens, and how far it is.
 pub(crate) fn log_begun<R: Clock + Eprint, T: Tape + Drop, N: Network + Drop>(
     log: &Log<'_, R>,
-    hub: &Hub<T, N>,
+    event_loop: &EventLoop<T, N>,
     file: &NodeFile,
     listen: SocketAddr,
 ) {
-    if let Some(http) = hub.http() {
+    if let Some(http) = event_loop.http() {
         log.write(&NodeEvent::Listening { http, listen });
     }
     log.write(&NodeEvent::Opened {
         node: file.node as usize,
-        published: hub.process().node().published().number(),
+        published: event_loop.process().node().published().number(),
     });
 }
 
@@ -252,15 +261,15 @@ fn reopen_if_due<
     T: Tape + Drop,
     F: NodeFolder<T>,
     N: Network + Drop,
->(rt: &R, log: &Log<'_, R>, hub: &mut Hub<T, N>, folder: &mut F)
-    ensures earlier { KeepsEarlier T.Tape (process_of hub.old) (process_of hub.new) }
-    ensures membership { membership_of hub.new ≡ membership_of hub.old }
-    ensures learns { IsLearner T.Tape hub.old → IsLearner T.Tape hub.new }
+>(rt: &R, log: &Log<'_, R>, event_loop: &mut EventLoop<T, N>, folder: &mut F)
+    ensures earlier { KeepsEarlier T.Tape (process_of event_loop.old) (process_of event_loop.new) }
+    ensures membership { membership_of event_loop.new ≡ membership_of event_loop.old }
+    ensures learns { IsLearner T.Tape event_loop.old → IsLearner T.Tape event_loop.new }
     ensures begun { (F.stands folder.new).begun ≡ (F.stands folder.old).begun }
-    ensures heard { IsHeardFirst (F.stands folder.old).heard hub.old →
-        IsHeardFirst (F.stands folder.new).heard hub.new }
+    ensures heard { IsHeardFirst (F.stands folder.old).heard event_loop.old →
+        IsHeardFirst (F.stands folder.new).heard event_loop.new }
 {
-    if hub.is_reopening_due() {
-        let _ = hub.reopen(rt, log, folder);
+    if event_loop.is_reopening_due() {
+        let _ = event_loop.reopen(rt, log, folder);
     }
 }

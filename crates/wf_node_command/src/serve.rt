@@ -2,7 +2,7 @@
 ghost use Rattle.std.specs.Prelude.{◌≡◌, IsSome};
 ghost use Rattle.wf_folder.specs.NodeFile.{IsNodeFile};
 ghost use Rattle.wf_loop.specs.Continuation.{KeepsEarlier};
-ghost use Rattle.wf_loop.specs.Hub.{HasAnswered, IsHeardFirst, IsOver, membership_of, process_of};
+ghost use Rattle.wf_loop.specs.EventLoop.{HasAnswered, IsHeardFirst, IsOver, membership_of, process_of};
 ghost use Rattle.wf_loop.specs.Lived.{HasLived};
 ghost use Rattle.wf_loop.specs.Membership.{membership_by};
 ghost use Rattle.wf_loop.specs.NodePlan.{NodePlan as NodePlanValue};
@@ -17,7 +17,7 @@ use std::net::Net;
 use std::rt::Files;
 use std::time::Clock;
 use wf_line::NodeLine;
-use wf_loop::{Hub, Log};
+use wf_loop::{EventLoop, Log};
 use wf_node_folder::{CommandFault, ReadyNode};
 use wf_store::Store;
 
@@ -44,10 +44,10 @@ pub(crate) fn serve<R: Files<File = File> + Clock + Eprint + Net + AllocGlobal, 
     } = ready;
     let log = Log::new(rt, line.log);
     let listen = plan.listen;
-    match Hub::new(rt, plan, process, heard) {
-        Ok(hub) => {
-            log_begun(&log, &hub, &file, listen);
-            let node = RunningNode::of(rt.alloc(), hub, store, file);
+    match EventLoop::new(rt, plan, process, heard) {
+        Ok(event_loop) => {
+            log_begun(&log, &event_loop, &file, listen);
+            let node = RunningNode::of(rt.alloc(), event_loop, store, file);
             (Ok(()), take_turns(rt, &log, node, turns))
         }
         Err(fault) => (Err(CommandFault::Loop(fault)), store),
@@ -62,21 +62,21 @@ fn take_turns<R: Files<File = File> + Clock + Eprint + Net + AllocGlobal, S: Sto
     node: RunningNode<S>,
     turns: u64,
 ) -> S
-    requires heard { IsHeardFirst (heard_in (S.calls node.folder.running.store)) node.hub }
-    ensures on { (plan : NodePlanValue) → membership_of node.hub ≡ membership_by plan →
-        (IsSome plan.joining → IsLearner S.Tape.Tape node.hub) →
-        HasLivedOn S.Tape.Tape (process_of node.hub) plan (S.calls result) }
+    requires heard { IsHeardFirst (heard_in (S.calls node.folder.running.store)) node.event_loop }
+    ensures on { (plan : NodePlanValue) → membership_of node.event_loop ≡ membership_by plan →
+        (IsSome plan.joining → IsLearner S.Tape.Tape node.event_loop) →
+        HasLivedOn S.Tape.Tape (process_of node.event_loop) plan (S.calls result) }
     ensures stays { ∥ StaysFrom (calls_in S.calls node.folder.running.began.items)
         (S.calls result) ∥₁ }
 {
     let mut node = node;
-    go_on(rt, log, &mut node, turns);
+    run_turns(rt, log, &mut node, turns);
     node.close()
 }
 
 /// Takes that many turns of a node, or those until its process is over.
 #[tactic(auto, using(crate::proofs::Learned::learner_still, crate::proofs::Served::kept_still))]
-fn go_on<R: Files<File = File> + Clock + Eprint + Net + AllocGlobal, S: Store>(
+fn run_turns<R: Files<File = File> + Clock + Eprint + Net + AllocGlobal, S: Store>(
     rt: &R,
     log: &Log<'_, R>,
     node: &mut RunningNode<S>,
@@ -84,29 +84,31 @@ fn go_on<R: Files<File = File> + Clock + Eprint + Net + AllocGlobal, S: Store>(
 )
     // Whatever came in however many turns, the node has lived by its acts, was given only what
     // receivers returned, and sent only what it returned.
-    ensures lived { HasLived S.Tape.Tape (process_of node.new.hub) }
+    ensures lived { HasLived S.Tape.Tape (process_of node.new.event_loop) }
     // Each client was sent the response to exactly what had come of its request, by this process as
     // it then was.
-    ensures answered { HasAnswered S.Tape.Tape node.new.hub }
+    ensures answered { HasAnswered S.Tape.Tape node.new.event_loop }
     // It goes on in its run, or its run has ended and others began.
-    ensures earlier { KeepsEarlier S.Tape.Tape (process_of node.old.hub)
-        (process_of node.new.hub) }
+    ensures earlier { KeepsEarlier S.Tape.Tape (process_of node.old.event_loop)
+        (process_of node.new.event_loop) }
     // What it goes by of replacements stays.
-    ensures membership { membership_of node.new.hub ≡ membership_of node.old.hub }
+    ensures membership { membership_of node.new.event_loop ≡ membership_of node.old.event_loop }
     // If its folder joins, it goes on learning.
-    ensures learns { IsLearner S.Tape.Tape node.old.hub → IsLearner S.Tape.Tape node.new.hub }
+    ensures learns { IsLearner S.Tape.Tape node.old.event_loop →
+        IsLearner S.Tape.Tape node.new.event_loop }
     // One that is over takes no turn.
-    ensures over { IsOver node.old.hub → node.new.hub ≡ node.old.hub }
+    ensures over { IsOver node.old.event_loop → node.new.event_loop ≡ node.old.event_loop }
     ensures began { calls_in S.calls node.new.folder.running.began.items ≡
         calls_in S.calls node.old.folder.running.began.items }
-    ensures heard { IsHeardFirst (heard_in (S.calls node.old.folder.running.store)) node.old.hub →
-        IsHeardFirst (heard_in (S.calls node.new.folder.running.store)) node.new.hub }
+    ensures heard { IsHeardFirst (heard_in (S.calls node.old.folder.running.store))
+        node.old.event_loop →
+        IsHeardFirst (heard_in (S.calls node.new.folder.running.store)) node.new.event_loop }
 {
     for _ in 0..turns {
         if node.is_over() {
             break;
         }
-        node.go_on(rt, log);
+        node.wait_and_run(rt, log);
     }
     node.always_lived();
 }

@@ -33,8 +33,8 @@ use Rattle.wf_rejoin.specs.declared.joining.Joining.{Joining}
 use Rattle.wf_rejoin.specs.declared.joining.Stage.TheVariants.{Unasked}
 use Rattle.wf_rejoin.specs.declared.replacement.Replacement.{Replacement}
 use Rattle.wf_store.specs.Call.{Call, OnlyReads, changes, drawn, is_change, locked, replaced, unreplaced}
-use Rattle.wf_store.specs.declared.deed.Deed.{Deed}
-use Rattle.wf_store.specs.declared.deed.Deed.TheVariants as deeds
+use Rattle.wf_store.specs.declared.call_kind.CallKind.{CallKind}
+use Rattle.wf_store.specs.declared.call_kind.CallKind.TheVariants as kinds
 use Rattle.wf_store.specs.declared.file_name.FileName.{FileName}
 use Rattle.wf_store.specs.declared.file_name.FileName.TheVariants.{Farm, Heard, Joins, NodeTape, Replaced, ReplicaTape}
 use Rattle.wf_tape.specs.declared.tape.Tape.{Ghosts as Tape}
@@ -81,48 +81,48 @@ module _ (file : FileName) (none : is_tape file ≡ false) (before : List ℕ �
     | inr was ↦ sound image was
   ]
 
-  left_in : (deed : Deed) (bytes : Option (List ℕ)) (image : List ℕ) → IsSoundCall deed bytes → IsLeftIn deed bytes file before image → IsLeft file image
-  left_in (deeds.Replaces named) bytes image call left = put_sound named bytes image call left
-  left_in (deeds.FailsAt named) bytes image call left = put_sound named bytes image call left
-  left_in (deeds.Opens named) bytes image call left = opened_sound named image call left
-  left_in (deeds.OpensExisting named) bytes image call left = opened_sound named image call left
-  left_in deeds.Makes bytes image call left = sound image left
-  left_in deeds.Locks bytes image call left = sound image left
-  left_in (deeds.Compares same) bytes image call left = sound image left
-  left_in (deeds.Counts count) bytes image call left = sound image left
-  left_in (deeds.Draws bits) bytes image call left = sound image left
-  left_in (deeds.Sees named there) bytes image call left = sound image left
-  left_in (deeds.Measures named length) bytes image call left = sound image left
-  left_in (deeds.Reads named) bytes image call left = sound image left
-  left_in deeds.Fails bytes image call left = sound image left
+  left_in : (kind : CallKind) (bytes : Option (List ℕ)) (image : List ℕ) → IsSoundCall kind bytes → IsLeftIn kind bytes file before image → IsLeft file image
+  left_in (kinds.Replaces named) bytes image call left = put_sound named bytes image call left
+  left_in (kinds.FailsAt named) bytes image call left = put_sound named bytes image call left
+  left_in (kinds.Opens named) bytes image call left = opened_sound named image call left
+  left_in (kinds.OpensExisting named) bytes image call left = opened_sound named image call left
+  left_in kinds.Makes bytes image call left = sound image left
+  left_in kinds.Locks bytes image call left = sound image left
+  left_in (kinds.Compares same) bytes image call left = sound image left
+  left_in (kinds.Counts count) bytes image call left = sound image left
+  left_in (kinds.Draws bits) bytes image call left = sound image left
+  left_in (kinds.Sees named there) bytes image call left = sound image left
+  left_in (kinds.Measures named length) bytes image call left = sound image left
+  left_in (kinds.Reads named) bytes image call left = sound image left
+  left_in kinds.Fails bytes image call left = sound image left
 
-  left_by : (deed : Deed) (bytes : Option (List ℕ)) (image : List ℕ) → IsSoundCall deed bytes → IsCutAfter deed bytes file before image → IsLeft file image
-  left_by (deeds.Replaces named) bytes image call left = put_whole named bytes image call left
-  left_by (deeds.FailsAt named) bytes image call left = put_sound named bytes image call left
-  left_by (deeds.Opens named) bytes image call left = opened_sound named image call left
-  left_by (deeds.OpensExisting named) bytes image call left = opened_sound named image call left
-  left_by deeds.Makes bytes image call left = sound image left
-  left_by deeds.Locks bytes image call left = sound image left
-  left_by (deeds.Compares same) bytes image call left = sound image left
-  left_by (deeds.Counts count) bytes image call left = sound image left
-  left_by (deeds.Draws bits) bytes image call left = sound image left
-  left_by (deeds.Sees named there) bytes image call left = sound image left
-  left_by (deeds.Measures named length) bytes image call left = sound image left
-  left_by (deeds.Reads named) bytes image call left = sound image left
-  left_by deeds.Fails bytes image call left = sound image left
+  left_by : (kind : CallKind) (bytes : Option (List ℕ)) (image : List ℕ) → IsSoundCall kind bytes → IsCutAfter kind bytes file before image → IsLeft file image
+  left_by (kinds.Replaces named) bytes image call left = put_whole named bytes image call left
+  left_by (kinds.FailsAt named) bytes image call left = put_sound named bytes image call left
+  left_by (kinds.Opens named) bytes image call left = opened_sound named image call left
+  left_by (kinds.OpensExisting named) bytes image call left = opened_sound named image call left
+  left_by kinds.Makes bytes image call left = sound image left
+  left_by kinds.Locks bytes image call left = sound image left
+  left_by (kinds.Compares same) bytes image call left = sound image left
+  left_by (kinds.Counts count) bytes image call left = sound image left
+  left_by (kinds.Draws bits) bytes image call left = sound image left
+  left_by (kinds.Sees named there) bytes image call left = sound image left
+  left_by (kinds.Measures named length) bytes image call left = sound image left
+  left_by (kinds.Reads named) bytes image call left = sound image left
+  left_by kinds.Fails bytes image call left = sound image left
 
 -- ---- all calls
 
 may_leave : (file : FileName) → is_tape file ≡ false → (calls : List Call) → AreSoundCalls calls → (image : List ℕ) → MayLeaveNow calls file image → IsLeft file image
 unfolding MayLeaveNow
 may_leave file none [] are image left = inl left
-may_leave file none (call ∷ earlier) are image left = left_by file none (MayLeaveNow earlier file) (may_leave file none earlier are.1) call.deed call.bytes image are.0 left
+may_leave file none (call ∷ earlier) are image left = left_by file none (MayLeaveNow earlier file) (may_leave file none earlier are.1) call.kind call.bytes image are.0 left
 
 pub files_are_whole : FilesAreWhole
 unfolding CouldLeave
 files_are_whole [] are images left file none = inl (left file)
 files_are_whole (call ∷ earlier) are images left file none = elim left [
-  | inl here ↦ left_in file none (MayLeaveNow earlier file) (may_leave file none earlier are.1) call.deed call.bytes (images file) are.0 (here file)
+  | inl here ↦ left_in file none (MayLeaveNow earlier file) (may_leave file none earlier are.1) call.kind call.bytes (images file) are.0 (here file)
   | inr before ↦ files_are_whole earlier are.1 images before file none
 ]
 
@@ -171,24 +171,24 @@ text_sound ReplicaTape text calls may = tt
 put_soundly : (file : FileName) (bytes : Option (List ℕ)) (calls : List Call) → IsPutSoundly file bytes calls → IsSoundGiven file bytes
 put_soundly file bytes calls put = subst (IsSoundGiven file) (sym put.is) (text_sound file put.text calls put.may)
 
-is_sound_call : (deed : Deed) (bytes : Option (List ℕ)) (calls : List Call) → IsJoinedSoundly deed bytes calls → IsSoundCall deed bytes
-is_sound_call (deeds.Replaces file) bytes calls sound = put_soundly file bytes calls sound
-is_sound_call (deeds.FailsAt file) bytes calls sound = put_soundly file bytes calls sound
-is_sound_call (deeds.Opens file) bytes calls sound = sound
-is_sound_call (deeds.OpensExisting file) bytes calls sound = sound
-is_sound_call deeds.Makes bytes calls sound = tt
-is_sound_call deeds.Locks bytes calls sound = tt
-is_sound_call (deeds.Compares same) bytes calls sound = tt
-is_sound_call (deeds.Counts count) bytes calls sound = tt
-is_sound_call (deeds.Draws bits) bytes calls sound = tt
-is_sound_call (deeds.Sees file there) bytes calls sound = tt
-is_sound_call (deeds.Measures file length) bytes calls sound = tt
-is_sound_call (deeds.Reads file) bytes calls sound = tt
-is_sound_call deeds.Fails bytes calls sound = tt
+is_sound_call : (kind : CallKind) (bytes : Option (List ℕ)) (calls : List Call) → IsJoinedSoundly kind bytes calls → IsSoundCall kind bytes
+is_sound_call (kinds.Replaces file) bytes calls sound = put_soundly file bytes calls sound
+is_sound_call (kinds.FailsAt file) bytes calls sound = put_soundly file bytes calls sound
+is_sound_call (kinds.Opens file) bytes calls sound = sound
+is_sound_call (kinds.OpensExisting file) bytes calls sound = sound
+is_sound_call kinds.Makes bytes calls sound = tt
+is_sound_call kinds.Locks bytes calls sound = tt
+is_sound_call (kinds.Compares same) bytes calls sound = tt
+is_sound_call (kinds.Counts count) bytes calls sound = tt
+is_sound_call (kinds.Draws bits) bytes calls sound = tt
+is_sound_call (kinds.Sees file there) bytes calls sound = tt
+is_sound_call (kinds.Measures file length) bytes calls sound = tt
+is_sound_call (kinds.Reads file) bytes calls sound = tt
+is_sound_call kinds.Fails bytes calls sound = tt
 
 later_calls : (later begun : List Call) → AreJoinedSoundly later begun → AreSoundCalls begun → AreSoundCalls (later ++ begun)
 later_calls [] begun sound are = are
-later_calls (call ∷ later) begun sound are = (is_sound_call call.deed call.bytes (later ++ begun) sound.0, later_calls later begun sound.1 are)
+later_calls (call ∷ later) begun sound are = (is_sound_call call.kind call.bytes (later ++ begun) sound.0, later_calls later begun sound.1 are)
 
 pub nodes_are_sound : NodesAreSound
 nodes_are_sound begun calls stays are = subst AreSoundCalls (sym stays.after.is) (later_calls stays.after.later begun stays.joined are)
@@ -210,20 +210,20 @@ starts_are_sound line file written heard old calls are sound is =
 -- ---- a start that ends with an error
 
 -- a call that changes nothing
-quiet_call : (deed : Deed) (bytes : Option (List ℕ)) → is_change deed ≡ false → IsSoundCall deed bytes
-quiet_call (deeds.Replaces file) bytes quiet = absurd (false≢true (sym quiet))
-quiet_call (deeds.FailsAt file) bytes quiet = absurd (false≢true (sym quiet))
-quiet_call (deeds.Opens file) bytes quiet = absurd (false≢true (sym quiet))
-quiet_call (deeds.OpensExisting file) bytes quiet = absurd (false≢true (sym quiet))
-quiet_call deeds.Makes bytes quiet = tt
-quiet_call deeds.Locks bytes quiet = tt
-quiet_call (deeds.Compares same) bytes quiet = tt
-quiet_call (deeds.Counts count) bytes quiet = tt
-quiet_call (deeds.Draws bits) bytes quiet = tt
-quiet_call (deeds.Sees file there) bytes quiet = tt
-quiet_call (deeds.Measures file length) bytes quiet = tt
-quiet_call (deeds.Reads file) bytes quiet = tt
-quiet_call deeds.Fails bytes quiet = tt
+quiet_call : (kind : CallKind) (bytes : Option (List ℕ)) → is_change kind ≡ false → IsSoundCall kind bytes
+quiet_call (kinds.Replaces file) bytes quiet = absurd (false≢true (sym quiet))
+quiet_call (kinds.FailsAt file) bytes quiet = absurd (false≢true (sym quiet))
+quiet_call (kinds.Opens file) bytes quiet = absurd (false≢true (sym quiet))
+quiet_call (kinds.OpensExisting file) bytes quiet = absurd (false≢true (sym quiet))
+quiet_call kinds.Makes bytes quiet = tt
+quiet_call kinds.Locks bytes quiet = tt
+quiet_call (kinds.Compares same) bytes quiet = tt
+quiet_call (kinds.Counts count) bytes quiet = tt
+quiet_call (kinds.Draws bits) bytes quiet = tt
+quiet_call (kinds.Sees file there) bytes quiet = tt
+quiet_call (kinds.Measures file length) bytes quiet = tt
+quiet_call (kinds.Reads file) bytes quiet = tt
+quiet_call kinds.Fails bytes quiet = tt
 
 none_of : (call : Call) (rest : List Call) (b : Bool) → (if b then call ∷ rest else rest) ≡ [] → (b ≡ false) × (rest ≡ [])
 none_of call rest true is = absurd cc
@@ -232,8 +232,8 @@ none_of call rest false is = (refl, is)
 quiet_calls : (later old : List Call) → changes later ≡ [] → AreSoundCalls old → AreSoundCalls (later ++ old)
 quiet_calls [] old none are = are
 quiet_calls (call ∷ later) old none are =
-    let first = none_of call (changes later) (is_change call.deed) none in
-    (quiet_call call.deed call.bytes first.0, quiet_calls later old first.1 are)
+    let first = none_of call (changes later) (is_change call.kind) none in
+    (quiet_call call.kind call.bytes first.0, quiet_calls later old first.1 are)
 
 changes_by : (call : Call) (later old : List Call) (b : Bool) → changes (later ++ old) ≡ changes later ++ changes old
     → (if b then call ∷ changes (later ++ old) else changes (later ++ old)) ≡ (if b then call ∷ changes later else changes later) ++ changes old
@@ -242,7 +242,7 @@ changes_by call later old false both = both
 
 changes_both : (later old : List Call) → changes (later ++ old) ≡ changes later ++ changes old
 changes_both [] old = refl
-changes_both (call ∷ later) old = changes_by call later old (is_change call.deed) (changes_both later old)
+changes_both (call ∷ later) old = changes_by call later old (is_change call.kind) (changes_both later old)
 
 reads_are_sound : (old calls : List Call) → AreSoundCalls old → OnlyReads old calls → AreSoundCalls calls
 reads_are_sound old calls are reads =
@@ -399,7 +399,7 @@ module _ (line : InitLine) (tape mark : List ℕ) where
 
   -- while the file is written there is none, or all is there
   farm_written : (file : NodeFile) → IsFirstFile line file → file.mark ≡ mark → IsFirstTape line tape → (images : FileName → List ℕ)
-      → ((f : FileName) → IsLeftIn (deeds.Replaces Farm) (Some (node_text file)) f (MayLeaveNow joined f) (images f)) → (images Farm ≡ []) ⊎ IsMadeWhole line images
+      → ((f : FileName) → IsLeftIn (kinds.Replaces Farm) (Some (node_text file)) f (MayLeaveNow joined f) (images f)) → (images Farm ≡ []) ⊎ IsMadeWhole line images
   farm_written file first marked begins images here = elim (here Farm) [
     | inl was ↦ inl (none_joined line.replaces (joins_text (first_joining line mark)) (images Farm) was)
     | inr is ↦ inr (record {

@@ -2,7 +2,7 @@
 use Rattle.std.proofs.Common.{◌≡◌, ◌≢◌, ◌∙◌, ℕ, List, [], ◌∷◌, ap, subst, sym}
 use Rattle.std.specs.Prelude.{Option, Some, Result, Ok, Err, length}
 use Rattle.wf_folder.specs.declared.node_file.NodeFile.{NodeFile}
-use Rattle.wf_mesh.specs.declared.joiner.Joiner.{Joiner}
+use Rattle.wf_peer_connections.specs.declared.joiner.Joiner.{Joiner}
 use Rattle.wf_node_folder.specs.ReplacementFiles.{IsJoinsBad, IsJoinsFault, IsJoinsTextFault, IsNoJoining, IsOwnJoining, IsReplacedBad, IsReplacedFault, IsReplacementCause}
 use Rattle.wf_node_folder.specs.declared.fault.CommandFault.{CommandFault}
 use Rattle.wf_node_folder.specs.declared.fault.CommandFault.TheVariants as faults

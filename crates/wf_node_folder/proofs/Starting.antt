@@ -7,8 +7,8 @@ use Rattle.wf_folder.specs.NodeFile.{IsNodeFile, node_text, raised_known}
 use Rattle.wf_folder.specs.declared.node_file.NodeFile.{NodeFile}
 use Rattle.wf_folder.specs.declared.reach.Known.{Known}
 use Rattle.wf_line.specs.declared.node_line.NodeLine.{NodeLine}
-use Rattle.wf_mesh.specs.declared.joiner.Joiner.{Joiner}
-use Rattle.wf_mesh.specs.declared.plan.NodePlan.{NodePlan}
+use Rattle.wf_peer_connections.specs.declared.joiner.Joiner.{Joiner}
+use Rattle.wf_peer_connections.specs.declared.plan.NodePlan.{NodePlan}
 use Rattle.wf_model.specs.DurableState.{DurableState}
 use Rattle.wf_node.specs.Node.{stored_of}
 use Rattle.wf_node_folder.specs.Fault.{IsFromSystem, IsWhyUnheard}

@@ -20,21 +20,21 @@ stays_still calls = ∣ record { after = record { later = []; is = refl }; tapes
 -- ---- one call more
 
 -- one that is of no tape leaves the changes of tapes
-beside_tapes : (call : Call) (earlier : List Call) → is_of_tape call.deed ≡ false → of_tapes (call ∷ earlier) ≡ of_tapes earlier
+beside_tapes : (call : Call) (earlier : List Call) → is_of_tape call.kind ≡ false → of_tapes (call ∷ earlier) ≡ of_tapes earlier
 beside_tapes call earlier other = ap (λ (b : Bool). if b then call ∷ of_tapes earlier else of_tapes earlier) other
 
-beside_changes : (call : Call) (earlier : List Call) (b : Bool) → is_of_tape call.deed ≡ false → of_tapes (if b then call ∷ earlier else earlier) ≡ of_tapes earlier
+beside_changes : (call : Call) (earlier : List Call) (b : Bool) → is_of_tape call.kind ≡ false → of_tapes (if b then call ∷ earlier else earlier) ≡ of_tapes earlier
 beside_changes call earlier true other = beside_tapes call earlier other
 beside_changes call earlier false other = refl
 
 module _ (begun old new : List Call) (stays : ∥ StaysFrom begun old ∥₁) where
-  stays_one : (call : Call) → new ≡ call ∷ old → is_of_tape call.deed ≡ false → (needs_own call.deed ≡ true → is_own old ≡ true) → IsJoinedSoundly call.deed call.bytes old
+  stays_one : (call : Call) → new ≡ call ∷ old → is_of_tape call.kind ≡ false → (needs_own call.kind ≡ true → is_own old ≡ true) → IsJoinedSoundly call.kind call.bytes old
       → ∥ StaysFrom begun new ∥₁
   stays_one call is other own sound = ∥∥₁_map stays (λ was. record {
     after = record { later = call ∷ was.after.later; is = is ∙ ap (λ (calls : List Call). call ∷ calls) was.after.is };
-    tapes = ap tape_changes is ∙ beside_changes call (changes old) (is_change call.deed) other ∙ was.tapes;
+    tapes = ap tape_changes is ∙ beside_changes call (changes old) (is_change call.kind) other ∙ was.tapes;
     guarded = (λ needs. subst (λ (calls : List Call). is_own calls ≡ true) was.after.is (own needs), was.guarded);
-    joined = (subst (IsJoinedSoundly call.deed call.bytes) was.after.is sound, was.joined);
+    joined = (subst (IsJoinedSoundly call.kind call.bytes) was.after.is sound, was.joined);
   })
 
   -- whether the folder is the one that is locked was looked at

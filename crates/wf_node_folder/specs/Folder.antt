@@ -12,8 +12,8 @@ use Rattle.wf_peer.specs.PeerProgressText as peers
 use Rattle.wf_peer.specs.declared.heard.Heard.{Heard as HeardOfNode}
 use Rattle.wf_store.specs.Call.{Call, IsAfter, changes, read}
 use Rattle.wf_store.specs.Texts.{is_heard, is_tape, text_in}
-use Rattle.wf_store.specs.declared.deed.Deed.{Deed}
-use Rattle.wf_store.specs.declared.deed.Deed.TheVariants as deeds
+use Rattle.wf_store.specs.declared.call_kind.CallKind.{CallKind}
+use Rattle.wf_store.specs.declared.call_kind.CallKind.TheVariants as kinds
 use Rattle.wf_store.specs.declared.file_name.FileName.{FileName}
 use Rattle.wf_store.specs.declared.file_name.FileName.TheVariants.{Farm, Heard, NodeTape}
 
@@ -69,13 +69,13 @@ abbrev pub tape_of_file : FileName → (bytes earlier : Option (List ℕ)) → O
 tape_of_file (NodeTape node) bytes earlier = bytes
 tape_of_file file bytes earlier = earlier
 
-abbrev pub tape_by : Deed → (bytes earlier : Option (List ℕ)) → Option (List ℕ)
-tape_by (deeds.Reads file) bytes earlier = tape_of_file file bytes earlier
-tape_by deed bytes earlier = earlier
+abbrev pub tape_by : CallKind → (bytes earlier : Option (List ℕ)) → Option (List ℕ)
+tape_by (kinds.Reads file) bytes earlier = tape_of_file file bytes earlier
+tape_by kind bytes earlier = earlier
 
 abbrev pub tape_in : List Call → Option (List ℕ)
 tape_in [] = None
-tape_in (call ∷ earlier) = tape_by call.deed call.bytes (tape_in earlier)
+tape_in (call ∷ earlier) = tape_by call.kind call.bytes (tape_in earlier)
 
 -- bytes were read, and stand for this
 abbrev pub StandsForRead : DurableState Definition → Option (List ℕ) → Type 0
@@ -88,16 +88,16 @@ heard_in calls = text_in is_heard calls
 
 -- ---- what is left alone
 
-abbrev pub is_of_tape : Deed → Bool
-is_of_tape (deeds.Opens file) = is_tape file
-is_of_tape (deeds.Replaces file) = is_tape file
-is_of_tape (deeds.FailsAt file) = is_tape file
-is_of_tape deed = false
+abbrev pub is_of_tape : CallKind → Bool
+is_of_tape (kinds.Opens file) = is_tape file
+is_of_tape (kinds.Replaces file) = is_tape file
+is_of_tape (kinds.FailsAt file) = is_tape file
+is_of_tape kind = false
 
 -- the changes that are of a tape
 abbrev pub of_tapes : List Call → List Call
 of_tapes [] = []
-of_tapes (call ∷ earlier) = if is_of_tape call.deed then call ∷ of_tapes earlier else of_tapes earlier
+of_tapes (call ∷ earlier) = if is_of_tape call.kind then call ∷ of_tapes earlier else of_tapes earlier
 
 -- the calls by which a tape was made, or put in the place of another, or may have been
 abbrev pub tape_changes : List Call → List Call
@@ -111,27 +111,27 @@ calls_in calls (first ∷ rest) = calls first.0
 -- ---- which folder is written to
 
 -- whether the folder at its path was the one that is locked when that was looked at last
-abbrev pub own_by : Deed → Bool → Bool
-own_by (deeds.Compares same) earlier = same
-own_by deed earlier = earlier
+abbrev pub own_by : CallKind → Bool → Bool
+own_by (kinds.Compares same) earlier = same
+own_by kind earlier = earlier
 
 abbrev pub is_own : List Call → Bool
 is_own [] = false
-is_own (call ∷ earlier) = own_by call.deed (is_own earlier)
+is_own (call ∷ earlier) = own_by call.kind (is_own earlier)
 
 -- the call opens a file, or puts one in the place of another, or tried to
-abbrev pub needs_own : Deed → Bool
-needs_own (deeds.Opens file) = true
-needs_own (deeds.OpensExisting file) = true
-needs_own (deeds.Replaces file) = true
-needs_own (deeds.FailsAt file) = true
-needs_own deed = false
+abbrev pub needs_own : CallKind → Bool
+needs_own (kinds.Opens file) = true
+needs_own (kinds.OpensExisting file) = true
+needs_own (kinds.Replaces file) = true
+needs_own (kinds.FailsAt file) = true
+needs_own kind = false
 
 -- each of the later calls that does so came once the folder had been seen to be the one that is
 -- locked
 abbrev pub AreInLockedFolder : List Call → List Call → Type 0
 AreInLockedFolder [] begun = ⊤
-AreInLockedFolder (call ∷ later) begun = (needs_own call.deed ≡ true → is_own (later ++ begun) ≡ true) × AreInLockedFolder later begun
+AreInLockedFolder (call ∷ later) begun = (needs_own call.kind ≡ true → is_own (later ++ begun) ≡ true) × AreInLockedFolder later begun
 
 -- Calls came after these. None of them made a tape, or put one in the place of another, and only
 -- the folder that is locked was written to. What was put in the place of the file `joins` may be:

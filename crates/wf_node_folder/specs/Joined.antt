@@ -12,8 +12,8 @@ use Rattle.wf_rejoin.specs.JoiningText.{IsJoins, joins_text}
 use Rattle.wf_rejoin.specs.declared.join_step.JoinStep.{JoinStep}
 use Rattle.wf_rejoin.specs.declared.joining.Joining.{Joining}
 use Rattle.wf_store.specs.Call.{Call}
-use Rattle.wf_store.specs.declared.deed.Deed.{Deed}
-use Rattle.wf_store.specs.declared.deed.Deed.TheVariants as deeds
+use Rattle.wf_store.specs.declared.call_kind.CallKind.{CallKind}
+use Rattle.wf_store.specs.declared.call_kind.CallKind.TheVariants as kinds
 use Rattle.wf_store.specs.declared.file_name.FileName.{FileName}
 use Rattle.wf_store.specs.declared.file_name.FileName.TheVariants as names
 
@@ -73,14 +73,14 @@ pub record IsPutSoundly (file : FileName) (bytes : Option (List ℕ)) (calls : L
   pub may : MayBePutAt file text calls
   pub is : bytes ≡ Some text
 
-abbrev pub IsJoinedSoundly : Deed → Option (List ℕ) → List Call → Type 0
-IsJoinedSoundly (deeds.Replaces file) bytes calls = IsPutSoundly file bytes calls
-IsJoinedSoundly (deeds.FailsAt file) bytes calls = IsPutSoundly file bytes calls
-IsJoinedSoundly (deeds.Opens file) bytes calls = is_tape file ≡ true
-IsJoinedSoundly (deeds.OpensExisting file) bytes calls = is_tape file ≡ true
-IsJoinedSoundly deed bytes calls = ⊤
+abbrev pub IsJoinedSoundly : CallKind → Option (List ℕ) → List Call → Type 0
+IsJoinedSoundly (kinds.Replaces file) bytes calls = IsPutSoundly file bytes calls
+IsJoinedSoundly (kinds.FailsAt file) bytes calls = IsPutSoundly file bytes calls
+IsJoinedSoundly (kinds.Opens file) bytes calls = is_tape file ≡ true
+IsJoinedSoundly (kinds.OpensExisting file) bytes calls = is_tape file ≡ true
+IsJoinedSoundly kind bytes calls = ⊤
 
 -- so does each of the later calls
 abbrev pub AreJoinedSoundly : List Call → List Call → Type 0
 AreJoinedSoundly [] begun = ⊤
-AreJoinedSoundly (call ∷ later) begun = IsJoinedSoundly call.deed call.bytes (later ++ begun) × AreJoinedSoundly later begun
+AreJoinedSoundly (call ∷ later) begun = IsJoinedSoundly call.kind call.bytes (later ++ begun) × AreJoinedSoundly later begun

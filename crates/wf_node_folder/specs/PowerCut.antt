@@ -20,8 +20,8 @@ use Rattle.wf_rejoin.specs.JoiningText.{joins_text}
 use Rattle.wf_rejoin.specs.declared.joining.Joining.{Joining}
 use Rattle.wf_rejoin.specs.declared.replacement.Replacement.{Replacement}
 use Rattle.wf_store.specs.Call.{Call, locked}
-use Rattle.wf_store.specs.declared.deed.Deed.{Deed}
-use Rattle.wf_store.specs.declared.deed.Deed.TheVariants as deeds
+use Rattle.wf_store.specs.declared.call_kind.CallKind.{CallKind}
+use Rattle.wf_store.specs.declared.call_kind.CallKind.TheVariants as kinds
 use Rattle.wf_store.specs.declared.file_name.FileName.{FileName}
 use Rattle.wf_store.specs.declared.file_name.FileName.TheVariants.{Farm, Heard, Joins, NodeTape, Replaced}
 use Rattle.wf_tape.specs.declared.tape.Tape.{Ghosts as Tape}
@@ -52,16 +52,16 @@ IsSoundGiven file None = is_tape file ≡ true
 IsSoundGiven file (Some text) = IsSoundText file text
 
 -- so of a call; what was opened is a tape
-abbrev pub IsSoundCall : Deed → Option (List ℕ) → Type 0
-IsSoundCall (deeds.Replaces file) bytes = IsSoundGiven file bytes
-IsSoundCall (deeds.FailsAt file) bytes = IsSoundGiven file bytes
-IsSoundCall (deeds.Opens file) bytes = is_tape file ≡ true
-IsSoundCall (deeds.OpensExisting file) bytes = is_tape file ≡ true
-IsSoundCall deed bytes = ⊤
+abbrev pub IsSoundCall : CallKind → Option (List ℕ) → Type 0
+IsSoundCall (kinds.Replaces file) bytes = IsSoundGiven file bytes
+IsSoundCall (kinds.FailsAt file) bytes = IsSoundGiven file bytes
+IsSoundCall (kinds.Opens file) bytes = is_tape file ≡ true
+IsSoundCall (kinds.OpensExisting file) bytes = is_tape file ≡ true
+IsSoundCall kind bytes = ⊤
 
 abbrev pub AreSoundCalls : List Call → Type 0
 AreSoundCalls [] = ⊤
-AreSoundCalls (call ∷ earlier) = IsSoundCall call.deed call.bytes × AreSoundCalls earlier
+AreSoundCalls (call ∷ earlier) = IsSoundCall call.kind call.bytes × AreSoundCalls earlier
 
 -- Wherever the power is cut between or inside such calls, a file that is no tape isn't there, or is
 -- there with a sound text, whole.

@@ -3,7 +3,7 @@ use Rattle.std.specs.Prelude.{◌≡◌, List, [], Option, IfSome, option_map}
 use Rattle.wf_voter.specs.Process.{IsJustOpened}
 use Rattle.wf_folder.specs.declared.node_file.NodeFile.{NodeFile}
 use Rattle.wf_line.specs.declared.node_line.NodeLine.{NodeLine}
-use Rattle.wf_mesh.specs.declared.plan.NodePlan.{NodePlan}
+use Rattle.wf_peer_connections.specs.declared.plan.NodePlan.{NodePlan}
 use Rattle.wf_node.specs.Node.{stored_of}
 use Rattle.wf_node_folder.specs.Folder.{StandsForRead, heard_in, tape_in}
 use Rattle.wf_node_folder.specs.Held.{IsRaisedTo}

@@ -1,7 +1,7 @@
 -- What a node's folder says of replacements: its files `replaced` and `joins`.
 use Rattle.std.specs.Prelude.{◌≡◌, ◌≢◌, ℕ, List, [], ◌∷◌, Option, Some, None, IfSome, length, option_map, replicate}
 use Rattle.wf_folder.specs.declared.node_file.NodeFile.{NodeFile}
-use Rattle.wf_mesh.specs.declared.joiner.Joiner.{Joiner}
+use Rattle.wf_peer_connections.specs.declared.joiner.Joiner.{Joiner}
 use Rattle.wf_node_folder.specs.Fault.{IsFromSystem}
 use Rattle.wf_store.specs.Texts.{is_joins, is_replaced, text_in}
 use Rattle.wf_node_folder.specs.declared.fault.CommandFault.{CommandFault}

@@ -8,8 +8,8 @@ use std::io;
 use thiserror::Error;
 use wf_address::AddressOption;
 use wf_folder::{NodeRejection, NotEmpty};
-use wf_mesh::LoopFault;
 use wf_peer::PeerProgressFault;
+use wf_peer_connections::LoopFault;
 use wf_store::FolderFault;
 
 /// Why a command ends with an error. Its text is the line on standard error.

@@ -1,8 +1,8 @@
 //! A node whose start is counted.
 
 use wf_folder::NodeFile;
-use wf_mesh::NodePlan;
 use wf_peer::PeerProgress;
+use wf_peer_connections::NodePlan;
 use wf_tape::Tape;
 use wf_voter::Process;
 

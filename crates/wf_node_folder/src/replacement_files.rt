@@ -7,7 +7,7 @@ ghost use Rattle.wf_store.specs.Call.{OnlyReads};
 use crate::fault::CommandFault;
 use crate::replacement_fault::ReplacementFault;
 use wf_folder::NodeFile;
-use wf_mesh::Joiner;
+use wf_peer_connections::Joiner;
 use wf_rejoin::{Joining, Replacements};
 use wf_store::{FileName, Store};
 

@@ -4,8 +4,8 @@ use Rattle.std.specs.Prelude.{OnOk, Option, Result, Ok, Err, Some}
 use Rattle.wf_folder.specs.Reach.{IsReachNoLess}
 use Rattle.wf_folder.specs.declared.node_file.NodeFile.{NodeFile}
 use Rattle.wf_folder.specs.declared.reach.Reach.{Reach}
-use Rattle.wf_mesh.specs.declared.order.Order.{Order}
-use Rattle.wf_mesh.specs.declared.order.Order.TheVariants as orders
+use Rattle.wf_peer_connections.specs.declared.order.Order.{Order}
+use Rattle.wf_peer_connections.specs.declared.order.Order.TheVariants as orders
 use Rattle.wf_node.specs.Node.{Node}
 use Rattle.wf_peering.specs.Orders.{IsOrderKept, IsReachKept}
 use Rattle.wf_rejoin.specs.ReplacementsText.{replaced_text}

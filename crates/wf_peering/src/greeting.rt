@@ -6,38 +6,41 @@ ghost use Rattle.wf_rejoin.specs.Replacements.{known_count};
 ghost use Rattle.wf_voter.specs.Reach.{IsHighestVoted};
 
 use wf_membership::Gate;
-use wf_mesh::{Mesh, Told};
 use wf_peer::{Greeting, NodeState, Progress};
+use wf_peer_connections::{PeerConnections, Told};
 use wf_sockets::Network;
 use wf_tape::Tape;
 use wf_voter::{Process, Voter, reach_of, told_votes};
 
 /// How far the node is, in this start of its folder.
-fn progress<T: Tape + Drop, N: Network>(mesh: &Mesh<N>, process: &Process<T>) -> Progress
-    ensures { IsGreetedWith mesh.now.plan.start process.now.actor.node result }
+fn progress<T: Tape + Drop, N: Network>(
+    peers: &PeerConnections<N>,
+    process: &Process<T>,
+) -> Progress
+    ensures { IsGreetedWith peers.now.plan.start process.now.actor.node result }
 {
-    mesh.plan.start.at(&reach_of(process.node()))
+    peers.plan.start.at(&reach_of(process.node()))
 }
 
 /// This node's greeting now, with the replacements with which it began. None: an allocation failed.
 pub(crate) fn greeting<T: Tape + Drop, N: Network>(
-    mesh: &mut Mesh<N>,
+    peers: &mut PeerConnections<N>,
     voter: &Voter<T>,
 ) -> Option<Greeting>
     ensures progress { IfSome result (λ said.
-        IsGreetedWith mesh.old.plan.start voter.now.process.actor.node said.progress) }
+        IsGreetedWith peers.old.plan.start voter.now.process.actor.node said.progress) }
     ensures voted { IfSome result (λ said. (known_count voter.now.membership.replacements ≡ 0)
         ⊎ IsHighestVoted (stored_of voter.now.process.actor.node) said.voted) }
     ensures replacements { IfSome result (λ said.
         said.replacements ≡ voter.now.membership.replacements) }
 {
-    mesh.notes.extend(voter.process.node().history());
-    let now = progress(mesh, &voter.process);
+    peers.table.extend(voter.process.node().history());
+    let now = progress(peers, &voter.process);
     let told = Told {
         replacements: voter.membership.replacements,
         voted: told_votes(voter.process.node(), &voter.membership.replacements)?,
     };
-    mesh.notes.greeting(now, state_of(voter), told)
+    peers.table.greeting(now, state_of(voter), told)
 }
 
 /// What a node does now, as its peers are told.

@@ -2,8 +2,8 @@
 //! never blocks on one. `wf_loop` is above, and says when.
 //!
 //! **Model.** A step acts on a `Voter` with its `NodeFolder` (`wf_voter`), of which clauses speak,
-//! and on a `Mesh` (`wf_mesh`), which has the connections to and from the peers, over any network
-//! (`wf_sockets`).
+//! and on a `PeerConnections` (`wf_peer_connections`), which has the connections to and from the
+//! peers, over any network (`wf_sockets`).
 //!
 //! - [`accept`] and [`read_inbound`] take in connections, greetings and messages, a bounded part
 //!   of what came. [`connect`] and [`call`] open the connections to peers.

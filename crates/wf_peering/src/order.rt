@@ -6,7 +6,7 @@ ghost use Rattle.wf_voter.specs.Folder.{JoinsNoMore};
 
 use std::time::Clock;
 use wf_membership::{FolderError, Gate};
-use wf_mesh::{Mesh, Notes, Order};
+use wf_peer_connections::{Order, PeerConnections, PeerTable};
 use wf_rejoin::Replacements;
 use wf_sockets::Network;
 use wf_store::FolderFault;
@@ -22,25 +22,25 @@ pub fn obey<R: Clock + Eprint + AllocGlobal, T: Tape + Drop, F: NodeFolder<T>, N
     context: &Context<'_, '_, R, N>,
     voter: &mut Voter<T>,
     folder: &mut F,
-    mesh: &mut Mesh<N>,
+    peers: &mut PeerConnections<N>,
 )
     ensures on { ContinuesIn T.Tape (F.stands folder.old) voter.old
         (F.stands folder.new) voter.new }
 {
     let published = voter.process.node().published();
-    mesh.note_due(published, context.time);
-    let Some(order) = mesh.order else {
+    peers.note_due(published, context.time);
+    let Some(order) = peers.order else {
         return;
     };
-    match keep_order(&voter.process, &mut mesh.notes, folder, &order) {
+    match keep_order(&voter.process, &mut peers.table, folder, &order) {
         Ok(()) => {
-            mesh.take_order(context, &voter.membership, published, &order);
-            if mesh.is_over {
+            peers.take_order(context, &voter.membership, published, &order);
+            if peers.is_over {
                 voter.set_gate(Gate::Unwritten);
             }
         }
         Err(why) => {
-            mesh.note_unwritten(context.log, context.time, order.file(), why);
+            peers.note_unwritten(context.log, context.time, order.file(), why);
             voter.set_gate(Gate::Unwritten);
         }
     }
@@ -51,7 +51,7 @@ pub fn obey<R: Clock + Eprint + AllocGlobal, T: Tape + Drop, F: NodeFolder<T>, N
 #[tactic(auto, using(crate::proofs::Orders::note_kept, crate::proofs::Orders::step_kept, crate::proofs::Orders::end_kept))]
 fn keep_order<T: Tape + Drop, F: NodeFolder<T>>(
     process: &Process<T>,
-    notes: &mut Notes,
+    table: &mut PeerTable,
     folder: &mut F,
     order: &Order,
 ) -> Result<(), FolderError>
@@ -61,20 +61,20 @@ fn keep_order<T: Tape + Drop, F: NodeFolder<T>>(
     match order {
         Order::Note(latest) => folder.keep_replaced(latest),
         Order::Join(step) => folder.keep_joining(step),
-        Order::Joined => keep_joined(process, notes, folder),
+        Order::Joined => keep_joined(process, table, folder),
     }
 }
 
 /// Writes that the folder has joined: last, so that whatever it may vote by is there before.
 fn keep_joined<T: Tape + Drop, F: NodeFolder<T>>(
     process: &Process<T>,
-    notes: &mut Notes,
+    table: &mut PeerTable,
     folder: &mut F,
 ) -> Result<(), FolderError>
     ensures stands { F.stands folder.new ≡ F.stands folder.old }
     ensures joined { OnOk result (JoinsNoMore (F.calls folder.new)) }
 {
-    match keep_reach(process, notes, folder) {
+    match keep_reach(process, table, folder) {
         Ok(()) => folder.finish_joining(),
         Err(why) => Err(why),
     }
@@ -84,15 +84,15 @@ fn keep_joined<T: Tape + Drop, F: NodeFolder<T>>(
 #[tactic(auto, using(crate::proofs::Orders::reach_kept))]
 pub fn keep_reach<T: Tape + Drop, F: NodeFolder<T>>(
     process: &Process<T>,
-    notes: &mut Notes,
+    table: &mut PeerTable,
     folder: &mut F,
 ) -> Result<(), FolderError>
     ensures stands { F.stands folder.new ≡ F.stands folder.old }
     ensures kept { OnOk result (IsReachKept process.now.actor.node (F.farm folder.new)) }
 {
     let node = process.node();
-    notes.extend(node.history());
-    match notes.digest_at(node.published().number()) {
+    table.extend(node.history());
+    match table.digest_at(node.published().number()) {
         Some(digest) => folder.keep(&reach_of(node), digest),
         None => Err(FolderError::Store(FolderFault::Memory)),
     }

@@ -10,8 +10,8 @@ use std::net::Net;
 use std::time::Clock;
 use wf_ballot::NodeId;
 use wf_membership::Gate;
-use wf_mesh::{Dial, DialTurn, Mesh, PeerEnd, id_of};
 use wf_peer::{GreetingReply, PeerRejection};
+use wf_peer_connections::{Dial, DialTurn, PeerConnections, PeerEnd, id_of};
 use wf_sockets::{Connection, Network};
 use wf_tape::Tape;
 use wf_visitors::Context;
@@ -23,7 +23,7 @@ pub fn call<R: Clock + Eprint + AllocGlobal, T: Tape + Drop, F: NodeFolder<T>, N
     context: &Context<'_, '_, R, N>,
     voter: &mut Voter<T>,
     folder: &mut F,
-    mesh: &mut Mesh<N>,
+    peers: &mut PeerConnections<N>,
     index: usize,
 )
     ensures on { ContinuesIn T.Tape (F.stands folder.old) voter.old
@@ -32,7 +32,7 @@ pub fn call<R: Clock + Eprint + AllocGlobal, T: Tape + Drop, F: NodeFolder<T>, N
     let Some(peer) = id_of(index) else {
         return;
     };
-    let Some(dial) = mesh.dials.get_mut(index) else {
+    let Some(dial) = peers.dials.get_mut(index) else {
         return;
     };
     let turned = turn_dial(dial, context.time);
@@ -40,14 +40,14 @@ pub fn call<R: Clock + Eprint + AllocGlobal, T: Tape + Drop, F: NodeFolder<T>, N
     match turned {
         DialTurn::Same => {}
         DialTurn::Answered(reply) => {
-            mesh.note_answer(index);
-            open(context, voter, folder, mesh, index, peer, &reply);
+            peers.note_answer(index);
+            open(context, voter, folder, peers, index, peer, &reply);
         }
         DialTurn::Ended(why) => {
             if is_established {
-                mesh.note_answer(index);
+                peers.note_answer(index);
             }
-            let _ = mesh.end(context, index, why);
+            let _ = peers.end(context, index, why);
         }
     }
 }
@@ -71,7 +71,7 @@ fn open<R: Clock + Eprint + AllocGlobal, T: Tape + Drop, F: NodeFolder<T>, N: Ne
     context: &Context<'_, '_, R, N>,
     voter: &mut Voter<T>,
     folder: &mut F,
-    mesh: &mut Mesh<N>,
+    peers: &mut PeerConnections<N>,
     index: usize,
     peer: NodeId,
     reply: &GreetingReply,
@@ -79,19 +79,19 @@ fn open<R: Clock + Eprint + AllocGlobal, T: Tape + Drop, F: NodeFolder<T>, N: Ne
     ensures on { ContinuesIn T.Tape (F.stands folder.old) voter.old
         (F.stands folder.new) voter.new }
 {
-    if let Some(why) = why_not(context, voter, folder, mesh, peer, reply) {
-        let _ = mesh.end(context, index, why);
+    if let Some(why) = why_not(context, voter, folder, peers, peer, reply) {
+        let _ = peers.end(context, index, why);
         return;
     }
-    if mesh.is_open(index) {
-        mesh.note_heard_again(index, reply, context.time);
+    if peers.is_open(index) {
+        peers.note_heard_again(index, reply, context.time);
         return;
     }
-    if !mesh.is_established(index) {
+    if !peers.is_established(index) {
         // what its reply said has ended all connections
         return;
     }
-    let _ = mesh.open(context, index);
+    let _ = peers.open(context, index);
 }
 
 /// Why the connection to a peer doesn't open, by its reply.
@@ -100,7 +100,7 @@ fn why_not<R: Clock + Eprint + AllocGlobal, T: Tape + Drop, F: NodeFolder<T>, N:
     context: &Context<'_, '_, R, N>,
     voter: &mut Voter<T>,
     folder: &mut F,
-    mesh: &mut Mesh<N>,
+    peers: &mut PeerConnections<N>,
     peer: NodeId,
     reply: &GreetingReply,
 ) -> Option<PeerEnd>
@@ -109,7 +109,7 @@ fn why_not<R: Clock + Eprint + AllocGlobal, T: Tape + Drop, F: NodeFolder<T>, N:
 {
     match reply {
         GreetingReply::Greeting(said) => {
-            match admit(context, voter, folder, mesh, None, Some(peer), said) {
+            match admit(context, voter, folder, peers, None, Some(peer), said) {
                 Ok(()) if voter.connects() => None,
                 Ok(()) => Some(PeerEnd::Unwritten),
                 Err(why) => Some(PeerEnd::Rejected(why)),
@@ -118,7 +118,7 @@ fn why_not<R: Clock + Eprint + AllocGlobal, T: Tape + Drop, F: NodeFolder<T>, N:
         GreetingReply::Rejected(why, _) => {
             // a folder that joins is another one than before, until the peer has agreed to it
             if !(voter.membership.joins && why.ends_a_node()) {
-                take_rejection(context, voter, mesh, peer, *why);
+                take_rejection(context, voter, peers, peer, *why);
             }
             Some(PeerEnd::RejectedBy(*why))
         }
@@ -131,7 +131,7 @@ fn why_not<R: Clock + Eprint + AllocGlobal, T: Tape + Drop, F: NodeFolder<T>, N:
 fn take_rejection<R: Clock + Eprint, T: Tape + Drop, N: Network>(
     context: &Context<'_, '_, R, N>,
     voter: &mut Voter<T>,
-    mesh: &mut Mesh<N>,
+    peers: &mut PeerConnections<N>,
     peer: NodeId,
     why: PeerRejection,
 )
@@ -140,10 +140,10 @@ fn take_rejection<R: Clock + Eprint, T: Tape + Drop, N: Network>(
 {
     if why.ends_a_node() {
         voter.set_gate(Gate::Suspended);
-        mesh.suspend(context, peer, why);
+        peers.suspend(context, peer, why);
     } else if why == PeerRejection::OtherHistory {
         let published = voter.process.node().published().number();
-        mesh.note_difference(context, peer, published);
+        peers.note_difference(context, peer, published);
     }
 }
 
@@ -151,10 +151,10 @@ fn take_rejection<R: Clock + Eprint, T: Tape + Drop, N: Network>(
 pub fn connect<R: Net + Clock + Eprint + AllocGlobal, T: Tape + Drop, N: Network>(
     context: &Context<'_, '_, R, N>,
     voter: &Voter<T>,
-    mesh: &mut Mesh<N>,
+    peers: &mut PeerConnections<N>,
 ) {
-    for index in 0..mesh.dials.len() {
-        connect_to(context, voter, mesh, index);
+    for index in 0..peers.dials.len() {
+        connect_to(context, voter, peers, index);
     }
 }
 
@@ -163,34 +163,34 @@ pub fn connect<R: Net + Clock + Eprint + AllocGlobal, T: Tape + Drop, N: Network
 fn connect_to<R: Net + Clock + Eprint + AllocGlobal, T: Tape + Drop, N: Network>(
     context: &Context<'_, '_, R, N>,
     voter: &Voter<T>,
-    mesh: &mut Mesh<N>,
+    peers: &mut PeerConnections<N>,
     index: usize,
 ) {
     let Some(peer) = id_of(index) else {
         return;
     };
-    if peer == mesh.plan.own.node {
+    if peer == peers.plan.own.node {
         return;
     }
     let published = voter.process.node().published().number();
-    if let Some(why) = mesh.why_anew(index, published, context.time) {
-        let _ = mesh.end(context, index, why);
+    if let Some(why) = peers.why_anew(index, published, context.time) {
+        let _ = peers.end(context, index, why);
     }
-    connect_if_due(context, voter, mesh, index);
+    connect_if_due(context, voter, peers, index);
 }
 
 /// Connects to a peer and greets it, if there is no connection and it is time to.
 fn connect_if_due<R: Net + Clock + Eprint + AllocGlobal, T: Tape + Drop, N: Network>(
     context: &Context<'_, '_, R, N>,
     voter: &Voter<T>,
-    mesh: &mut Mesh<N>,
+    peers: &mut PeerConnections<N>,
     index: usize,
 ) {
-    if !mesh.is_due(index, context.time) {
+    if !peers.is_due(index, context.time) {
         return;
     }
-    if let Some(own) = greeting(mesh, voter) {
-        mesh.connect_to(context, index, &own);
+    if let Some(own) = greeting(peers, voter) {
+        peers.connect_to(context, index, &own);
     }
 }
 
@@ -200,7 +200,7 @@ fn connect_if_due<R: Net + Clock + Eprint + AllocGlobal, T: Tape + Drop, N: Netw
 fn ask_next<T: Tape + Drop, N: Network>(
     alloc: Global,
     voter: &mut Voter<T>,
-    mesh: &mut Mesh<N>,
+    peers: &mut PeerConnections<N>,
     time: u64,
 )
     ensures { Continues T.Tape voter.old voter.new }
@@ -208,7 +208,7 @@ fn ask_next<T: Tape + Drop, N: Network>(
     if voter.process.is_halted() {
         return;
     }
-    if let Some(index) = mesh.next_to_ask(voter.process.node().history(), time) {
+    if let Some(index) = peers.next_to_ask(voter.process.node().history(), time) {
         if let Some(peer) = id_of(index) {
             ask(alloc, voter, peer);
         }
@@ -217,11 +217,15 @@ fn ask_next<T: Tape + Drop, N: Network>(
 
 /// Asks each peer for the next definition: peers learn by this that the node is there.
 #[tactic(auto, using(wf_voter::proofs::Continuation::still, wf_voter::proofs::Continuation::twice))]
-pub fn ask_all<T: Tape + Drop, N: Network>(alloc: Global, voter: &mut Voter<T>, mesh: &Mesh<N>)
+pub fn ask_all<T: Tape + Drop, N: Network>(
+    alloc: Global,
+    voter: &mut Voter<T>,
+    peers: &PeerConnections<N>,
+)
     ensures { Continues T.Tape voter.old voter.new }
 {
-    for index in 0..mesh.dials.len() {
-        ask_at(alloc, voter, mesh, index);
+    for index in 0..peers.dials.len() {
+        ask_at(alloc, voter, peers, index);
     }
 }
 
@@ -230,7 +234,7 @@ pub fn ask_all<T: Tape + Drop, N: Network>(alloc: Global, voter: &mut Voter<T>, 
 fn ask_at<T: Tape + Drop, N: Network>(
     alloc: Global,
     voter: &mut Voter<T>,
-    mesh: &Mesh<N>,
+    peers: &PeerConnections<N>,
     index: usize,
 )
     ensures { Continues T.Tape voter.old voter.new }
@@ -238,7 +242,7 @@ fn ask_at<T: Tape + Drop, N: Network>(
     let Some(peer) = id_of(index) else {
         return;
     };
-    if mesh.is_open(index) {
+    if peers.is_open(index) {
         ask(alloc, voter, peer);
     }
 }
@@ -248,13 +252,13 @@ fn ask_at<T: Tape + Drop, N: Network>(
 pub fn greet_again<R: Clock + Eprint + AllocGlobal, T: Tape + Drop, N: Network>(
     context: &Context<'_, '_, R, N>,
     voter: &Voter<T>,
-    mesh: &mut Mesh<N>,
+    peers: &mut PeerConnections<N>,
 ) {
     if !voter.connects() {
         return;
     }
-    if let Some(own) = greeting(mesh, voter) {
-        mesh.greet_again(context.alloc(), &own);
+    if let Some(own) = greeting(peers, voter) {
+        peers.greet_again(context.alloc(), &own);
     }
 }
 
@@ -264,13 +268,13 @@ pub fn greet_again<R: Clock + Eprint + AllocGlobal, T: Tape + Drop, N: Network>(
 pub fn call_all<R: Clock + Eprint + AllocGlobal, T: Tape + Drop, N: Network>(
     context: &Context<'_, '_, R, N>,
     voter: &mut Voter<T>,
-    mesh: &mut Mesh<N>,
+    peers: &mut PeerConnections<N>,
 )
     ensures { Continues T.Tape voter.old voter.new }
 {
-    ask_next(context.alloc(), voter, mesh, context.time);
-    send_all(context, voter, mesh);
-    mesh.extend_digests(voter.process.node().history());
+    ask_next(context.alloc(), voter, peers, context.time);
+    send_all(context, voter, peers);
+    peers.extend_digests(voter.process.node().history());
 }
 
 /// Gives the connections what the node returned, and writes what waits for the peers: nothing once
@@ -278,14 +282,14 @@ pub fn call_all<R: Clock + Eprint + AllocGlobal, T: Tape + Drop, N: Network>(
 pub fn send_all<R: Clock + Eprint + AllocGlobal, T: Tape + Drop, N: Network>(
     context: &Context<'_, '_, R, N>,
     voter: &mut Voter<T>,
-    mesh: &mut Mesh<N>,
+    peers: &mut PeerConnections<N>,
 )
     ensures { Continues T.Tape voter.old voter.new }
 {
-    post_all(voter, mesh);
+    post_all(voter, peers);
     if !voter.process.is_halted() {
-        for index in 0..mesh.dials.len() {
-            send_to(context, mesh, index);
+        for index in 0..peers.dials.len() {
+            send_to(context, peers, index);
         }
     }
 }
@@ -293,12 +297,12 @@ pub fn send_all<R: Clock + Eprint + AllocGlobal, T: Tape + Drop, N: Network>(
 /// Gives the posts that wait to the connections of those of the peers that they are for, and to the
 /// node itself.
 #[tactic(auto, using(wf_voter::proofs::Continuation::still, wf_voter::proofs::Continuation::twice))]
-fn post_all<T: Tape + Drop, N: Network>(voter: &mut Voter<T>, mesh: &mut Mesh<N>)
+fn post_all<T: Tape + Drop, N: Network>(voter: &mut Voter<T>, peers: &mut PeerConnections<N>)
     ensures { Continues T.Tape voter.old voter.new }
 {
     for _ in 0..u64::MAX {
         match voter.process.first_post() {
-            Some(post) => mesh.post(post),
+            Some(post) => peers.post(post),
             None => return,
         }
         finish_post(voter);
@@ -308,16 +312,16 @@ fn post_all<T: Tape + Drop, N: Network>(voter: &mut Voter<T>, mesh: &mut Mesh<N>
 /// Writes what waits for a peer, if anything does.
 fn send_to<R: Clock + Eprint + AllocGlobal, N: Network>(
     context: &Context<'_, '_, R, N>,
-    mesh: &mut Mesh<N>,
+    peers: &mut PeerConnections<N>,
     index: usize,
 ) {
-    if mesh.remaining(index) == 0 {
+    if peers.remaining(index) == 0 {
         return;
     }
-    let Some(dial) = mesh.dials.get_mut(index) else {
+    let Some(dial) = peers.dials.get_mut(index) else {
         return;
     };
     if let Some(why) = dial.send() {
-        let _ = mesh.end(context, index, why);
+        let _ = peers.end(context, index, why);
     }
 }

@@ -11,8 +11,8 @@ use std::mem::replace;
 use std::net::SocketAddr;
 use std::time::Clock;
 use wf_ballot::NodeId;
-use wf_mesh::{Came, INBOUND_SLOTS, Inbound, Mesh, Notes, PeerEnd};
 use wf_peer::{Greeting, PeerRejection};
+use wf_peer_connections::{Came, INBOUND_SLOTS, Inbound, PeerConnections, PeerEnd, PeerTable};
 use wf_sockets::{Connection, Network};
 use wf_tape::Tape;
 use wf_visitors::{Context, micros};
@@ -28,17 +28,17 @@ pub fn accept<R: Clock + Eprint + AllocGlobal, T: Tape + Drop, F: NodeFolder<T>,
     context: &Context<'_, '_, R, N>,
     voter: &mut Voter<T>,
     folder: &mut F,
-    mesh: &mut Mesh<N>,
+    peers: &mut PeerConnections<N>,
 )
     ensures on { ContinuesIn T.Tape (F.stands folder.old) voter.old
         (F.stands folder.new) voter.new }
 {
     for _ in 0..INBOUND_SLOTS {
-        let Ok((connection, address)) = context.network.accept(&mut mesh.listener) else {
+        let Ok((connection, address)) = context.network.accept(&mut peers.listener) else {
             return;
         };
         if voter.connects() {
-            place(context, voter, folder, mesh, connection, address);
+            place(context, voter, folder, peers, connection, address);
         }
     }
 }
@@ -49,7 +49,7 @@ fn place<R: Clock + Eprint + AllocGlobal, T: Tape + Drop, F: NodeFolder<T>, N: N
     context: &Context<'_, '_, R, N>,
     voter: &mut Voter<T>,
     folder: &mut F,
-    mesh: &mut Mesh<N>,
+    peers: &mut PeerConnections<N>,
     connection: N::Connection,
     address: SocketAddr,
 )
@@ -57,10 +57,10 @@ fn place<R: Clock + Eprint + AllocGlobal, T: Tape + Drop, F: NodeFolder<T>, N: N
     ensures on { ContinuesIn T.Tape (F.stands folder.old) voter.old
         (F.stands folder.new) voter.new }
 {
-    let Some((index, inbound)) = mesh.place(context, connection, address) else {
+    let Some((index, inbound)) = peers.place(context, connection, address) else {
         return;
     };
-    receive_out(context, voter, folder, mesh, index, inbound);
+    receive_out(context, voter, folder, peers, index, inbound);
 }
 
 /// Reads what came from a peer, a bounded part of it, and delivers it.
@@ -69,16 +69,16 @@ pub fn read_inbound<R: Clock + Eprint + AllocGlobal, T: Tape + Drop, F: NodeFold
     context: &Context<'_, '_, R, N>,
     voter: &mut Voter<T>,
     folder: &mut F,
-    mesh: &mut Mesh<N>,
+    peers: &mut PeerConnections<N>,
     index: usize,
 )
     ensures on { ContinuesIn T.Tape (F.stands folder.old) voter.old
         (F.stands folder.new) voter.new }
 {
-    let Some(inbound) = mesh.take_inbound(index) else {
+    let Some(inbound) = peers.take_inbound(index) else {
         return;
     };
-    receive_out(context, voter, folder, mesh, index, inbound);
+    receive_out(context, voter, folder, peers, index, inbound);
 }
 
 /// Reads what came on a connection from a peer, and keeps it in its slot unless it has ended.
@@ -86,16 +86,16 @@ fn receive_out<R: Clock + Eprint + AllocGlobal, T: Tape + Drop, F: NodeFolder<T>
     context: &Context<'_, '_, R, N>,
     voter: &mut Voter<T>,
     folder: &mut F,
-    mesh: &mut Mesh<N>,
+    peers: &mut PeerConnections<N>,
     index: usize,
     mut inbound: Inbound<N::Connection>,
 )
     ensures on { ContinuesIn T.Tape (F.stands folder.old) voter.old
         (F.stands folder.new) voter.new }
 {
-    match read(context, voter, folder, mesh, &mut inbound) {
-        None => mesh.keep(context, index, inbound),
-        Some(why) => mesh.drop_inbound(context, inbound, why),
+    match read(context, voter, folder, peers, &mut inbound) {
+        None => peers.keep(context, index, inbound),
+        Some(why) => peers.drop_inbound(context, inbound, why),
     }
 }
 
@@ -105,15 +105,15 @@ fn read<R: Clock + Eprint + AllocGlobal, T: Tape + Drop, F: NodeFolder<T>, N: Ne
     context: &Context<'_, '_, R, N>,
     voter: &mut Voter<T>,
     folder: &mut F,
-    mesh: &mut Mesh<N>,
+    peers: &mut PeerConnections<N>,
     inbound: &mut Inbound<N::Connection>,
 ) -> Option<PeerEnd>
     ensures on { ContinuesIn T.Tape (F.stands folder.old) voter.old
         (F.stands folder.new) voter.new }
 {
-    let mut piece = replace(&mut mesh.piece, Vec::new(context.alloc()));
-    let ended = read_pieces(context, voter, folder, mesh, inbound, piece.as_mut_slice());
-    drop(replace(&mut mesh.piece, piece));
+    let mut piece = replace(&mut peers.piece, Vec::new(context.alloc()));
+    let ended = read_pieces(context, voter, folder, peers, inbound, piece.as_mut_slice());
+    drop(replace(&mut peers.piece, piece));
     ended
 }
 
@@ -124,7 +124,7 @@ fn read_pieces<R: Clock + Eprint + AllocGlobal, T: Tape + Drop, F: NodeFolder<T>
     context: &Context<'_, '_, R, N>,
     voter: &mut Voter<T>,
     folder: &mut F,
-    mesh: &mut Mesh<N>,
+    peers: &mut PeerConnections<N>,
     inbound: &mut Inbound<N::Connection>,
     piece: &mut [u8],
 ) -> Option<PeerEnd>
@@ -133,12 +133,12 @@ fn read_pieces<R: Clock + Eprint + AllocGlobal, T: Tape + Drop, F: NodeFolder<T>
 {
     for _ in 0..MOST_PIECES {
         let came = inbound.handle(piece, context.time);
-        match take_in(context, voter, folder, mesh, inbound, came) {
+        match take_in(context, voter, folder, peers, inbound, came) {
             Ok(()) => {}
             Err(ended) => return ended,
         }
     }
-    mesh.is_busy = true;
+    peers.is_busy = true;
     None
 }
 
@@ -149,7 +149,7 @@ fn take_in<R: Clock + Eprint + AllocGlobal, T: Tape + Drop, F: NodeFolder<T>, N:
     context: &Context<'_, '_, R, N>,
     voter: &mut Voter<T>,
     folder: &mut F,
-    mesh: &mut Mesh<N>,
+    peers: &mut PeerConnections<N>,
     inbound: &mut Inbound<N::Connection>,
     came: Came,
 ) -> Result<(), Option<PeerEnd>>
@@ -160,13 +160,13 @@ fn take_in<R: Clock + Eprint + AllocGlobal, T: Tape + Drop, F: NodeFolder<T>, N:
         Came::Nothing => Err(inbound.send()),
         Came::Part => Ok(()),
         Came::Greeting(greeting) => {
-            match let_in(context, voter, folder, mesh, inbound, &greeting) {
+            match let_in(context, voter, folder, peers, inbound, &greeting) {
                 Some(why) => Err(Some(why)),
                 None => Ok(()),
             }
         }
         Came::Messages(peer, count) => {
-            match deliver_all(context, voter, folder, mesh, inbound, peer, count) {
+            match deliver_all(context, voter, folder, peers, inbound, peer, count) {
                 Some(why) => Err(Some(why)),
                 None => Ok(()),
             }
@@ -182,7 +182,7 @@ fn let_in<R: Clock + Eprint + AllocGlobal, T: Tape + Drop, F: NodeFolder<T>, N: 
     context: &Context<'_, '_, R, N>,
     voter: &mut Voter<T>,
     folder: &mut F,
-    mesh: &mut Mesh<N>,
+    peers: &mut PeerConnections<N>,
     inbound: &mut Inbound<N::Connection>,
     said: &Greeting,
 ) -> Option<PeerEnd>
@@ -193,7 +193,7 @@ fn let_in<R: Clock + Eprint + AllocGlobal, T: Tape + Drop, F: NodeFolder<T>, N: 
         context,
         voter,
         folder,
-        mesh,
+        peers,
         Some(inbound.address()),
         None,
         said,
@@ -203,15 +203,15 @@ fn let_in<R: Clock + Eprint + AllocGlobal, T: Tape + Drop, F: NodeFolder<T>, N: 
         return Some(PeerEnd::Unwritten);
     }
     if let Err(why) = admitted {
-        mesh.reject(context.alloc(), inbound, said.node, why);
+        peers.reject(context.alloc(), inbound, said.node, why);
         return Some(PeerEnd::Rejected(why));
     }
     let peer = said.node;
-    mesh.close_older(context, peer);
-    let Some(own) = greeting(mesh, voter) else {
+    peers.close_older(context, peer);
+    let Some(own) = greeting(peers, voter) else {
         return Some(PeerEnd::Memory);
     };
-    mesh.note_accepted(context, peer);
+    peers.note_accepted(context, peer);
     inbound.let_in(context.alloc(), &own)
 }
 
@@ -224,7 +224,7 @@ pub(crate) fn admit<R: Clock + Eprint + AllocGlobal, T: Tape + Drop, F: NodeFold
     context: &Context<'_, '_, R, N>,
     voter: &mut Voter<T>,
     folder: &mut F,
-    mesh: &mut Mesh<N>,
+    peers: &mut PeerConnections<N>,
     address: Option<SocketAddr>,
     index: Option<NodeId>,
     said: &Greeting,
@@ -234,7 +234,7 @@ pub(crate) fn admit<R: Clock + Eprint + AllocGlobal, T: Tape + Drop, F: NodeFold
     // Only with the folder that is taken for its node by what this node began with.
     ensures folder { OnOk result (IsNodesFolder voter.old.membership.replacements said.now) }
 {
-    let admitted = mesh.admit(
+    let admitted = peers.admit(
         context,
         voter.process.node().history(),
         &voter.membership,
@@ -242,8 +242,8 @@ pub(crate) fn admit<R: Clock + Eprint + AllocGlobal, T: Tape + Drop, F: NodeFold
         index,
         said,
     );
-    let _ = save(context, voter, folder, mesh);
-    obey(context, voter, folder, mesh);
+    let _ = save(context, voter, folder, peers);
+    obey(context, voter, folder, peers);
     admitted
 }
 
@@ -253,7 +253,7 @@ fn deliver_all<R: Clock + Eprint + AllocGlobal, T: Tape + Drop, F: NodeFolder<T>
     context: &Context<'_, '_, R, N>,
     voter: &mut Voter<T>,
     folder: &mut F,
-    mesh: &mut Mesh<N>,
+    peers: &mut PeerConnections<N>,
     inbound: &mut Inbound<N::Connection>,
     peer: NodeId,
     count: usize,
@@ -262,8 +262,8 @@ fn deliver_all<R: Clock + Eprint + AllocGlobal, T: Tape + Drop, F: NodeFolder<T>
         (F.stands folder.new) voter.new }
 {
     let number = peer.number() as usize;
-    mesh.note_received(number, count, context.time);
-    if !mesh.is_trusted(number) || !is_peer(mesh, peer) {
+    peers.note_received(number, count, context.time);
+    if !peers.is_trusted(number) || !is_peer(peers, peer) {
         // as if the network had lost them
         return None;
     }
@@ -272,7 +272,7 @@ fn deliver_all<R: Clock + Eprint + AllocGlobal, T: Tape + Drop, F: NodeFolder<T>
             // so are the others
             return None;
         }
-        if let Some(why) = deliver_next(context, voter, folder, mesh, inbound, peer) {
+        if let Some(why) = deliver_next(context, voter, folder, peers, inbound, peer) {
             return Some(why);
         }
     }
@@ -280,8 +280,8 @@ fn deliver_all<R: Clock + Eprint + AllocGlobal, T: Tape + Drop, F: NodeFolder<T>
 }
 
 /// Whether that is another node of the farm.
-fn is_peer<N: Network>(mesh: &Mesh<N>, peer: NodeId) -> bool {
-    usize::from(peer.number()) < mesh.dials.len() && peer != mesh.plan.own.node
+fn is_peer<N: Network>(peers: &PeerConnections<N>, peer: NodeId) -> bool {
+    usize::from(peer.number()) < peers.dials.len() && peer != peers.plan.own.node
 }
 
 /// Whether the node is given the first message that waits.
@@ -302,30 +302,34 @@ fn deliver_next<R: Clock + Eprint + AllocGlobal, T: Tape + Drop, F: NodeFolder<T
     context: &Context<'_, '_, R, N>,
     voter: &mut Voter<T>,
     folder: &mut F,
-    mesh: &mut Mesh<N>,
+    peers: &mut PeerConnections<N>,
     inbound: &mut Inbound<N::Connection>,
     peer: NodeId,
 ) -> Option<PeerEnd>
     ensures on { ContinuesIn T.Tape (F.stands folder.old) voter.old
         (F.stands folder.new) voter.new }
 {
-    if !hears_next(inbound, &mut mesh.notes, peer) {
+    if !hears_next(inbound, &mut peers.table, peer) {
         return Some(PeerEnd::WrongSender);
     }
-    if !keeps_next(context, voter, folder, mesh, inbound, peer) {
+    if !keeps_next(context, voter, folder, peers, inbound, peer) {
         return Some(PeerEnd::Unwritten);
     }
     if let Some(message) = inbound.pop() {
-        deliver_first(context, voter, mesh, message);
+        deliver_first(context, voter, peers, message);
     }
     None
 }
 
 /// What the first message that waits tells of its peer: that is kept. Returns whether the peer may
 /// send it.
-fn hears_next<C: Connection + Drop>(inbound: &Inbound<C>, notes: &mut Notes, peer: NodeId) -> bool {
+fn hears_next<C: Connection + Drop>(
+    inbound: &Inbound<C>,
+    table: &mut PeerTable,
+    peer: NodeId,
+) -> bool {
     match inbound.first() {
-        Some(message) => notes.hear(message, peer),
+        Some(message) => table.hear(message, peer),
         None => true,
     }
 }
@@ -337,7 +341,7 @@ fn keeps_next<R: Clock + Eprint + AllocGlobal, T: Tape + Drop, F: NodeFolder<T>,
     context: &Context<'_, '_, R, N>,
     voter: &mut Voter<T>,
     folder: &mut F,
-    mesh: &mut Mesh<N>,
+    peers: &mut PeerConnections<N>,
     inbound: &Inbound<N::Connection>,
     peer: NodeId,
 ) -> bool
@@ -347,7 +351,7 @@ fn keeps_next<R: Clock + Eprint + AllocGlobal, T: Tape + Drop, F: NodeFolder<T>,
     if is_kept_next(voter, inbound, peer) {
         return true;
     }
-    let is_saved = save(context, voter, folder, mesh);
+    let is_saved = save(context, voter, folder, peers);
     is_saved && is_kept_next(voter, inbound, peer)
 }
 
@@ -368,13 +372,13 @@ fn is_kept_next<T: Tape + Drop, C: Connection + Drop>(
 fn deliver_first<R: Clock + Eprint + AllocGlobal, T: Tape + Drop, N: Network>(
     context: &Context<'_, '_, R, N>,
     voter: &mut Voter<T>,
-    mesh: &mut Mesh<N>,
+    peers: &mut PeerConnections<N>,
     message: PeerMessage,
 )
     ensures { Continues T.Tape voter.old voter.new }
 {
     let from = micros(context.rt);
     deliver(context.alloc(), voter, message);
-    mesh.steps.add(from, micros(context.rt));
-    send_all(context, voter, mesh);
+    peers.steps.add(from, micros(context.rt));
+    send_all(context, voter, peers);
 }

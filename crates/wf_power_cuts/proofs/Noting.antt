@@ -9,8 +9,8 @@ use Rattle.wf_power_cuts.proofs.Told.{told_compared, told_counted, told_drawn, t
 use Rattle.wf_power_cuts.specs.Cut.{is_file}
 use Rattle.wf_power_cuts.specs.Disks.{AreOnlyRead, AreCutsTold, ChangesDisk, DiskSet, IsOldOr, disk_of, empty_disks, past_of}
 use Rattle.wf_store.specs.Call.{Call, failed, failed_at, is_change, opened, opened_existing, read, replaced, unreplaced}
-use Rattle.wf_store.specs.declared.deed.Deed.{Deed}
-use Rattle.wf_store.specs.declared.deed.Deed.TheVariants as deeds
+use Rattle.wf_store.specs.declared.call_kind.CallKind.{CallKind}
+use Rattle.wf_store.specs.declared.call_kind.CallKind.TheVariants as kinds
 use Rattle.wf_store.specs.declared.file_name.FileName.{FileName}
 
 -- the disks before it are the latest
@@ -24,26 +24,26 @@ pub told_by : (calls later : List Call) (notes after : List (DiskSet × Unit {0}
 told_by calls later notes after now new call grown more told =
     subst (λ (past : List DiskSet). AreCutsTold later new past) (sym (past_grows notes after now grown)) (subst (λ (c : List Call). AreCutsTold c new (now ∷ past_of notes)) (sym more) told)
 
-quiet : (calls : List Call) (now new : DiskSet) (past : List DiskSet) (deed : Deed) → AreCutsTold calls now past → AreOnlyRead now new → is_change deed ≡ false
-    → AreCutsTold (record { deed = deed; bytes = None } ∷ calls) new (now ∷ past)
-quiet calls now new past deeds.Makes told reads plain = told_made calls now new past told reads
-quiet calls now new past deeds.Locks told reads plain = told_locked calls now new past told reads
-quiet calls now new past (deeds.Compares same) told reads plain = told_compared calls now new past told reads same
-quiet calls now new past (deeds.Counts count) told reads plain = told_counted calls now new past told reads count
-quiet calls now new past (deeds.Draws bits) told reads plain = told_drawn calls now new past told reads bits
-quiet calls now new past (deeds.Sees file there) told reads plain = told_seen calls now new past told reads file there
-quiet calls now new past (deeds.Measures file length) told reads plain = told_measured calls now new past told reads file length
-quiet calls now new past (deeds.Reads file) told reads plain = told_read calls now new past told reads file None
-quiet calls now new past (deeds.Opens file) told reads plain = absurd (false≢true (sym plain))
-quiet calls now new past (deeds.OpensExisting file) told reads plain = absurd (false≢true (sym plain))
-quiet calls now new past (deeds.Replaces file) told reads plain = absurd (false≢true (sym plain))
-quiet calls now new past deeds.Fails told reads plain = told_failed calls now new past told reads
-quiet calls now new past (deeds.FailsAt file) told reads plain = absurd (false≢true (sym plain))
+quiet : (calls : List Call) (now new : DiskSet) (past : List DiskSet) (kind : CallKind) → AreCutsTold calls now past → AreOnlyRead now new → is_change kind ≡ false
+    → AreCutsTold (record { kind = kind; bytes = None } ∷ calls) new (now ∷ past)
+quiet calls now new past kinds.Makes told reads plain = told_made calls now new past told reads
+quiet calls now new past kinds.Locks told reads plain = told_locked calls now new past told reads
+quiet calls now new past (kinds.Compares same) told reads plain = told_compared calls now new past told reads same
+quiet calls now new past (kinds.Counts count) told reads plain = told_counted calls now new past told reads count
+quiet calls now new past (kinds.Draws bits) told reads plain = told_drawn calls now new past told reads bits
+quiet calls now new past (kinds.Sees file there) told reads plain = told_seen calls now new past told reads file there
+quiet calls now new past (kinds.Measures file length) told reads plain = told_measured calls now new past told reads file length
+quiet calls now new past (kinds.Reads file) told reads plain = told_read calls now new past told reads file None
+quiet calls now new past (kinds.Opens file) told reads plain = absurd (false≢true (sym plain))
+quiet calls now new past (kinds.OpensExisting file) told reads plain = absurd (false≢true (sym plain))
+quiet calls now new past (kinds.Replaces file) told reads plain = absurd (false≢true (sym plain))
+quiet calls now new past kinds.Fails told reads plain = told_failed calls now new past told reads
+quiet calls now new past (kinds.FailsAt file) told reads plain = absurd (false≢true (sym plain))
 
-pub told_quiet : (calls later : List Call) (notes after : List (DiskSet × Unit {0})) (now new : DiskSet) (deed : Deed) → AreCutsTold calls now (past_of notes) → AreOnlyRead now new → is_change deed ≡ false
-    → after ≡ notes ++ (now, tt) ∷ [] → later ≡ record { deed = deed; bytes = None } ∷ calls → AreCutsTold later new (past_of after)
-told_quiet calls later notes after now new deed told reads plain grown more =
-    told_by calls later notes after now new (record { deed = deed; bytes = None }) grown more (quiet calls now new (past_of notes) deed told reads plain)
+pub told_quiet : (calls later : List Call) (notes after : List (DiskSet × Unit {0})) (now new : DiskSet) (kind : CallKind) → AreCutsTold calls now (past_of notes) → AreOnlyRead now new → is_change kind ≡ false
+    → after ≡ notes ++ (now, tt) ∷ [] → later ≡ record { kind = kind; bytes = None } ∷ calls → AreCutsTold later new (past_of after)
+told_quiet calls later notes after now new kind told reads plain grown more =
+    told_by calls later notes after now new (record { kind = kind; bytes = None }) grown more (quiet calls now new (past_of notes) kind told reads plain)
 
 pub told_look : (calls : List Call) (notes after : List (DiskSet × Unit {0})) (now new : DiskSet) → AreCutsTold calls now (past_of notes) → AreOnlyRead now new → after ≡ notes ++ (now, tt) ∷ [] → AreCutsTold calls new (past_of after)
 told_look calls notes after now new told reads grown = subst (λ (past : List DiskSet). AreCutsTold calls new past) (sym (past_grows notes after now grown)) (told_looked calls now new (past_of notes) told reads)

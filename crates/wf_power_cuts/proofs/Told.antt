@@ -11,8 +11,8 @@ use Rattle.wf_power_cuts.specs.Disks.{AreOnlyRead, AreCutsTold, ChangesDisk, Dis
 use Rattle.wf_disk.specs.FolderTheorems.{no_file_is_left, none_is_left}
 use Rattle.wf_store.specs.declared.file_name.FileName.TheVariants.{Farm, Heard, Joins, NodeTape, Replaced, ReplicaTape}
 use Rattle.wf_store.specs.Call.{Call, compared, counted, drawn, failed, failed_at, locked, made, measured, opened, opened_existing, read, replaced, seen, unreplaced}
-use Rattle.wf_store.specs.declared.deed.Deed.{Deed}
-use Rattle.wf_store.specs.declared.deed.Deed.TheVariants as deeds
+use Rattle.wf_store.specs.declared.call_kind.CallKind.{CallKind}
+use Rattle.wf_store.specs.declared.call_kind.CallKind.TheVariants as kinds
 use Rattle.wf_store.specs.declared.file_name.FileName.{FileName}
 
 -- on disks without files a cut leaves none
@@ -47,30 +47,30 @@ chosen true on other here there = here refl
 chosen false on other here there = there refl
 
 -- what a cut may leave after a call, one could leave inside it
-inside_too : (deed : Deed) (bytes : Option (List ℕ)) (file : FileName) (before : List ℕ → Type 0) (image : List ℕ) → IsCutAfter deed bytes file before image → IsLeftIn deed bytes file before image
-inside_too (deeds.Replaces named) bytes file before image left = given_too (is_file named file) left
+inside_too : (kind : CallKind) (bytes : Option (List ℕ)) (file : FileName) (before : List ℕ → Type 0) (image : List ℕ) → IsCutAfter kind bytes file before image → IsLeftIn kind bytes file before image
+inside_too (kinds.Replaces named) bytes file before image left = given_too (is_file named file) left
   where
     given_too : (is : Bool) → OfFile is (WasGiven bytes image) (before image) → OfFile is (before image ⊎ WasGiven bytes image) (before image)
     given_too true given = inr given
     given_too false was = was
-inside_too (deeds.FailsAt named) bytes file before image left = left
-inside_too (deeds.Opens named) bytes file before image left = left
-inside_too (deeds.OpensExisting named) bytes file before image left = left
-inside_too deeds.Makes bytes file before image left = left
-inside_too deeds.Locks bytes file before image left = left
-inside_too (deeds.Compares same) bytes file before image left = left
-inside_too (deeds.Counts count) bytes file before image left = left
-inside_too (deeds.Draws bits) bytes file before image left = left
-inside_too (deeds.Sees named there) bytes file before image left = left
-inside_too (deeds.Measures named length) bytes file before image left = left
-inside_too (deeds.Reads named) bytes file before image left = left
-inside_too deeds.Fails bytes file before image left = left
+inside_too (kinds.FailsAt named) bytes file before image left = left
+inside_too (kinds.Opens named) bytes file before image left = left
+inside_too (kinds.OpensExisting named) bytes file before image left = left
+inside_too kinds.Makes bytes file before image left = left
+inside_too kinds.Locks bytes file before image left = left
+inside_too (kinds.Compares same) bytes file before image left = left
+inside_too (kinds.Counts count) bytes file before image left = left
+inside_too (kinds.Draws bits) bytes file before image left = left
+inside_too (kinds.Sees named there) bytes file before image left = left
+inside_too (kinds.Measures named length) bytes file before image left = left
+inside_too (kinds.Reads named) bytes file before image left = left
+inside_too kinds.Fails bytes file before image left = left
 
 -- what a cut may leave now it could leave at some moment
 could_now : (calls : List Call) (images : FileName → List ℕ) → ((file : FileName) → MayLeaveNow calls file (images file)) → CouldLeave calls images
 unfolding MayLeaveNow CouldLeave
 could_now [] images left = left
-could_now (call ∷ earlier) images left = inl (λ file. inside_too call.deed call.bytes file (MayLeaveNow earlier file) (images file) (left file))
+could_now (call ∷ earlier) images left = inl (λ file. inside_too call.kind call.bytes file (MayLeaveNow earlier file) (images file) (left file))
 
 -- ---- one call more
 
@@ -79,8 +79,8 @@ module _ (calls : List Call) (now new : DiskSet) (past : List DiskSet) (told : A
   abbrev could : FileName → List ℕ → Type 0
   could = MayLeaveNow calls
 
-  told_step : (call : Call) → ((file : FileName) (image : List ℕ) → MayLeave (disk_of new file).folder image → IsCutAfter call.deed call.bytes file (could file) image)
-      → ((file : FileName) (image : List ℕ) → IsFileLeftSince (disk_of new file) (moment_of (disk_of now file)) image → IsLeftIn call.deed call.bytes file (could file) image)
+  told_step : (call : Call) → ((file : FileName) (image : List ℕ) → MayLeave (disk_of new file).folder image → IsCutAfter call.kind call.bytes file (could file) image)
+      → ((file : FileName) (image : List ℕ) → IsFileLeftSince (disk_of new file) (moment_of (disk_of now file)) image → IsLeftIn call.kind call.bytes file (could file) image)
       → AreCutsTold (call ∷ calls) new (now ∷ past)
   unfolding MayLeaveNow CouldLeave WereLeft
   told_step call after inside = record {

@@ -8,7 +8,7 @@ use std::alloc::{AllocError, Global};
 use std::marker::Model;
 use wf_disk::{DiskFault, MemoryDisk};
 use wf_past::Past;
-use wf_store::{Calls, Deed, FileName};
+use wf_store::{CallKind, Calls, FileName};
 use wf_tape::{DiskTape, TapeFault};
 
 /// A folder on disks in memory, of one node's tape: a power cut leaves of its files what its calls
@@ -57,13 +57,13 @@ impl DiskStore {
 
     /// Notes a call that changed no file.
     #[tactic(auto, using(crate::proofs::Noting::told_quiet))]
-    pub(crate) fn note(&mut self, deed: Deed)
-        requires { is_change deed ≡ false }
-        ensures all { self.new.calls ≡ record { deed = deed; bytes = None } ∷ self.old.calls }
+    pub(crate) fn note(&mut self, kind: CallKind)
+        requires { is_change kind ≡ false }
+        ensures all { self.new.calls ≡ record { kind = kind; bytes = None } ∷ self.old.calls }
         ensures reads { OnlyReads self.old.calls self.new.calls }
     {
         self.past = self.past.and(&self.disks, &());
-        self.calls = self.calls.and(deed, &None);
+        self.calls = self.calls.and(kind, &None);
     }
 
     /// The bytes of a file, before a call is noted. None: there is no such file. The only error is
@@ -148,7 +148,7 @@ impl DiskStore {
         ensures reads { OnlyReads self.old.calls self.new.calls }
     {
         self.past = self.past.and(&self.disks, &());
-        self.calls = self.calls.and(Deed::Reads(file), found);
+        self.calls = self.calls.and(CallKind::Reads(file), found);
     }
 
     /// Opens a file as a tape, and notes it; it is made if it is absent.
@@ -160,11 +160,11 @@ impl DiskStore {
         self.past = self.past.and(&self.disks, &());
         match self.disks.open(self.alloc, file) {
             Ok(tape) => {
-                self.calls = self.calls.and(Deed::Opens(file), &None);
+                self.calls = self.calls.and(CallKind::Opens(file), &None);
                 Ok(tape)
             }
             Err(fault) => {
-                self.calls = self.calls.and(Deed::FailsAt(file), &None);
+                self.calls = self.calls.and(CallKind::FailsAt(file), &None);
                 Err(fault)
             }
         }
@@ -182,11 +182,11 @@ impl DiskStore {
         self.past = self.past.and(&self.disks, &());
         match self.disks.open(self.alloc, file) {
             Ok(tape) => {
-                self.calls = self.calls.and(Deed::OpensExisting(file), &None);
+                self.calls = self.calls.and(CallKind::OpensExisting(file), &None);
                 Ok(tape)
             }
             Err(fault) => {
-                self.calls = self.calls.and(Deed::Fails, &None);
+                self.calls = self.calls.and(CallKind::Fails, &None);
                 Err(fault)
             }
         }
@@ -202,13 +202,13 @@ impl DiskStore {
         match self.disks.replace(self.alloc, file, &bytes) {
             Ok(()) => {
                 let given = Some(bytes);
-                self.calls = self.calls.and(Deed::Replaces(file), &given);
+                self.calls = self.calls.and(CallKind::Replaces(file), &given);
                 drop(given);
                 Ok(())
             }
             Err(fault) => {
                 let given = Some(bytes);
-                self.calls = self.calls.and(Deed::FailsAt(file), &given);
+                self.calls = self.calls.and(CallKind::FailsAt(file), &given);
                 drop(given);
                 Err(fault)
             }

@@ -7,7 +7,7 @@ use crate::folder::DiskStore;
 use std::io::ErrorKind;
 use wf_disk::{DiskFault, MemoryDisk};
 use wf_folder::Presence;
-use wf_store::{Deed, FileName, FolderFault, Store};
+use wf_store::{CallKind, FileName, FolderFault, Store};
 use wf_tape::{DiskTape, TapeFault};
 
 /// Why a file isn't replaced, by the error of its disk.
@@ -50,29 +50,29 @@ impl Store for DiskStore {
     ghost calls = { λ store. store.calls };
 
     fn make(&mut self) -> Result<(), FolderFault> {
-        self.note(Deed::Makes);
+        self.note(CallKind::Makes);
         Ok(())
     }
 
     fn lock(&mut self) -> Result<(), FolderFault> {
-        self.note(Deed::Locks);
+        self.note(CallKind::Locks);
         Ok(())
     }
 
     fn is_same(&mut self) -> Result<bool, FolderFault> {
-        self.note(Deed::Compares(true));
+        self.note(CallKind::Compares(true));
         Ok(true)
     }
 
     fn count_names(&mut self) -> Result<usize, FolderFault> {
         let count = self.count_files();
-        self.note(Deed::Counts(count));
+        self.note(CallKind::Counts(count));
         Ok(count)
     }
 
     fn draw(&mut self) -> Result<[u8; 16], FolderFault> {
         let bits = self.bits();
-        self.note(Deed::Draws(bits));
+        self.note(CallKind::Draws(bits));
         Ok(bits)
     }
 
@@ -81,11 +81,11 @@ impl Store for DiskStore {
             Ok(found) => {
                 let there = presence_of(&found);
                 drop(found);
-                self.note(Deed::Sees(file, there));
+                self.note(CallKind::Sees(file, there));
                 Ok(there)
             }
             Err(_) => {
-                self.note(Deed::Fails);
+                self.note(CallKind::Fails);
                 Err(FolderFault::Memory)
             }
         }
@@ -93,7 +93,7 @@ impl Store for DiskStore {
 
     fn length(&mut self, file: FileName) -> Option<u64> {
         let length = self.length_of(file);
-        self.note(Deed::Measures(file, length));
+        self.note(CallKind::Measures(file, length));
         length
     }
 
@@ -104,7 +104,7 @@ impl Store for DiskStore {
                 Ok(found)
             }
             Err(_) => {
-                self.note(Deed::Fails);
+                self.note(CallKind::Fails);
                 Err(FolderFault::Memory)
             }
         }
@@ -124,7 +124,7 @@ impl Store for DiskStore {
                 Err(fault) => Err(unopened(file, fault)),
             },
             None => {
-                self.note(Deed::Fails);
+                self.note(CallKind::Fails);
                 Err(FolderFault::Unopened(file))
             }
         }

@@ -15,8 +15,8 @@
 //! and a part of the next one; what was sent on it, with what is still to be taken, is the replies
 //! to them, one after the other ([`ReadersPort::always_replied`]). The exchanges that a turn makes
 //! are each a question with the encoding of the reply that it has by the history of that turn, if
-//! the digests are the history's ([`ReadersPort::turn`], `specs/QuestionReplies.antt`); no other
-//! call makes one.
+//! the digests are the history's ([`ReadersPort::on_ready`], `specs/QuestionReplies.antt`); no
+//! other call makes one.
 //!
 //! **Doesn't.** No clause says which sockets are ready, or what became of a connection after its
 //! last turn. The network is any ([`wf_sockets`]); where none is named it is the system's.

@@ -163,7 +163,7 @@ impl<N: Network> ReadersPort<N> {
     /// Answers the reader in a slot, a bounded number of its questions. Each of them, with its
     /// reply, comes into the log.
     #[tactic(auto, using(crate::proofs::Replied::none_replied_to, crate::proofs::Replied::has_replied_between))]
-    pub fn turn<R: Clock + Eprint + AllocGlobal>(
+    pub fn on_ready<R: Clock + Eprint + AllocGlobal>(
         &mut self,
         context: &Context<'_, '_, R, N>,
         published: &PortView<'_>,

@@ -1,9 +1,9 @@
 -- What the runs of a folder leave that has only learned.
 use Rattle.std.proofs.Common.{◌≡◌, ℕ, Bool, true, false, List, [], ◌∷◌, map, Some, None, refl, sym, ap, subst, ◌∙◌, inl, inr}
 use Rattle.std.proofs.lemmas.Option.{same_Some}
-use Rattle.wf_career.specs.Career.{Ended, AreRuns}
-use Rattle.wf_career.specs.Continuation.{left_by}
-use Rattle.wf_career.specs.Run.{Input, Act, Run, last_of, last, RunEnd, Between, Within, Failed, StandForEither, FailedAt, HasLeft, AreDone}
+use Rattle.wf_execution.specs.Execution.{Ended, AreRuns}
+use Rattle.wf_execution.specs.Continuation.{left_by}
+use Rattle.wf_execution.specs.Run.{Input, Act, Run, last_of, last, RunEnd, Between, Within, Failed, StandForEither, FailedAt, HasLeft, AreDone}
 use Rattle.wf_codec.specs.Message as message
 use Rattle.wf_codec.specs.declared.message.Message.{Message}
 use Rattle.wf_def.specs.Definition.{Definition}

@@ -3,8 +3,8 @@ use Rattle.std.proofs.Common.{◌≡◌, ℕ, zero, suc, ◌<◌, ◌≤◌, Boo
 use Rattle.std.proofs.lemmas.Bool.{cases_eq}
 use Rattle.std.proofs.lemmas.List.{map-append}
 use Rattle.std.specs.Prelude.{⊤, ◌≢◌}
-use Rattle.wf_career.specs.Run.{last_of, last}
-use Rattle.wf_career.specs.RunTheorems.{last_more}
+use Rattle.wf_execution.specs.Run.{last_of, last}
+use Rattle.wf_execution.specs.RunTheorems.{last_more}
 use Rattle.wf_codec.specs.Message as message
 use Rattle.wf_codec.specs.declared.message.Message.{Message}
 use Rattle.wf_def.specs.Definition.{Definition}

@@ -1,9 +1,9 @@
 -- A folder that joins learns what is published, and is given nothing else: its runs, what they
 -- leave, and the theorems.
 use Rattle.std.specs.Prelude.{◌≡◌, ℕ, ◌<◌, ◌≤◌, ⊤, List, [], ◌∷◌, ◌++◌, map, take, slice_get, Some, None}
-use Rattle.wf_career.specs.Career.{Ended, AreRuns}
-use Rattle.wf_career.specs.Continuation.{left_by}
-use Rattle.wf_career.specs.Run.{Input, Act, RunEnd, Between, Within, Failed}
+use Rattle.wf_execution.specs.Execution.{Ended, AreRuns}
+use Rattle.wf_execution.specs.Continuation.{left_by}
+use Rattle.wf_execution.specs.Run.{Input, Act, RunEnd, Between, Within, Failed}
 use Rattle.wf_codec.specs.Message as message
 use Rattle.wf_codec.specs.declared.message.Message.{Message}
 use Rattle.wf_def.specs.Definition.{Definition}

@@ -1,8 +1,8 @@
 -- What an act of a process's run is in the model: a deed of its node.
 use Rattle.std.proofs.Common.{◌≡◌, ◌⊎◌, ℕ, Bool, true, false, List, [], ◌∷◌, ◌++◌, map, Option, Some, None, refl, sym, ap, subst, ◌∙◌, inl, inr}
 use Rattle.std.proofs.lemmas.Bool.{both_ways}
-use Rattle.wf_career.specs.Career.{IsOneOf}
-use Rattle.wf_career.specs.Run.{Input, Act, Run, last_of, last, FailedAt, AreDone, IsRun}
+use Rattle.wf_execution.specs.Execution.{IsOneOf}
+use Rattle.wf_execution.specs.Run.{Input, Act, Run, last_of, last, FailedAt, AreDone, IsRun}
 use Rattle.wf_codec.specs.Message as message
 use Rattle.wf_codec.specs.declared.message.Message.{Message}
 use Rattle.wf_def.specs.Definition.{Definition}

@@ -5,7 +5,7 @@ use Rattle.std.proofs.lemmas.Bool.{both_ways}
 use Rattle.std.proofs.lemmas.List.{take-append-le}
 use Rattle.std.proofs.lemmas.Option.{none-some, same_Some}
 use Rattle.wf_ballot.specs.Majority.{count_nodes}
-use Rattle.wf_career.specs.Run.{last_of, IsOpenedFrom}
+use Rattle.wf_execution.specs.Run.{last_of, IsOpenedFrom}
 use Rattle.wf_journal.specs.Records.{IsReadAsNone, ReadsAs}
 use Rattle.wf_model.specs.DurableState.{DurableState, nothing_stored, published}
 use Rattle.wf_model.specs.VolatileState.{window}

@@ -3,15 +3,15 @@
 use Rattle.std.proofs.Common.{◌≡◌, ◌≢◌, ℕ, zero, suc, ◌+◌, ◌<◌, ◌≤◌, ◌==◌, List, [], ◌∷◌, ◌++◌, take, slice_get, Option, Some, None, refl, sym, ap, subst, ◌∙◌, inl, inr, arith, append-nil, eq-eqb, ne_eqb, if◌then◌else◌}
 use Rattle.std.proofs.lemmas.Bool.{cases_eq, cases_lt}
 use Rattle.std.proofs.lemmas.Option.{none-some, same_Some}
-use Rattle.wf_career.specs.Career.{Career, values, Item, items_of, IsOneOf, AreInTurn, IsFarm}
-use Rattle.wf_career.specs.Run.{Between, Within, Failed}
-use Rattle.wf_career.specs.Theorems.{outputs_in}
+use Rattle.wf_execution.specs.Execution.{Execution, values, Item, items_of, IsOneOf, AreInTurn, IsFarm}
+use Rattle.wf_execution.specs.Run.{Between, Within, Failed}
+use Rattle.wf_execution.specs.Theorems.{outputs_in}
 use Rattle.wf_codec.specs.declared.message.Message.{Message}
 use Rattle.wf_node.specs.Node.{Node}
 use Rattle.wf_tape.specs.declared.tape.Tape.{Ghosts as Tape}
 use Rattle.wf_replacement.specs.Timeline.{ProcessEvent, Opens, Acts, Ends, Loses, Rejoins, process_of, returned_by, returned_through, ProcessState, Down, state_after, node_in, IsPossible, states_with, states_from, ArePossible, unstarted_process}
 use Rattle.wf_replacement.specs.Theorems.{IsWithoutLoss, IsOneTimeline, FarmIsTimeline}
-use Rattle.wf_replacement.proofs.Careers.{own_events, items_for, items_through, AreOf, MayHappen, AllMayHappen, AreSentAmong, nodes_with, nodes_by, events_own, events_plain, events_items, events_happen, events_nodes}
+use Rattle.wf_replacement.proofs.Executions.{own_events, items_for, items_through, AreOf, MayHappen, AllMayHappen, AreSentAmong, nodes_with, nodes_by, events_own, events_plain, events_items, events_happen, events_nodes}
 use Rattle.wf_replacement.proofs.Courses.{put, put_own, put_other, state_own, state_other}
 
 -- ---- the events and items of one process
@@ -329,27 +329,27 @@ none_rejoins (event ∷ events) (suc k) i bytes plain at = none_rejoins events k
 
 -- ---- the farm
 
-module _ {T : Type 0} (tapes : Tape T) (n : ℕ) (careers : ℕ → Career T) (items : List Item) (farm : IsFarm tapes n careers items) where
+module _ {T : Type 0} (tapes : Tape T) (n : ℕ) (executions : ℕ → Execution T) (items : List Item) (farm : IsFarm tapes n executions items) where
   lives : ℕ → List (ProcessEvent T)
-  lives i = own_events i (careers i).ended (careers i).now
+  lives i = own_events i (executions i).ended (executions i).now
 
   all_left : AreLeft tapes n unstarted_process lives items
   unfolding lives
   all_left = record {
-    own = λ i less. events_own i (careers i).ended (careers i).now;
-    happen = λ i less. events_happen i tapes n [] (careers i).ended (careers i).now (farm.each i less);
-    are_items = λ i less. events_items i (careers i).ended (careers i).now ∙ sym (farm.own i less);
-    plain = λ i less. events_plain i (careers i).ended (careers i).now;
+    own = λ i less. events_own i (executions i).ended (executions i).now;
+    happen = λ i less. events_happen i tapes n [] (executions i).ended (executions i).now (farm.each i less);
+    are_items = λ i less. events_items i (executions i).ended (executions i).now ∙ sym (farm.own i less);
+    plain = λ i less. events_plain i (executions i).ended (executions i).now;
   }
 
   merged : Merged tapes n [] unstarted_process lives items
   merged = merge tapes n items [] unstarted_process lives all_left farm.in_turn
 
-  nodes_held : (i : ℕ) → i < n → nodes_from i unstarted_process merged.events ≡ values (careers i)
+  nodes_held : (i : ℕ) → i < n → nodes_from i unstarted_process merged.events ≡ values (executions i)
   unfolding lives
-  nodes_held i less = ap (nodes_by (Down [])) (merged.each i less) ∙ events_nodes i [] (careers i).ended (careers i).now
+  nodes_held i less = ap (nodes_by (Down [])) (merged.each i less) ∙ events_nodes i [] (executions i).ended (executions i).now
 
-  one_timeline : IsOneTimeline tapes n careers items
+  one_timeline : IsOneTimeline tapes n executions items
   one_timeline = record {
     events = merged.events;
     timeline = merged.possible;
@@ -362,4 +362,4 @@ module _ {T : Type 0} (tapes : Tape T) (n : ℕ) (careers : ℕ → Career T) (i
   }
 
 pub farm_is_timeline : {T : Type 0} (tapes : Tape T) → FarmIsTimeline tapes
-farm_is_timeline tapes = λ n careers items farm. one_timeline tapes n careers items farm
+farm_is_timeline tapes = λ n executions items farm. one_timeline tapes n executions items farm

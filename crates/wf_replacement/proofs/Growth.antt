@@ -2,8 +2,8 @@
 use Rattle.std.proofs.Common.{◌≡◌, ℕ, zero, suc, ◌+◌, ◌<◌, ◌≤◌, List, [], ◌∷◌, ◌++◌, take, slice_get, Option, Some, None, refl, sym, ap, subst, ◌∙◌, inl, inr, arith}
 use Rattle.std.proofs.lemmas.Bool.{cases_eq, cases_lt}
 use Rattle.std.proofs.lemmas.Option.{none-some, same_Some}
-use Rattle.wf_career.specs.Run.{Run, last_of, last}
-use Rattle.wf_career.specs.RunTheorems.{last_more}
+use Rattle.wf_execution.specs.Run.{Run, last_of, last}
+use Rattle.wf_execution.specs.RunTheorems.{last_more}
 use Rattle.wf_codec.specs.declared.message.Message.{Message}
 use Rattle.wf_def.specs.Definition.{Definition}
 use Rattle.wf_delivery.specs.Delivery.{AnyPart, ShowsNode}

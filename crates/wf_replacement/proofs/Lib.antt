@@ -6,7 +6,7 @@ mod Guard
 mod Growth
 mod Agreement
 mod Continuation
-mod Careers
+mod Executions
 mod Farms
 mod Others
 mod Copies

@@ -3,9 +3,9 @@ use Rattle.std.proofs.Common.{◌≡◌, ◌⊎◌, ℕ, Bool, true, false, List
 use Rattle.std.proofs.lemmas.Bool.{both_ways}
 use Rattle.std.proofs.lemmas.Option.{none-some, same_Some}
 use Rattle.std.specs.Prelude.{⊤}
-use Rattle.wf_career.specs.Career.{IsOneOf}
-use Rattle.wf_career.specs.Run.{Input, Act, Run, last_of, last, RunEnd, Between, Within, Failed, FailedAt, HasLeft, IsOpenedFrom, IsAct, IsRun}
-use Rattle.wf_career.specs.RunTheorems.{last_more, done_more}
+use Rattle.wf_execution.specs.Execution.{IsOneOf}
+use Rattle.wf_execution.specs.Run.{Input, Act, Run, last_of, last, RunEnd, Between, Within, Failed, FailedAt, HasLeft, IsOpenedFrom, IsAct, IsRun}
+use Rattle.wf_execution.specs.RunTheorems.{last_more, done_more}
 use Rattle.wf_codec.specs.Message as message
 use Rattle.wf_codec.specs.declared.message.Message.{Message}
 use Rattle.wf_def.specs.Definition.{Definition}

@@ -1,7 +1,7 @@
 -- The theorems about timelines.
 use Rattle.std.specs.Prelude.{◌≡◌, ℕ, ◌+◌, ◌<◌, ◌≤◌, ⊤, List, [], ◌∷◌, ◌++◌, length, map, take, slice_get, Some, true}
-use Rattle.wf_career.specs.Career.{Career, Item, IsFarm, values}
-use Rattle.wf_career.specs.Theorems.{outputs_in}
+use Rattle.wf_execution.specs.Execution.{Execution, Item, IsFarm, values}
+use Rattle.wf_execution.specs.Theorems.{outputs_in}
 use Rattle.wf_codec.specs.Message as message
 use Rattle.wf_def.specs.Definition.{Definition}
 use Rattle.wf_def.specs.Equality.{definition_eq}
@@ -109,15 +109,15 @@ pub record AreHeldInOrder {T : Type 0} (n : ℕ) (events : List (ProcessEvent T)
 
 -- The farm's processes are a timeline without a loss, by which the same messages are returned. What
 -- a process of the farm held, it holds in the timeline, in the same order.
-pub record IsOneTimeline {T : Type 0} (tapes : Tape T) (n : ℕ) (careers : ℕ → Career T) (items : List Item) : Type 0 where
+pub record IsOneTimeline {T : Type 0} (tapes : Tape T) (n : ℕ) (executions : ℕ → Execution T) (items : List Item) : Type 0 where
   pub events : List (ProcessEvent T)
   pub timeline : IsTimeline tapes n events
   pub without_loss : IsWithoutLoss events
   pub may_rejoin : EachMayRejoin n events
   pub returned : returned_through events ≡ outputs_in items
-  pub held : (i moment later : ℕ) (node next : Node T) → i < n → moment ≤ later → slice_get (values (careers i)) moment ≡ Some node → slice_get (values (careers i)) later ≡ Some next →
+  pub held : (i moment later : ℕ) (node next : Node T) → i < n → moment ≤ later → slice_get (values (executions i)) moment ≡ Some node → slice_get (values (executions i)) later ≡ Some next →
       AreHeldInOrder n events i node next
 
--- So the theorems about farms of `wf_career` are those about timelines without a loss.
+-- So the theorems about farms of `wf_execution` are those about timelines without a loss.
 abbrev pub FarmIsTimeline : {T : Type 0} → Tape T → Type 0
-FarmIsTimeline {T} tapes = (n : ℕ) (careers : ℕ → Career T) (items : List Item) → IsFarm tapes n careers items → IsOneTimeline tapes n careers items
+FarmIsTimeline {T} tapes = (n : ℕ) (executions : ℕ → Execution T) (items : List Item) → IsFarm tapes n executions items → IsOneTimeline tapes n executions items

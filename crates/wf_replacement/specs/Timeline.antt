@@ -1,8 +1,8 @@
 -- A farm whose processes may lose their disks and be replaced: what happens to them, in one order
 -- of time.
 use Rattle.std.specs.Prelude.{ℕ, ◌<◌, ◌==◌, ⊤, List, [], ◌∷◌, ◌++◌, take, Option, Some, None, if◌then◌else◌}
-use Rattle.wf_career.specs.Career.{IsOneOf}
-use Rattle.wf_career.specs.Run.{Act, Run, last, RunEnd, Between, Within, Failed, HasLeft, IsOpenedFrom, IsAct}
+use Rattle.wf_execution.specs.Execution.{IsOneOf}
+use Rattle.wf_execution.specs.Run.{Act, Run, last, RunEnd, Between, Within, Failed, HasLeft, IsOpenedFrom, IsAct}
 use Rattle.wf_codec.specs.declared.message.Message.{Message}
 use Rattle.wf_def.specs.Definition.{Definition}
 use Rattle.wf_model.specs.DurableState.{DurableState}
@@ -80,8 +80,8 @@ IsCutInputSent sent (Within input) = IsOneOf sent input
 IsCutInputSent sent (Failed input) = ⊤
 
 -- An event may happen to a process of n in this state, where these messages were returned before. A
--- run begins from what the last one left; a run ends as one of `wf_career` does; a process is lost
--- whether it runs or not; and only a lost one is replaced.
+-- run begins from what the last one left; a run ends as one of `wf_execution` does; a process is
+-- lost whether it runs or not; and only a lost one is replaced.
 abbrev pub IsPossible : {T : Type 0} → Tape T → ℕ → List Message → ProcessState T → ProcessEvent T → Type 0
 IsPossible tapes n sent (Down bytes) (Opens i node) = IsOpenedFrom n i bytes node
 IsPossible tapes n sent (Down bytes) (Acts i act) = ⊥

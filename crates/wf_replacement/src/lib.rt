@@ -1,10 +1,10 @@
 //! A farm of processes of which some are lost with their disks and replaced: it agrees, goes on and
-//! answers alike. Theorems alone, above those of `wf_career`, of which no process is ever lost.
+//! answers alike. Theorems alone, above those of `wf_execution`, of which no process is ever lost.
 //!
 //! **Model.** A timeline (`specs/Timeline.antt`) is what happens to n processes, in one order of
-//! time: a run begins, its node takes a step, the run ends, as `wf_career` has them; a process is
-//! lost with its disk, whether it runs or not; and one that was lost is replaced, by bytes that its
-//! next run is opened from. Moment k is that after the first k events.
+//! time: a run begins, its node takes a step, the run ends, as `wf_execution` has them; a process
+//! is lost with its disk, whether it runs or not; and one that was lost is replaced, by bytes that
+//! its next run is opened from. Moment k is that after the first k events.
 //!
 //! **Premises of a replacement** (`MayRejoin` of `specs/Rejoining.antt`). Since anything happened
 //! to the process that is replaced, at least half of all processes were asked, each at a moment of
@@ -27,8 +27,8 @@
 //! - Those who are asked before a replacement are others than the process that is replaced
 //!   ([`asked_are_others`]), and bytes that read as the records by which definitions are published
 //!   hold a copy of these ([`copies_are_held`]).
-//! - A farm of `wf_career` is a timeline without a loss ([`a_farm_is_a_timeline`]): so its theorems
-//!   are these, without a replacement.
+//! - A farm of `wf_execution` is a timeline without a loss ([`a_farm_is_a_timeline`]): so its
+//!   theorems are these, without a replacement.
 //! - A timeline goes on with each event that may happen at its end: so the calls of programs make
 //!   one ([`a_timeline_goes_on`]).
 //! - An example meets the premises: process 2 of three is lost, and replaced by a copy of four maps
@@ -109,7 +109,7 @@ pub fn a_timeline_goes_on<T: Tape>()
     ensures { TimelineGoesOn T.Tape }
 {}
 
-/// A farm of `wf_career` is a timeline in which no process is lost: so what is proved here of
+/// A farm of `wf_execution` is a timeline in which no process is lost: so what is proved here of
 /// timelines is, without a replacement, what is proved there of farms. A theorem: the call does
 /// nothing.
 pub fn a_farm_is_a_timeline<T: Tape>()

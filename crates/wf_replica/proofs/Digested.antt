@@ -3,7 +3,7 @@ use Rattle.std.proofs.Common.{◌≡◌, ◌∙◌, ℕ, ◌+◌, ◌≤◌, ◌
 use Rattle.std.specs.Prelude.{min, Result, Ok, Err, OnOk, OnErr}
 use Rattle.std.proofs.lemmas.List.{take-append-le, length-take}
 use Rattle.std.proofs.Math.Seq.{take-length}
-use Rattle.wf_career.specs.Replica.{after_learning}
+use Rattle.wf_execution.specs.Replica.{after_learning}
 use Rattle.wf_def.specs.Definition.{Definition}
 use Rattle.wf_digest.specs.Digest.{AreDigestsOf, digest_after, digest_at, digests_after, first_digest, next_digest}
 use Rattle.wf_learner.specs.History.{History}

@@ -5,7 +5,7 @@ use Rattle.std.proofs.lemmas.Bool.{cases_lt}
 use Rattle.std.proofs.lemmas.List.{map-append, take-append-le}
 use Rattle.std.proofs.Math.Seq.{take-length}
 use Rattle.wf_ballot.specs.Sequence.{last_sequence}
-use Rattle.wf_career.specs.Replica.{after_learning}
+use Rattle.wf_execution.specs.Replica.{after_learning}
 use Rattle.wf_codec.specs.Message.{view}
 use Rattle.wf_codec.specs.declared.message.Message as code
 use Rattle.wf_def.specs.Definition.{Definition}

@@ -4,8 +4,8 @@ use Rattle.std.specs.Option.{option_to_list}
 use Rattle.std.proofs.lemmas.Bool.{cases_eq}
 use Rattle.std.proofs.lemmas.List.{length-take-le, take-append-drop}
 use Rattle.std.proofs.lemmas.Option.{slice_get_within}
-use Rattle.wf_career.specs.Career.{Career}
-use Rattle.wf_career.specs.Replica.{after_learning, IsListOfFarm, Empty, Learned, ServedAgree, ServedAnswer}
+use Rattle.wf_execution.specs.Execution.{Execution}
+use Rattle.wf_execution.specs.Replica.{after_learning, IsListOfFarm, Empty, Learned, ServedAgree, ServedAnswer}
 use Rattle.wf_def.specs.Definition.{Definition}
 use Rattle.wf_safety.specs.Theorems.{IsBeginning}
 use Rattle.wf_learner.specs.History.{with_chosen, next_of}
@@ -111,40 +111,40 @@ pub first_reported : (list : List Definition) (k : ℕ) (x : Definition) → sli
 unfolding reports_from reports reports_of definition_at
 first_reported list k x at = subst (λ (o : Option Definition). IsIn (Chosen (suc k) x) (reports_of (suc k) o ++ reports_from list (suc (suc k)) 7)) (sym at) (inl refl)
 
-module _ {T : Type 0} (n : ℕ) (careers : ℕ → Career T) where
-  served_along : (received : List (Message Definition)) → AreReported n careers received → (list : List Definition) → IsListOfFarm n careers list → IsListOfFarm n careers (learned list received)
+module _ {T : Type 0} (n : ℕ) (executions : ℕ → Execution T) where
+  served_along : (received : List (Message Definition)) → AreReported n executions received → (list : List Definition) → IsListOfFarm n executions list → IsListOfFarm n executions (learned list received)
   unfolding learned
   served_along [] reports list served = served
   served_along (m ∷ received) reports list served =
       let states = reports m (inl refl) in
       served_along received (λ x is_in. reports x (inr is_in)) (after_learning list m) (Learned list states.source (after_learning list m) states.asked m served states.served states.reports refl)
 
-  next_served : (list : List Definition) → IsListOfFarm n careers list → (k : ℕ) → IsListOfFarm n careers (take k list) → (o : Option Definition) → slice_get list k ≡ o → IsListOfFarm n careers (take (suc k) list)
+  next_served : (list : List Definition) → IsListOfFarm n executions list → (k : ℕ) → IsListOfFarm n executions (take k list) → (o : Option Definition) → slice_get list k ≡ o → IsListOfFarm n executions (take (suc k) list)
   next_served list served k was None at =
-      subst (IsListOfFarm n careers) (sym (one_more k list ∙ ap (λ (o : Option Definition). take k list ++ option_to_list o) at ∙ append-nil (take k list))) was
+      subst (IsListOfFarm n executions) (sym (one_more k list ∙ ap (λ (o : Option Definition). take k list ++ option_to_list o) at ∙ append-nil (take k list))) was
   next_served list served k was (Some x) at =
       let within : k < length list = slice_get_within list k x at in
       let size : suc k ≡ next_of (take k list) = omega (arith, length-take-le k list (omega (arith, within))) in
       Learned (take k list) list (take (suc k) list) (suc k) (Chosen (suc k) x) was served (first_reported list k x at)
       (one_more k list ∙ ap (λ (o : Option Definition). take k list ++ option_to_list o) at ∙ sym (learned_own (take k list) (suc k) x size))
 
-  front_served : (list : List Definition) → IsListOfFarm n careers list → (k : ℕ) → IsListOfFarm n careers (take k list)
+  front_served : (list : List Definition) → IsListOfFarm n executions list → (k : ℕ) → IsListOfFarm n executions (take k list)
   front_served list served zero = Empty [] refl
   front_served list served (suc k) = next_served list served k (front_served list served k) (slice_get list k) refl
 
 pub learned_are_served : {T : Type 0} → LearnedAreServed T
-learned_are_served {T} = λ n careers received reports k. served_along n careers (take k received) (λ m is_in. reports m (in_take k received m is_in)) [] (Empty [] refl)
+learned_are_served {T} = λ n executions received reports k. served_along n executions (take k received) (λ m is_in. reports m (in_take k received m is_in)) [] (Empty [] refl)
 
 pub beginnings_are_served : {T : Type 0} → BeginningsAreServed T
-beginnings_are_served {T} = λ n careers list served k. front_served n careers list served k
+beginnings_are_served {T} = λ n executions list served k. front_served n executions list served k
 
 pub learned_agree : {T : Type 0} (tapes : Tape T) → ServedAgree tapes → LearnedAgree tapes
-learned_agree tapes agree = λ n careers items farm received other reports also k l s c d at there.
-    agree n careers items farm (learned [] (take k received)) (learned [] (take l other)) (learned_are_served n careers received reports k) (learned_are_served n careers other also l) s c d at there
+learned_agree tapes agree = λ n executions items farm received other reports also k l s c d at there.
+    agree n executions items farm (learned [] (take k received)) (learned [] (take l other)) (learned_are_served n executions received reports k) (learned_are_served n executions other also l) s c d at there
 
 pub learned_answer : {T : Type 0} (tapes : Tape T) → ServedAnswer tapes → LearnedAnswer tapes
-learned_answer tapes alike = λ n careers items farm received other reports also k l s query answer another long longer is is_other.
-    alike n careers items farm (learned [] (take k received)) (learned [] (take l other)) (learned_are_served n careers received reports k) (learned_are_served n careers other also l) s query answer another long longer is is_other
+learned_answer tapes alike = λ n executions items farm received other reports also k l s query answer another long longer is is_other.
+    alike n executions items farm (learned [] (take k received)) (learned [] (take l other)) (learned_are_served n executions received reports k) (learned_are_served n executions other also l) s query answer another long longer is is_other
 
 -- Cached pictures outlast what a replica hears.
 pub still_cached : (old new : List Definition) (m : Message Definition) (cache : CacheValue) → new ≡ after_learning old m → AllCached old cache → AllCached new cache

@@ -2,8 +2,8 @@
 use Rattle.std.proofs.Common.{◌≡◌, ◌⊎◌, ◌∙◌, ℕ, ◌+◌, zero, suc, List, [], ◌∷◌, ◌++◌, take, slice_get, Some, refl, sym, ap, subst, arith, inl, inr}
 use Rattle.std.proofs.Math.Logic.{∥∥₁_elim, ∥∥₁_map}
 use Rattle.std.proofs.Props.{props}
-use Rattle.wf_career.specs.Career.{Career}
-use Rattle.wf_career.specs.Replica.{ServedAgree}
+use Rattle.wf_execution.specs.Execution.{Execution}
+use Rattle.wf_execution.specs.Replica.{ServedAgree}
 use Rattle.wf_def.specs.Definition.{Definition}
 use Rattle.wf_learner.specs.History.{next_of}
 use Rattle.wf_model.specs.Chosen.{IsIn}
@@ -40,9 +40,9 @@ numbered_at s (d ∷ definitions) m (inr is_in) =
     let place : suc s + later.0 ≡ s + suc later.0 = omega arith in
     (suc later.0, later.1, later.2, later.3 ∙ ap (λ (n : ℕ). Chosen n later.1) place)
 
-module _ {T : Type 0} (n : ℕ) (careers : ℕ → Career T) where
+module _ {T : Type 0} (n : ℕ) (executions : ℕ → Execution T) where
   -- what was taken of an answer
-  part_told : (count : ℕ) (list : List Definition) (q : Question) (a : ReaderAnswer) (part : List (Message Definition)) (taken : IsAnswerTaken list q a part) → taken.count ≡ count → IsAnsweredByFarm n careers (a, q) → (m : Message Definition) → IsIn m part → IsToldByFarm n careers m
+  part_told : (count : ℕ) (list : List Definition) (q : Question) (a : ReaderAnswer) (part : List (Message Definition)) (taken : IsAnswerTaken list q a part) → taken.count ≡ count → IsAnsweredByFarm n executions (a, q) → (m : Message Definition) → IsIn m part → IsToldByFarm n executions m
   unfolding numbered
   part_told zero list q a part taken none answered m is_in =
       let empty : part ≡ [] = taken.is_part ∙ ap (λ (k : ℕ). numbered (next_of list) (take k a.definitions)) none in
@@ -55,7 +55,7 @@ module _ {T : Type 0} (n : ℕ) (careers : ℕ → Career T) where
       ap (λ (s : ℕ). numbered s a.definitions) next ∙ ap (numbered (suc q.published)) answered.answers.definitions ∙ answers_report answered.source q.published in
       record { source = answered.source; served = answered.served; asked = suc q.published; reports = subst (IsIn m) is there }
 
-  from_told : (list : List Definition) (answers : List (ReaderAnswer × Question)) (received : List (Message Definition)) → IsTakenFrom list answers received → AreAnsweredByFarm n careers answers → AreReported n careers received
+  from_told : (list : List Definition) (answers : List (ReaderAnswer × Question)) (received : List (Message Definition)) → IsTakenFrom list answers received → AreAnsweredByFarm n executions answers → AreReported n executions received
   unfolding IsTakenFrom
   from_told list [] received none answered = λ m is_in. absurd (subst (IsIn m) none is_in)
   from_told list (answer ∷ answers) received heard answered = λ m is_in.
@@ -64,26 +64,26 @@ module _ {T : Type 0} (n : ℕ) (careers : ℕ → Career T) where
         | inr later ↦ from_told (learned list heard.0) answers heard.1 heard.4 (λ other there. answered other (inr there)) m later
       ]
 
-all_told : {T : Type 0} (n : ℕ) (careers : ℕ → Career T) (read received : List (Message Definition)) (answers : List (ReaderAnswer × Question)) → CameByAnswers read answers received →
-    AreReported n careers read → AreAnsweredByFarm n careers answers → AreReported n careers received
-all_told n careers read received answers heard told answered = λ m is_in.
+all_told : {T : Type 0} (n : ℕ) (executions : ℕ → Execution T) (read received : List (Message Definition)) (answers : List (ReaderAnswer × Question)) → CameByAnswers read answers received →
+    AreReported n executions read → AreAnsweredByFarm n executions answers → AreReported n executions received
+all_told n executions read received answers heard told answered = λ m is_in.
     elim (in_append m read heard.rest (subst (IsIn m) heard.is_rest is_in)) [
       | inl first ↦ told m first
-      | inr later ↦ from_told n careers (learned [] read) answers heard.rest heard.by_answers answered m later
+      | inr later ↦ from_told n executions (learned [] read) answers heard.rest heard.by_answers answered m later
     ]
 
 pub heard_are_reported : {T : Type 0} → HeardAreReported T
-heard_are_reported {T} = λ n careers read received answers heard told answered. ∥∥₁_map heard (λ is. all_told n careers read received answers is told answered)
+heard_are_reported {T} = λ n executions read received answers heard told answered. ∥∥₁_map heard (λ is. all_told n executions read received answers is told answered)
 
 pub answered_agree : {T : Type 0} (tapes : Tape T) → ServedAgree tapes → AnsweredAgree tapes
-answered_agree tapes agree = λ n careers items farm read received answers heard told answered read_by_other other other_answers also other_told other_answered k l s c d at there.
+answered_agree tapes agree = λ n executions items farm read received answers heard told answered read_by_other other other_answers also other_told other_answered k l s c d at there.
     let set : IsProp (c ≡ d) = hlevel props in
-    ∥∥₁_elim (heard_are_reported n careers read received answers heard told answered) set (λ reports.
-    ∥∥₁_elim (heard_are_reported n careers read_by_other other other_answers also other_told other_answered) set (λ other_reports.
-    learned_agree tapes agree n careers items farm received other reports other_reports k l s c d at there))
+    ∥∥₁_elim (heard_are_reported n executions read received answers heard told answered) set (λ reports.
+    ∥∥₁_elim (heard_are_reported n executions read_by_other other other_answers also other_told other_answered) set (λ other_reports.
+    learned_agree tapes agree n executions items farm received other reports other_reports k l s c d at there))
 
 pub read_are_reported : {T : Type 0} → ReadAreReported T
-read_are_reported {T} = λ n careers list served m is_in.
+read_are_reported {T} = λ n executions list served m is_in.
     let at = numbered_at 1 list m is_in in
     let place : 1 + at.0 ≡ suc at.0 = omega arith in
     record {

@@ -1,6 +1,6 @@
 -- What a replica has learned: its list after each message that it heard, one after the other.
 use Rattle.std.specs.Prelude.{ℕ, suc, List, [], ◌∷◌, map}
-use Rattle.wf_career.specs.Replica.{after_learning}
+use Rattle.wf_execution.specs.Replica.{after_learning}
 use Rattle.wf_codec.specs.Message.{view}
 use Rattle.wf_codec.specs.declared.message.Message as code
 use Rattle.wf_def.specs.Definition.{Definition}

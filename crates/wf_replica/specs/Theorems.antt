@@ -1,7 +1,7 @@
 -- Theorems about what replicas learn.
 use Rattle.std.specs.Prelude.{◌≡◌, ◌⊎◌, ℕ, suc, ◌≤◌, List, [], length, take, Some}
-use Rattle.wf_career.specs.Career.{Career, Item, IsFarm}
-use Rattle.wf_career.specs.Replica.{IsListOfFarm}
+use Rattle.wf_execution.specs.Execution.{Execution, Item, IsFarm}
+use Rattle.wf_execution.specs.Replica.{IsListOfFarm}
 use Rattle.wf_def.specs.Definition.{Definition}
 use Rattle.wf_safety.specs.Theorems.{IsBeginning}
 use Rattle.wf_model.specs.Chosen.{IsIn}
@@ -36,62 +36,62 @@ NeverGoesBack = (received : List (Message Definition)) (k l : ℕ) → k ≤ l �
 
 -- the message is one by which a list of a node of the farm, or of a replica of it, answered a
 -- question
-pub record IsToldByFarm {T : Type 0} (n : ℕ) (careers : ℕ → Career T) (m : Message Definition) : Type 0 where
+pub record IsToldByFarm {T : Type 0} (n : ℕ) (executions : ℕ → Execution T) (m : Message Definition) : Type 0 where
   pub source : List Definition
-  pub served : IsListOfFarm n careers source
+  pub served : IsListOfFarm n executions source
   pub asked : ℕ
   pub reports : IsIn m (reports_from source asked most_reports)
 
-abbrev pub AreReported : {T : Type 0} → ℕ → (ℕ → Career T) → List (Message Definition) → Type 0
-AreReported n careers received = (m : Message Definition) → IsIn m received → IsToldByFarm n careers m
+abbrev pub AreReported : {T : Type 0} → ℕ → (ℕ → Execution T) → List (Message Definition) → Type 0
+AreReported n executions received = (m : Message Definition) → IsIn m received → IsToldByFarm n executions m
 
 -- a list of a node of the farm, or of a replica of it, gave this answer to this question
-pub record IsAnsweredByFarm {T : Type 0} (n : ℕ) (careers : ℕ → Career T) (answer : ReaderAnswer × Question) : Type 0 where
+pub record IsAnsweredByFarm {T : Type 0} (n : ℕ) (executions : ℕ → Execution T) (answer : ReaderAnswer × Question) : Type 0 where
   pub own : Answerer
   pub source : List Definition
-  pub served : IsListOfFarm n careers source
+  pub served : IsListOfFarm n executions source
   pub answers : IsAnswerTo own source answer.1 answer.0
 
 -- so each of these answers
-abbrev pub AreAnsweredByFarm : {T : Type 0} → ℕ → (ℕ → Career T) → List (ReaderAnswer × Question) → Type 0
-AreAnsweredByFarm n careers answers = (answer : ReaderAnswer × Question) → IsIn answer answers → IsAnsweredByFarm n careers answer
+abbrev pub AreAnsweredByFarm : {T : Type 0} → ℕ → (ℕ → Execution T) → List (ReaderAnswer × Question) → Type 0
+AreAnsweredByFarm n executions answers = (answer : ReaderAnswer × Question) → IsIn answer answers → IsAnsweredByFarm n executions answer
 
 -- Where a list of the farm gave each answer that a replica was given, and told what the replica
 -- read of its tape, such lists told all that it heard.
 abbrev pub HeardAreReported : Type 0 → Type 0
-HeardAreReported T = (n : ℕ) (careers : ℕ → Career T) (read received : List (Message Definition)) (answers : List (ReaderAnswer × Question)) → ∥ CameByAnswers read answers received ∥₁ →
-    AreReported n careers read → AreAnsweredByFarm n careers answers → ∥ AreReported n careers received ∥₁
+HeardAreReported T = (n : ℕ) (executions : ℕ → Execution T) (read received : List (Message Definition)) (answers : List (ReaderAnswer × Question)) → ∥ CameByAnswers read answers received ∥₁ →
+    AreReported n executions read → AreAnsweredByFarm n executions answers → ∥ AreReported n executions received ∥₁
 
 -- The maps of such a list, as they are read of a tape that has them, are told by it.
 abbrev pub ReadAreReported : Type 0 → Type 0
-ReadAreReported T = (n : ℕ) (careers : ℕ → Career T) (list : List Definition) → IsListOfFarm n careers list → AreReported n careers (numbered 1 list)
+ReadAreReported T = (n : ℕ) (executions : ℕ → Execution T) (list : List Definition) → IsListOfFarm n executions list → AreReported n executions (numbered 1 list)
 
--- So what a replica has learned at any moment is one of the lists of which `wf_career` says that
+-- So what a replica has learned at any moment is one of the lists of which `wf_execution` says that
 -- all are beginnings of one history.
 abbrev pub LearnedAreServed : Type 0 → Type 0
-LearnedAreServed T = (n : ℕ) (careers : ℕ → Career T) (received : List (Message Definition)) → AreReported n careers received → (k : ℕ) → IsListOfFarm n careers (learned [] (take k received))
+LearnedAreServed T = (n : ℕ) (executions : ℕ → Execution T) (received : List (Message Definition)) → AreReported n executions received → (k : ℕ) → IsListOfFarm n executions (learned [] (take k received))
 
 -- A beginning of such a list is one, too: what is read of a tape that a replica wrote.
 abbrev pub BeginningsAreServed : Type 0 → Type 0
-BeginningsAreServed T = (n : ℕ) (careers : ℕ → Career T) (list : List Definition) → IsListOfFarm n careers list → (k : ℕ) → IsListOfFarm n careers (take k list)
+BeginningsAreServed T = (n : ℕ) (executions : ℕ → Execution T) (list : List Definition) → IsListOfFarm n executions list → (k : ℕ) → IsListOfFarm n executions (take k list)
 
 -- No two replicas, at any moments, have different definitions under one sequence.
 abbrev pub LearnedAgree : {T : Type 0} → Tape T → Type 0
-LearnedAgree {T} tapes = (n : ℕ) (careers : ℕ → Career T) (items : List Item) → IsFarm tapes n careers items →
-    (received other : List (Message Definition)) → AreReported n careers received → AreReported n careers other → (k l s : ℕ) (c d : Definition) →
+LearnedAgree {T} tapes = (n : ℕ) (executions : ℕ → Execution T) (items : List Item) → IsFarm tapes n executions items →
+    (received other : List (Message Definition)) → AreReported n executions received → AreReported n executions other → (k l s : ℕ) (c d : Definition) →
     definition_at (learned [] (take k received)) s ≡ Some c → definition_at (learned [] (take l other)) s ≡ Some d → c ≡ d
 
 -- So it is where lists of the farm gave all their answers, and told what they read of their tapes.
 abbrev pub AnsweredAgree : {T : Type 0} → Tape T → Type 0
-AnsweredAgree {T} tapes = (n : ℕ) (careers : ℕ → Career T) (items : List Item) → IsFarm tapes n careers items →
-    (read received : List (Message Definition)) (answers : List (ReaderAnswer × Question)) → ∥ CameByAnswers read answers received ∥₁ → AreReported n careers read → AreAnsweredByFarm n careers answers →
-    (read_by_other other : List (Message Definition)) (other_answers : List (ReaderAnswer × Question)) → ∥ CameByAnswers read_by_other other_answers other ∥₁ → AreReported n careers read_by_other →
-    AreAnsweredByFarm n careers other_answers → (k l s : ℕ) (c d : Definition) →
+AnsweredAgree {T} tapes = (n : ℕ) (executions : ℕ → Execution T) (items : List Item) → IsFarm tapes n executions items →
+    (read received : List (Message Definition)) (answers : List (ReaderAnswer × Question)) → ∥ CameByAnswers read answers received ∥₁ → AreReported n executions read → AreAnsweredByFarm n executions answers →
+    (read_by_other other : List (Message Definition)) (other_answers : List (ReaderAnswer × Question)) → ∥ CameByAnswers read_by_other other_answers other ∥₁ → AreReported n executions read_by_other →
+    AreAnsweredByFarm n executions other_answers → (k l s : ℕ) (c d : Definition) →
     definition_at (learned [] (take k received)) s ≡ Some c → definition_at (learned [] (take l other)) s ≡ Some d → c ≡ d
 
 -- Where they have published equally many maps, they answer a query of the web map service alike.
 abbrev pub LearnedAnswer : {T : Type 0} → Tape T → Type 0
-LearnedAnswer {T} tapes = (n : ℕ) (careers : ℕ → Career T) (items : List Item) → IsFarm tapes n careers items →
-    (received other : List (Message Definition)) → AreReported n careers received → AreReported n careers other → (k l s : ℕ) (query : List ℕ) (answer another : AnswerValue) →
+LearnedAnswer {T} tapes = (n : ℕ) (executions : ℕ → Execution T) (items : List Item) → IsFarm tapes n executions items →
+    (received other : List (Message Definition)) → AreReported n executions received → AreReported n executions other → (k l s : ℕ) (query : List ℕ) (answer another : AnswerValue) →
     length (learned [] (take k received)) ≡ s → length (learned [] (take l other)) ≡ s →
     IsAnswerOf s (learned [] (take k received)) query answer → IsAnswerOf s (learned [] (take l other)) query another → another ≡ answer

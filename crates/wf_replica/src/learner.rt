@@ -2,7 +2,7 @@
 
 ghost use Rattle.std.specs.Prelude.{◌≡◌, ◌≤◌, ◌<◌, ◌+◌, ◌++◌, ◌∷◌, ◌↔◌, ℕ, [], take, IfOk, IfSome, IsSome, IsTrue, None, OnErr, OnOk};
 ghost use Rattle.wf_ballot.specs.Sequence.{last_sequence};
-ghost use Rattle.wf_career.specs.Replica.{after_learning};
+ghost use Rattle.wf_execution.specs.Replica.{after_learning};
 ghost use Rattle.wf_codec.specs.Message.{view};
 ghost use Rattle.wf_digest.specs.Digest.{AreDigestsOf};
 ghost use Rattle.wf_learner.specs.History.{next_of};

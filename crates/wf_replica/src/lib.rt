@@ -9,9 +9,9 @@
 //! - [`replica_text`] is the text of the file `farm` of its folder.
 //!
 //! **Promises.**
-//! - Its list is what it heard, message after message, as `wf_career`'s `Replica` learns them. What
-//!   it heard is what it read of its tape, and then the first definitions of each answer that fits
-//!   its question, and nothing else ([`Follower::always_learned`]). So it never goes back
+//! - Its list is what it heard, message after message, as `wf_execution`'s `Replica` learns them.
+//!   What it heard is what it read of its tape, and then the first definitions of each answer that
+//!   fits its question, and nothing else ([`Follower::always_learned`]). So it never goes back
 //!   ([`a_replica_never_goes_back`]).
 //! - A durable tape of it has exactly the records of its list, in their order
 //!   (`specs/Recorded.antt`): a map is learned before its record is written. A replica begins with
@@ -19,7 +19,7 @@
 //! - What an answer at a readers' port says is what a node answers when it is asked for the next
 //! definition ([`answers_report`]). Where it is given only such answers, of processes of a farm or
 //! of their replicas, and its tape has what such have, such have told all that it heard
-//! ([`what_is_heard_is_reported`]): so its list is at each moment one of which `wf_career`'s
+//! ([`what_is_heard_is_reported`]): so its list is at each moment one of which `wf_execution`'s
 //! `replicas_agree` says that all are beginnings of one history ([`what_is_learned_is_served`],
 //! [`what_is_learned_agrees`]).
 //! - Its list goes on only by answers that fit its question, by count, published sequence and

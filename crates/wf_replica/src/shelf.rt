@@ -1,7 +1,7 @@
 //! The published maps of a replica, with the pictures of them that are cached.
 
 ghost use Rattle.std.specs.Prelude.{◌≡◌, ◌≤◌, [], IfOk, OnErr, OnOk};
-ghost use Rattle.wf_career.specs.Replica.{IsNews, after_learning};
+ghost use Rattle.wf_execution.specs.Replica.{IsNews, after_learning};
 ghost use Rattle.wf_codec.specs.Message.{view};
 ghost use Rattle.wf_replica.specs.Service.{IsAnswered};
 ghost use Rattle.wf_wms.specs.CachedPictures.{AllCached, most_cached};
@@ -10,13 +10,13 @@ use crate::page::write_status;
 use std::alloc::{AllocError, Global};
 use std::marker::Model;
 use wf_ballot::NodeId;
-use wf_career::Replica;
 use wf_client::Outgoing;
 use wf_codec::Message;
 use wf_edge::{
     ErrorResponse, Outcome, Request, RequestedResource, Status, answer_get, respond_to_error,
     write_response,
 };
+use wf_execution::Replica;
 use wf_http::HttpError;
 use wf_learner::History;
 use wf_proposer::ProposalState;

@@ -2,7 +2,7 @@
 
 ghost use Rattle.wf_replica.specs.Theorems.{AnsweredAgree, AnswersReport, BeginningsAreServed, HeardAreReported, LearnedAgree, LearnedAnswer, LearnedAreServed, NeverGoesBack, ReadAreReported, SoundAnswersFit};
 
-use wf_career::{replicas_agree, replicas_answer_alike};
+use wf_execution::{replicas_agree, replicas_answer_alike};
 use wf_tape::Tape;
 
 /// What an answer at a readers' port says is what a node answers when it is asked for the next

@@ -1,4 +1,4 @@
--- From the error of a part to that of the command, and from a hub to what it has served.
+-- From the error of a part to that of the command, and from an event loop to what it has served.
 use Rattle.std.proofs.Common.{◌≡◌, ◌∙◌, ℕ, List, [], ap, refl, subst}
 use Rattle.std.proofs.lemmas.Option.{none-some}
 use Rattle.std.specs.Prelude.{Option, Some, Result, Ok, Err, length, option_map}
@@ -9,8 +9,8 @@ use Rattle.wf_address.specs.declared.address_option.AddressOption.{AddressOption
 use Rattle.wf_address.specs.declared.address_option.AddressOption.TheVariants as options
 use Rattle.wf_address.specs.declared.list.ListFault.{ListFault}
 use Rattle.wf_address.specs.declared.list.ListFault.TheVariants as lists
-use Rattle.wf_career.specs.Career.{Career}
-use Rattle.wf_career.specs.Replica.{IsListOfFarm}
+use Rattle.wf_execution.specs.Execution.{Execution}
+use Rattle.wf_execution.specs.Replica.{IsListOfFarm}
 use Rattle.wf_def.specs.Definition.{Definition}
 use Rattle.wf_line.specs.declared.replica_line.ReplicaLine.{ReplicaLine}
 use Rattle.wf_model.specs.Message.{Message}
@@ -21,11 +21,11 @@ use Rattle.wf_replica_command.specs.Done.{HasServed, IsReplicaDone, IsReplicaEnd
 use Rattle.wf_replica_command.specs.Fault.{IsReplicaSystemFault, IsReplicaPlanOf, IsReplicaFault, IsAddressTaken, IsReplicaWordsFault, plan_address, fault_of, value_of}
 use Rattle.wf_replica_command.specs.Heard.{Hears}
 use Rattle.wf_replica_command.specs.Start.{IsReplicaFolderCause}
-use Rattle.wf_replica_command.specs.ReplicaHub.{HasAnsweredByList, HasHeardNothing, HasLearned, HasOnlyGrown, IsOfFarm, IsListOnTape, IsRefused, state_of}
+use Rattle.wf_replica_command.specs.ReplicaLoop.{HasAnsweredByList, HasHeardNothing, HasLearned, HasOnlyGrown, IsOfFarm, IsListOnTape, IsRefused, state_of}
 use Rattle.wf_replica_command.specs.declared.fault.ReplicaFault.{ReplicaFault}
 use Rattle.wf_replica_command.specs.declared.fault.ReplicaFault.TheVariants as faults
-use Rattle.wf_replica_command.specs.declared.hub.ReplicaHub.{ReplicaHub}
-use Rattle.wf_replica_command.specs.declared.hub.Turn.TheVariants as turns
+use Rattle.wf_replica_command.specs.declared.event_loop.ReplicaLoop.{ReplicaLoop}
+use Rattle.wf_replica_command.specs.declared.event_loop.Turn.TheVariants as turns
 use Rattle.wf_replica_command.specs.declared.plan.ReplicaPlan.{ReplicaPlan}
 use Rattle.wf_sockets.specs.declared.connection.Connection.{Ghosts as Connection}
 use Rattle.wf_store.specs.Call.{Call}
@@ -192,24 +192,24 @@ module _ {T : Type 0} (tapes : Tape T) where
 
   -- ---- what was served
 
-  has_served : {N C L : Type 0} {connections : Connection C} (begun hub : ReplicaHub T N C L tapes connections) → HasHeardNothing tapes (state_of begun) → Hears begun.asker begun.clients.renderer.follower hub.asker hub.clients.renderer.follower → HasLearned tapes (state_of hub) → IsListOnTape tapes (state_of hub) → IsOfFarm tapes (state_of hub) →
-      HasAnsweredByList tapes (state_of hub) → HasOnlyGrown tapes (state_of hub) → HasServed tapes
-  has_served begun hub unheard heard lived recorded of_farm answered stayed =
-      record { begun = state_of begun; unheard = unheard; hub = state_of hub; heard = record { goes_on = heard.goes_on; heard = heard.heard; logged = heard.logged; are = heard.are }; lived = lived; recorded = recorded; of_farm = of_farm; answered = answered; stayed = stayed }
+  has_served : {N C L : Type 0} {connections : Connection C} (begun event_loop : ReplicaLoop T N C L tapes connections) → HasHeardNothing tapes (state_of begun) → Hears begun.upstream begun.clients.renderer.follower event_loop.upstream event_loop.clients.renderer.follower → HasLearned tapes (state_of event_loop) → IsListOnTape tapes (state_of event_loop) → IsOfFarm tapes (state_of event_loop) →
+      HasAnsweredByList tapes (state_of event_loop) → HasOnlyGrown tapes (state_of event_loop) → HasServed tapes
+  has_served begun event_loop unheard heard lived recorded of_farm answered stayed =
+      record { begun = state_of begun; unheard = unheard; event_loop = state_of event_loop; heard = record { goes_on = heard.goes_on; heard = heard.heard; logged = heard.logged; are = heard.are }; lived = lived; recorded = recorded; of_farm = of_farm; answered = answered; stayed = stayed }
 
-  pub served_to_the_end : {N C L : Type 0} {connections : Connection C} (begun hub : ReplicaHub T N C L tapes connections) → HasHeardNothing tapes (state_of begun) → Hears begun.asker begun.clients.renderer.follower hub.asker hub.clients.renderer.follower → HasLearned tapes (state_of hub) → IsListOnTape tapes (state_of hub) → IsOfFarm tapes (state_of hub) →
-      HasAnsweredByList tapes (state_of hub) → HasOnlyGrown tapes (state_of hub) → IsServedUntil tapes turns.On
-  served_to_the_end begun hub unheard heard lived recorded of_farm answered stayed = has_served begun hub unheard heard lived recorded of_farm answered stayed
+  pub served_to_the_end : {N C L : Type 0} {connections : Connection C} (begun event_loop : ReplicaLoop T N C L tapes connections) → HasHeardNothing tapes (state_of begun) → Hears begun.upstream begun.clients.renderer.follower event_loop.upstream event_loop.clients.renderer.follower → HasLearned tapes (state_of event_loop) → IsListOnTape tapes (state_of event_loop) → IsOfFarm tapes (state_of event_loop) →
+      HasAnsweredByList tapes (state_of event_loop) → HasOnlyGrown tapes (state_of event_loop) → IsServedUntil tapes turns.On
+  served_to_the_end begun event_loop unheard heard lived recorded of_farm answered stayed = has_served begun event_loop unheard heard lived recorded of_farm answered stayed
 
-  pub served_until : (why : QuestionRejection) {N C L : Type 0} {connections : Connection C} (begun hub : ReplicaHub T N C L tapes connections) → HasHeardNothing tapes (state_of begun) → Hears begun.asker begun.clients.renderer.follower hub.asker hub.clients.renderer.follower → HasLearned tapes (state_of hub) →
-      IsListOnTape tapes (state_of hub) → IsOfFarm tapes (state_of hub) → HasAnsweredByList tapes (state_of hub) → HasOnlyGrown tapes (state_of hub) → IsRefused tapes (state_of hub) → IsServedUntil tapes (turns.Ended why)
+  pub served_until : (why : QuestionRejection) {N C L : Type 0} {connections : Connection C} (begun event_loop : ReplicaLoop T N C L tapes connections) → HasHeardNothing tapes (state_of begun) → Hears begun.upstream begun.clients.renderer.follower event_loop.upstream event_loop.clients.renderer.follower → HasLearned tapes (state_of event_loop) →
+      IsListOnTape tapes (state_of event_loop) → IsOfFarm tapes (state_of event_loop) → HasAnsweredByList tapes (state_of event_loop) → HasOnlyGrown tapes (state_of event_loop) → IsRefused tapes (state_of event_loop) → IsServedUntil tapes (turns.Ended why)
   unfolding has_served
-  served_until why begun hub unheard heard lived recorded of_farm answered stayed refused =
-      record { served = has_served begun hub unheard heard lived recorded of_farm answered stayed; refused = refused }
+  served_until why begun event_loop unheard heard lived recorded of_farm answered stayed refused =
+      record { served = has_served begun event_loop unheard heard lived recorded of_farm answered stayed; refused = refused }
 
 -- what was learned of answers of a farm is one of its lists
 pub of_farm : {T : Type 0} (list : List Definition) (received : List (Message Definition)) → LearnedAreServed T → learned [] received ≡ list →
-    (n : ℕ) (careers : ℕ → Career T) → AreReported n careers received → IsListOfFarm n careers list
-of_farm list received served lived n careers emitted =
-    subst (λ (l : List Definition). IsListOfFarm n careers l) (ap (λ (h : List (Message Definition)). learned [] h) (take-length received) ∙ lived)
-    (served n careers received emitted (length received))
+    (n : ℕ) (executions : ℕ → Execution T) → AreReported n executions received → IsListOfFarm n executions list
+of_farm list received served lived n executions emitted =
+    subst (λ (l : List Definition). IsListOfFarm n executions l) (ap (λ (h : List (Message Definition)). learned [] h) (take-length received) ∙ lived)
+    (served n executions received emitted (length received))

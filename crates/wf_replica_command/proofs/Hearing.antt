@@ -13,10 +13,10 @@ use Rattle.wf_replica.specs.declared.follower.Follower.{Follower}
 use Rattle.wf_replica.specs.declared.misfit.AnswerFault.{AnswerFault}
 use Rattle.wf_replica_command.specs.Continuation.{IsLaterReplica}
 use Rattle.wf_replica_command.specs.Heard.{AreHeard, Course, Hears, IsFewer, IsAnswerGiven, IsReplyHeard, IsKept, IsNoted, IsRefusal, IsRefusing, IsQuiet, IsReplyTaken, course_of}
-use Rattle.wf_replica_command.specs.ReplicaHub.{HasHeardNothing, state_of}
+use Rattle.wf_replica_command.specs.ReplicaLoop.{HasHeardNothing, state_of}
 use Rattle.wf_replica_command.specs.declared.asked.Asked.{Asked}
-use Rattle.wf_replica_command.specs.declared.asker.Asker.{Asker}
-use Rattle.wf_replica_command.specs.declared.hub.ReplicaHub.{ReplicaHub}
+use Rattle.wf_replica_command.specs.declared.upstream.Upstream.{Upstream}
+use Rattle.wf_replica_command.specs.declared.event_loop.ReplicaLoop.{ReplicaLoop}
 use Rattle.wf_replica_command.specs.declared.renderer.Renderer.{Renderer}
 use Rattle.wf_replica_command.proofs.Continuation.{goes_on_twice, stays_same}
 use Rattle.wf_replica_command.proofs.Noting.{fewer_itself, fewer_same, noted_fewer, noted_for}
@@ -92,44 +92,44 @@ module _ {T : Type 0} {tapes : Tape T} where
 
 module _ {T N C L : Type 0} {tapes : Tape T} {connections : Connection C} where
   -- no reply came
-  hears_none : (asker asker' : Asker N C L connections) (old new : Follower T tapes) → HasLearnedNothing old new → asker'.heard.items ≡ asker.heard.items → IsFewer asker.refusals asker'.refusals →
-      Hears asker old asker' new
-  hears_none asker asker' old new same log fewer = record {
+  hears_none : (upstream upstream' : Upstream N C L connections) (old new : Follower T tapes) → HasLearnedNothing old new → upstream'.heard.items ≡ upstream.heard.items → IsFewer upstream.refusals upstream'.refusals →
+      Hears upstream old upstream' new
+  hears_none upstream upstream' old new same log fewer = record {
     goes_on = stays_same old new same;
     heard = [];
-    logged = log ∙ sym (append-nil asker.heard.items);
-    are = none_heard (course_of old asker.refusals) (course_of new asker'.refusals) (record { kept = record { list = same.list; answers = same.answers }; refusals = fewer });
+    logged = log ∙ sym (append-nil upstream.heard.items);
+    are = none_heard (course_of old upstream.refusals) (course_of new upstream'.refusals) (record { kept = record { list = same.list; answers = same.answers }; refusals = fewer });
   }
 
   -- of the replica nothing has changed
-  hears_quiet : (asker asker' : Asker N C L connections) (replica : Follower T tapes) → asker'.heard.items ≡ asker.heard.items → IsFewer asker.refusals asker'.refusals → Hears asker replica asker' replica
-  hears_quiet asker asker' replica log fewer =
-      hears_none asker asker' replica replica (record { list = refl; received = refl; answers = refl }) log fewer
+  hears_quiet : (upstream upstream' : Upstream N C L connections) (replica : Follower T tapes) → upstream'.heard.items ≡ upstream.heard.items → IsFewer upstream.refusals upstream'.refusals → Hears upstream replica upstream' replica
+  hears_quiet upstream upstream' replica log fewer =
+      hears_none upstream upstream' replica replica (record { list = refl; received = refl; answers = refl }) log fewer
 
-  pub hears_nothing : (asker : Asker N C L connections) (replica : Follower T tapes) → Hears asker replica asker replica
-  hears_nothing asker replica =
-      hears_none asker asker replica replica (record { list = refl; received = refl; answers = refl }) refl (fewer_itself asker.refusals)
+  pub hears_nothing : (upstream : Upstream N C L connections) (replica : Follower T tapes) → Hears upstream replica upstream replica
+  hears_nothing upstream replica =
+      hears_none upstream upstream replica replica (record { list = refl; received = refl; answers = refl }) refl (fewer_itself upstream.refusals)
 
   -- nothing came, or nothing that counts
-  pub hears_still : (asker asker' : Asker N C L connections) (replica : Follower T tapes) → asker'.heard.items ≡ asker.heard.items → asker'.refusals ≡ asker.refusals → Hears asker replica asker' replica
-  hears_still asker asker' replica log refusals = hears_quiet asker asker' replica log (fewer_same asker.refusals asker'.refusals refusals)
+  pub hears_still : (upstream upstream' : Upstream N C L connections) (replica : Follower T tapes) → upstream'.heard.items ≡ upstream.heard.items → upstream'.refusals ≡ upstream.refusals → Hears upstream replica upstream' replica
+  hears_still upstream upstream' replica log refusals = hears_quiet upstream upstream' replica log (fewer_same upstream.refusals upstream'.refusals refusals)
 
   -- the connection ended
-  pub hears_end : (source : ℕ) (asker asker' : Asker N C L connections) (items : List (Reply × Asked)) (replica : Follower T tapes) → IsNoted source (IsSome {T = QuestionRejection} None) asker.refusals asker'.refusals →
-      asker'.heard.items ≡ items → items ≡ asker.heard.items → Hears asker replica asker' replica
-  hears_end source asker asker' items replica noted log before =
-      hears_quiet asker asker' replica (log ∙ before) (noted_fewer source asker.refusals asker.refusals asker'.refusals noted refl)
+  pub hears_end : (source : ℕ) (upstream upstream' : Upstream N C L connections) (items : List (Reply × Asked)) (replica : Follower T tapes) → IsNoted source (IsSome {T = QuestionRejection} None) upstream.refusals upstream'.refusals →
+      upstream'.heard.items ≡ items → items ≡ upstream.heard.items → Hears upstream replica upstream' replica
+  hears_end source upstream upstream' items replica noted log before =
+      hears_quiet upstream upstream' replica (log ∙ before) (noted_fewer source upstream.refusals upstream.refusals upstream'.refusals noted refl)
 
-  hears_once : (asker asker' : Asker N C L connections) (old new : Follower T tapes) (reply : Reply) (asked : Asked) → IsLaterReplica old new → asker'.heard.items ≡ asker.heard.items ++ (reply, asked) ∷ [] →
-      IsReplyHeard reply asked (course_of old asker.refusals) (course_of new asker'.refusals) → Hears asker old asker' new
-  hears_once asker asker' old new reply asked goes_on log heard = record {
+  hears_once : (upstream upstream' : Upstream N C L connections) (old new : Follower T tapes) (reply : Reply) (asked : Asked) → IsLaterReplica old new → upstream'.heard.items ≡ upstream.heard.items ++ (reply, asked) ∷ [] →
+      IsReplyHeard reply asked (course_of old upstream.refusals) (course_of new upstream'.refusals) → Hears upstream old upstream' new
+  hears_once upstream upstream' old new reply asked goes_on log heard = record {
     goes_on = goes_on;
     heard = (reply, asked) ∷ [];
     logged = log;
-    are = one_heard (course_of old asker.refusals) (course_of new asker'.refusals) reply asked heard;
+    are = one_heard (course_of old upstream.refusals) (course_of new upstream'.refusals) reply asked heard;
   }
 
-  pub hears_twice : (first second third : Asker N C L connections) (a b c : Follower T tapes) → Hears first a second b → Hears second b third c → Hears first a third c
+  pub hears_twice : (first second third : Upstream N C L connections) (a b c : Follower T tapes) → Hears first a second b → Hears second b third c → Hears first a third c
   hears_twice first second third a b c one two = record {
     goes_on = goes_on_twice a b c one.goes_on two.goes_on;
     heard = one.heard ++ two.heard;
@@ -137,33 +137,33 @@ module _ {T N C L : Type 0} {tapes : Tape T} {connections : Connection C} where
     are = are_heard_twice (course_of a first.refusals) (course_of b second.refusals) (course_of c third.refusals) one.heard two.heard one.are two.are;
   }
 
-  pub hears_reply : (asker asker' : Asker N C L connections) (items : List (Reply × Asked)) (old new : Follower T tapes) (reply : Reply) (asked : Asked) → IsLaterReplica old new →
-      IsReplyHeard reply asked (course_of old asker.refusals) (course_of new asker'.refusals) → items ≡ asker.heard.items ++ (reply, asked) ∷ [] → asker'.heard.items ≡ items → Hears asker old asker' new
-  hears_reply asker asker' items old new reply asked goes_on heard before log = hears_once asker asker' old new reply asked goes_on (log ∙ before) heard
+  pub hears_reply : (upstream upstream' : Upstream N C L connections) (items : List (Reply × Asked)) (old new : Follower T tapes) (reply : Reply) (asked : Asked) → IsLaterReplica old new →
+      IsReplyHeard reply asked (course_of old upstream.refusals) (course_of new upstream'.refusals) → items ≡ upstream.heard.items ++ (reply, asked) ∷ [] → upstream'.heard.items ≡ items → Hears upstream old upstream' new
+  hears_reply upstream upstream' items old new reply asked goes_on heard before log = hears_once upstream upstream' old new reply asked goes_on (log ∙ before) heard
 
   -- what came, then who was silent, then what was asked
-  pub hears_turn : (first second third fourth : Asker N C L connections) (a b c : Follower T tapes) → Hears first a second b → third.heard.items ≡ second.heard.items → IsFewer second.refusals third.refusals →
+  pub hears_turn : (first second third fourth : Upstream N C L connections) (a b c : Follower T tapes) → Hears first a second b → third.heard.items ≡ second.heard.items → IsFewer second.refusals third.refusals →
       Hears third b fourth c → Hears first a fourth c
   hears_turn first second third fourth a b c one log fewer two =
       hears_twice first third fourth a b c (hears_twice first second third a b b one (hears_quiet second third b log fewer)) two
 
   -- a question was put, and then something came
-  pub hears_asked : (first second third : Asker N C L connections) (a b c : Follower T tapes) → HasLearnedNothing a b → second.heard.items ≡ first.heard.items → IsFewer first.refusals second.refusals →
+  pub hears_asked : (first second third : Upstream N C L connections) (a b c : Follower T tapes) → HasLearnedNothing a b → second.heard.items ≡ first.heard.items → IsFewer first.refusals second.refusals →
       Hears second b third c → Hears first a third c
   hears_asked first second third a b c same log fewer after = hears_twice first second third a b c (hears_none first second a b same log fewer) after
 
   -- what came afterwards leaves the replica as it is
-  pub hears_then : (first second : Asker N C L connections) (a b c : Follower T tapes) → Hears first a second b → HasLearnedNothing b c → Hears first a second c
+  pub hears_then : (first second : Upstream N C L connections) (a b c : Follower T tapes) → Hears first a second b → HasLearnedNothing b c → Hears first a second c
   hears_then first second a b c one same =
       hears_twice first second second a b c one (hears_none second second b c same refl (fewer_itself second.refusals))
 
   -- what it hears of its sources, and what leaves it as it is
-  pub acted : (first second : Asker N C L connections) (a b c d e : Renderer T tapes) → Hears first a.follower second b.follower → c ≡ b → HasLearnedNothing c.follower d.follower → e ≡ d → Hears first a.follower second e.follower
+  pub acted : (first second : Upstream N C L connections) (a b c d e : Renderer T tapes) → Hears first a.follower second b.follower → c ≡ b → HasLearnedNothing c.follower d.follower → e ≡ d → Hears first a.follower second e.follower
   acted first second a b c d e heard same served kept =
       subst (λ (r : Renderer T tapes). Hears first a.follower second r.follower) (sym kept)
       (hears_then first second a.follower c.follower d.follower (subst (λ (r : Renderer T tapes). Hears first a.follower second r.follower) (sym same) heard) served)
 
--- a hub whose replica hasn't asked yet
-pub nothing_heard : {T N C L : Type 0} (tapes : Tape T) {connections : Connection C} (hub : ReplicaHub T N C L tapes connections) (asker : Asker N C L connections) → hub.asker ≡ asker → asker.heard.items ≡ [] → IsFewer [] asker.refusals → HasHeardNothing tapes (state_of hub)
-nothing_heard {N = N} {C = C} {L = L} tapes {connections = connections} hub asker is heard refusals =
-    record { heard = ap (λ (a : Asker N C L connections). a.heard.items) is ∙ heard; refusals = subst (λ (a : Asker N C L connections). IsFewer [] a.refusals) (sym is) refusals }
+-- an event loop whose replica hasn't asked yet
+pub nothing_heard : {T N C L : Type 0} (tapes : Tape T) {connections : Connection C} (event_loop : ReplicaLoop T N C L tapes connections) (upstream : Upstream N C L connections) → event_loop.upstream ≡ upstream → upstream.heard.items ≡ [] → IsFewer [] upstream.refusals → HasHeardNothing tapes (state_of event_loop)
+nothing_heard {N = N} {C = C} {L = L} tapes {connections = connections} event_loop upstream is heard refusals =
+    record { heard = ap (λ (a : Upstream N C L connections). a.heard.items) is ∙ heard; refusals = subst (λ (a : Upstream N C L connections). IsFewer [] a.refusals) (sym is) refusals }

@@ -7,7 +7,7 @@ use Rattle.wf_client.specs.Client.{Client}
 use Rattle.wf_replica_command.specs.Answer.{AreInOrder, IsResponse}
 use Rattle.wf_replica_command.specs.Continuation.{IsLaterReplica}
 use Rattle.wf_replica_command.specs.Heard.{Hears}
-use Rattle.wf_replica_command.specs.declared.asker.Asker.{Asker}
+use Rattle.wf_replica_command.specs.declared.upstream.Upstream.{Upstream}
 use Rattle.wf_replica_command.proofs.Continuation.{goes_on_twice, stays_same}
 use Rattle.wf_replica_command.specs.declared.renderer.Renderer.{Renderer}
 use Rattle.wf_sockets.specs.declared.connection.Connection.{Ghosts as Connection}
@@ -29,9 +29,9 @@ module _ {T : Type 0} (tapes : Tape T) where
   still_in_order replicas old new on are = ∥∥₁_map are (λ they. later replicas old new on they)
 
   -- where the present one hears its sources
-  pub still_heard : {N C L : Type 0} {connections : Connection C} (replicas : List (Renderer T tapes × ℕ)) (asker asker' : Asker N C L connections) (old new : Follower T tapes) → Hears asker old asker' new → ∥ AreInOrder tapes replicas old ∥₁ →
+  pub still_heard : {N C L : Type 0} {connections : Connection C} (replicas : List (Renderer T tapes × ℕ)) (upstream upstream' : Upstream N C L connections) (old new : Follower T tapes) → Hears upstream old upstream' new → ∥ AreInOrder tapes replicas old ∥₁ →
       ∥ AreInOrder tapes replicas new ∥₁
-  still_heard replicas asker asker' old new heard are = still_in_order replicas old new heard.goes_on are
+  still_heard replicas upstream upstream' old new heard are = still_in_order replicas old new heard.goes_on are
 
   pub stays_in_order : (replicas : List (Renderer T tapes × ℕ)) (old new : Follower T tapes) → HasLearnedNothing old new → ∥ AreInOrder tapes replicas old ∥₁ → ∥ AreInOrder tapes replicas new ∥₁
   stays_in_order replicas old new same are = still_in_order replicas old new (stays_same old new same) are

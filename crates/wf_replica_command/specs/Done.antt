@@ -2,11 +2,11 @@
 use Rattle.std.specs.Prelude.{ℕ, Result, Ok, Err}
 use Rattle.wf_line.specs.declared.replica_line.ReplicaLine.{ReplicaLine}
 use Rattle.wf_replica_command.specs.Fault.{IsReplicaSystemFault, IsReplicaFault, fault_status}
-use Rattle.wf_replica_command.specs.ReplicaHub.{HasAnsweredByList, HasHeard, HasHeardNothing, HasLearned, HasOnlyGrown, IsOfFarm, IsListOnTape, IsRefused, ReplicaState}
+use Rattle.wf_replica_command.specs.ReplicaLoop.{HasAnsweredByList, HasHeard, HasHeardNothing, HasLearned, HasOnlyGrown, IsOfFarm, IsListOnTape, IsRefused, ReplicaState}
 use Rattle.wf_replica_command.specs.declared.fault.ReplicaFault.{ReplicaFault}
 use Rattle.wf_replica_command.specs.declared.fault.ReplicaFault.TheVariants as faults
-use Rattle.wf_replica_command.specs.declared.hub.Turn.{Turn}
-use Rattle.wf_replica_command.specs.declared.hub.Turn.TheVariants as turns
+use Rattle.wf_replica_command.specs.declared.event_loop.Turn.{Turn}
+use Rattle.wf_replica_command.specs.declared.event_loop.Turn.TheVariants as turns
 use Rattle.wf_replica_command.specs.declared.plan.ReplicaPlan.{ReplicaPlan}
 use Rattle.wf_tape.specs.declared.tape.Tape.{Ghosts as Tape}
 
@@ -18,18 +18,18 @@ module _ {T : Type 0} (tapes : Tape T) where
   pub record HasServed : Type 0 where
     pub begun : ReplicaState tapes
     pub unheard : HasHeardNothing tapes begun
-    pub hub : ReplicaState tapes
-    pub heard : HasHeard tapes begun hub
-    pub lived : HasLearned tapes hub
-    pub recorded : IsListOnTape tapes hub
-    pub of_farm : IsOfFarm tapes hub
-    pub answered : HasAnsweredByList tapes hub
-    pub stayed : HasOnlyGrown tapes hub
+    pub event_loop : ReplicaState tapes
+    pub heard : HasHeard tapes begun event_loop
+    pub lived : HasLearned tapes event_loop
+    pub recorded : IsListOnTape tapes event_loop
+    pub of_farm : IsOfFarm tapes event_loop
+    pub answered : HasAnsweredByList tapes event_loop
+    pub stayed : HasOnlyGrown tapes event_loop
 
   -- It has served until each of its sources refused it.
   pub record IsEndedBySources : Type 0 where
     pub served : HasServed
-    pub refused : IsRefused tapes served.hub
+    pub refused : IsRefused tapes served.event_loop
 
   -- how the turns of a replica ended
   abbrev pub IsServedUntil : Turn → Type 0

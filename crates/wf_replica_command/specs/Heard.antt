@@ -13,7 +13,7 @@ use Rattle.wf_replica.specs.declared.follower.Follower.{Follower}
 use Rattle.wf_replica.specs.declared.misfit.AnswerFault.{AnswerFault}
 use Rattle.wf_replica_command.specs.Continuation.{IsLaterReplica}
 use Rattle.wf_replica_command.specs.declared.asked.Asked.{Asked}
-use Rattle.wf_replica_command.specs.declared.asker.Asker.{Asker}
+use Rattle.wf_replica_command.specs.declared.upstream.Upstream.{Upstream}
 use Rattle.wf_sockets.specs.declared.connection.Connection.{Ghosts as Connection}
 use Rattle.wf_tape.specs.declared.tape.Tape.{Ghosts as Tape}
 
@@ -79,8 +79,8 @@ AreHeard old [] new = IsQuiet old new
 AreHeard old (x ∷ heard) new = (next : Course) × IsReplyHeard x.0 x.1 old next × AreHeard next heard new
 
 -- The replica goes on by what it hears of its sources.
-pub record Hears {T N C L : Type 0} {tapes : Tape T} {connections : Connection C} (old_asker : Asker N C L connections) (old : Follower T tapes) (new_asker : Asker N C L connections) (new : Follower T tapes) : Type 0 where
+pub record Hears {T N C L : Type 0} {tapes : Tape T} {connections : Connection C} (old_upstream : Upstream N C L connections) (old : Follower T tapes) (new_upstream : Upstream N C L connections) (new : Follower T tapes) : Type 0 where
   pub goes_on : IsLaterReplica old new
   pub heard : List (Reply × Asked)
-  pub logged : new_asker.heard.items ≡ old_asker.heard.items ++ heard
-  pub are : AreHeard (course_of old old_asker.refusals) heard (course_of new new_asker.refusals)
+  pub logged : new_upstream.heard.items ≡ old_upstream.heard.items ++ heard
+  pub are : AreHeard (course_of old old_upstream.refusals) heard (course_of new new_upstream.refusals)

@@ -8,8 +8,8 @@ ghost use Rattle.wf_replica_command.specs.Answer.{AreAnswered, AreInOrder};
 ghost use Rattle.wf_replica_command.specs.Heard.{Hears};
 ghost use Rattle.wf_visitors.specs.Visitors.{responses_of};
 
-use crate::asker::Asker;
 use crate::renderer::Renderer;
+use crate::upstream::Upstream;
 use std::net::Net;
 use std::time::Clock;
 use wf_operator::PictureCounts;
@@ -71,11 +71,12 @@ impl<T: Tape + Drop, N: Network> ReplicaClients<T, N> {
     pub(crate) fn ask<R: Net + Clock + Eprint + AllocGlobal>(
         &mut self,
         context: &Context<'_, '_, R, N>,
-        asker: &mut Asker<N>,
+        upstream: &mut Upstream<N>,
     )
-        ensures { Hears asker.old self.old.renderer.follower asker.new self.new.renderer.follower }
+        ensures { Hears upstream.old self.old.renderer.follower upstream.new
+            self.new.renderer.follower }
     {
-        asker.go_on(context, &mut self.renderer.follower);
+        upstream.follow(context, &mut self.renderer.follower);
     }
 
     /// Accepts clients.
@@ -89,10 +90,10 @@ impl<T: Tape + Drop, N: Network> ReplicaClients<T, N> {
     }
 
     /// What came for the client in a slot, or was taken by it.
-    pub(crate) fn turn<R: AllocGlobal>(&mut self, context: &Context<'_, '_, R, N>, index: usize)
+    pub(crate) fn on_ready<R: AllocGlobal>(&mut self, context: &Context<'_, '_, R, N>, index: usize)
         ensures { self.new.renderer ≡ self.old.renderer }
     {
-        self.visitors.turn(context, index);
+        self.visitors.on_ready(context, index);
     }
 
     /// Ends the phases whose time is over.

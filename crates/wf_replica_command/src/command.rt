@@ -1,11 +1,11 @@
 //! Runs a parsed command line.
 ghost use Rattle.wf_line.specs.ProcessLine.{IsReplicaInRange};
 ghost use Rattle.wf_replica_command.specs.Done.{IsReplicaDone, IsReplicaEnd, IsServedUntil};
-ghost use Rattle.wf_replica_command.specs.ReplicaHub.{HasHeardNothing, state_of};
+ghost use Rattle.wf_replica_command.specs.ReplicaLoop.{HasHeardNothing, state_of};
 ghost use Rattle.wf_replica_command.specs.Start.{IsLineRun};
 
+use crate::event_loop::Turn;
 use crate::fault::ReplicaFault;
-use crate::hub::Turn;
 use crate::ready::ReadyReplica;
 use crate::running_replica::RunningReplica;
 use crate::start::ready;
@@ -53,7 +53,7 @@ fn serve<R: Files<File = File> + Clock + Eprint + Net + AllocGlobal, T: Tape + D
         Ok(replica) => replica,
         Err(fault) => return Err(fault),
     };
-    let last = go_on(rt, log, &mut replica, turns);
+    let last = run_turns(rt, log, &mut replica, turns);
     drop(replica);
     match last {
         Turn::On => Ok(()),
@@ -63,17 +63,17 @@ fn serve<R: Files<File = File> + Clock + Eprint + Net + AllocGlobal, T: Tape + D
 
 /// Takes that many turns, or fewer if the replica has to end. Returns how the last one ended.
 #[tactic(auto, using(crate::proofs::Faults::served_to_the_end, crate::proofs::Faults::served_until, crate::proofs::Hearing::hears_nothing, crate::proofs::Hearing::hears_twice))]
-fn go_on<R: Net + Files + Clock + Eprint + AllocGlobal, T: Tape + Drop>(
+fn run_turns<R: Net + Files + Clock + Eprint + AllocGlobal, T: Tape + Drop>(
     rt: &R,
     log: &Log<'_, R>,
     replica: &mut RunningReplica<T>,
     turns: u64,
 ) -> Turn
-    requires { HasHeardNothing T.Tape (state_of replica.old.hub) }
+    requires { HasHeardNothing T.Tape (state_of replica.old.event_loop) }
     ensures { IsServedUntil T.Tape result }
 {
     for _ in 0..turns {
-        if let Turn::Ended(why) = replica.go_on(rt, log) {
+        if let Turn::Ended(why) = replica.wait_and_run(rt, log) {
             return Turn::Ended(why);
         }
     }

@@ -8,9 +8,9 @@ ghost use Rattle.wf_replica.specs.Refusals.{all_refuse};
 ghost use Rattle.wf_replica_command.specs.Continuation.{IsLaterReplica};
 ghost use Rattle.wf_replica_command.specs.Heard.{Hears, IsFewer, IsAnswerGiven, IsReplyHeard, IsNoted, IsRefusing, course_of};
 
-use crate::asker::Asker;
 use crate::event::{ReplicaEvent, SourceEnd};
 use crate::source::{SourceConnection, SourceTurn};
+use crate::upstream::Upstream;
 use std::alloc::{AllocError, Global};
 use std::net::{Net, SocketAddr};
 use std::time::Clock;
@@ -24,7 +24,7 @@ use wf_sockets::Network;
 use wf_tape::Tape;
 use wf_visitors::Context;
 
-impl<N: Network> Asker<N> {
+impl<N: Network> Upstream<N> {
     /// Nobody was asked yet. The first is that of this number, counted round. `is_new`: the replica
     /// begins with no map. The only error is allocation failure.
     #[tactic(auto, using(crate::proofs::Noting::none_refuses, crate::proofs::Noting::one_each))]
@@ -36,8 +36,8 @@ impl<N: Network> Asker<N> {
         is_new: bool,
         time: u64,
     ) -> Result<Self, AllocError>
-        ensures heard { IfOk result (λ asker. asker.heard.items ≡ []) }
-        ensures refusals { IfOk result (λ asker. IsFewer [] asker.refusals) }
+        ensures heard { IfOk result (λ upstream. upstream.heard.items ≡ []) }
+        ensures refusals { IfOk result (λ upstream. IsFewer [] upstream.refusals) }
     {
         let count = sources.len();
         let refusals = match Refusals::new(alloc, count) {
@@ -47,7 +47,7 @@ impl<N: Network> Asker<N> {
                 return Err(AllocError);
             }
         };
-        Ok(Asker {
+        Ok(Upstream {
             sources,
             asking: Asking::new(count.max(1), first, time),
             source: None,
@@ -84,7 +84,7 @@ impl<N: Network> Asker<N> {
 
     /// Takes in what came from the source, and asks what is due.
     #[tactic(auto, using(crate::proofs::Hearing::hears_turn))]
-    pub(crate) fn go_on<R: Net + Clock + Eprint + AllocGlobal, T: Tape + Drop>(
+    pub(crate) fn follow<R: Net + Clock + Eprint + AllocGlobal, T: Tape + Drop>(
         &mut self,
         context: &Context<'_, '_, R, N>,
         follower: &mut Follower<T>,
@@ -119,7 +119,7 @@ impl<N: Network> Asker<N> {
         let Some(mut source) = self.source.take() else {
             return;
         };
-        let turned = source.turn(context.alloc(), context.network, self.of, &mut self.heard);
+        let turned = source.on_ready(context.alloc(), context.network, self.of, &mut self.heard);
         self.source = Some(source);
         match turned {
             SourceTurn::Same => {}

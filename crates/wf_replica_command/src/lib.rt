@@ -10,7 +10,7 @@
 //!
 //! **Promises** (`specs/Done.antt`), however many turns were taken, and however they ended.
 //! - The replica's list is what it heard, message after message. If it heard only answers of nodes
-//!   of a farm or of replicas of it, that is one of the lists of which `wf_career`'s
+//!   of a farm or of replicas of it, that is one of the lists of which `wf_execution`'s
 //!   `replicas_agree` says that all are beginnings of one history (`wf_replica`'s
 //!   `what_is_learned_is_served`).
 //! - Each client that was answered was sent the response of `wf_replica` to exactly what had come
@@ -37,15 +37,14 @@
 #![tactic(auto)]
 
 mod asked;
-mod asker;
 mod clients;
 mod command;
 mod conversation;
 mod event;
+mod event_loop;
 mod facts;
 mod fault;
 mod folder;
-mod hub;
 mod open_question;
 mod parts;
 mod plan;
@@ -55,9 +54,10 @@ mod running_replica;
 mod source;
 mod start;
 mod token;
+mod upstream;
 
 pub use command::run;
+pub use event_loop::Turn;
 pub use fault::ReplicaFault;
-pub use hub::Turn;
 pub use running_replica::{RunningReplica, start_replica};
 pub use wf_address::AddressOption;

@@ -5,7 +5,7 @@ ghost use Rattle.wf_visitors.specs.Visitors.{responses_of};
 
 use crate::fault::ReplicaFault;
 use crate::plan::ReplicaPlan;
-use crate::token::{ASKER, CLIENT, READER, ReplicaSocket};
+use crate::token::{CLIENT, OPERATOR, READER, ReplicaSocket};
 use std::alloc::Global;
 use std::net::{Net, SocketAddr};
 use wf_address::AddressOption;
@@ -129,7 +129,7 @@ fn begin_at<N: Network + Drop>(
         readers,
     } = doors;
     let visitors = Visitors::new(alloc, CLIENTS, Some(http), CLIENT)?;
-    let operators = Visitors::new(alloc, OPERATORS, admin, ASKER)?;
+    let operators = Visitors::new(alloc, OPERATORS, admin, OPERATOR)?;
     let readers = ReadersPort::new(alloc, READERS, readers, READER)?;
     Ok(ReplicaStart {
         network,

@@ -5,13 +5,13 @@ ghost use Rattle.wf_line.specs.ProcessLine.{IsReplicaInRange};
 ghost use Rattle.wf_replica.specs.FarmFile.{replica_text};
 ghost use Rattle.wf_replica_command.specs.Fault.{IsReplicaSystemFault, IsReplicaFault};
 ghost use Rattle.wf_replica_command.specs.Heard.{Hears};
-ghost use Rattle.wf_replica_command.specs.ReplicaHub.{HasAnsweredByList, HasHeardNothing, HasLearned, HasOnlyGrown, IsOfFarm, IsListOnTape, IsTurn, state_of};
+ghost use Rattle.wf_replica_command.specs.ReplicaLoop.{HasAnsweredByList, HasHeardNothing, HasLearned, HasOnlyGrown, IsOfFarm, IsListOnTape, IsTurn, state_of};
 ghost use Rattle.wf_replica_command.specs.Start.{IsReplicaStartCause, IsStarted, IsUnstarted};
 ghost use Rattle.wf_store.specs.Call.{locked};
 
 use crate::event::ReplicaEvent;
+use crate::event_loop::{ReplicaLoop, Turn};
 use crate::fault::ReplicaFault;
-use crate::hub::{ReplicaHub, Turn};
 use crate::ready::ReadyReplica;
 use crate::start::ready;
 use std::net::Net;
@@ -25,16 +25,16 @@ use wf_tape::Tape;
 use wf_visitors::Log;
 
 /// A replica that runs over a network: its caller waits for sockets and steps it. A clause sees its
-/// hub.
+/// event loop.
 pub struct RunningReplica<T: Tape, N: Network = SystemNetwork> {
-    hub: ReplicaHub<T, N>,
+    event_loop: ReplicaLoop<T, N>,
 }
 
 // A derived one would be taken apart by each caller.
 impl<T: Tape + Drop, N: Network + Drop> Drop for RunningReplica<T, N> {
     fn drop(self) {
-        let RunningReplica { hub } = self;
-        drop(hub);
+        let RunningReplica { event_loop } = self;
+        drop(event_loop);
     }
 }
 
@@ -50,7 +50,8 @@ pub fn start_replica<R: Clock + Eprint + Net + AllocGlobal, S: Store, N: Network
     time: u64,
 ) -> Result<RunningReplica<S::Tape, N>, ReplicaFault>
     requires { IsReplicaInRange line.now }
-    ensures begun { IfOk result (λ replica. HasHeardNothing S.Tape.Tape (state_of replica.hub)) }
+    ensures begun { IfOk result (λ replica.
+        HasHeardNothing S.Tape.Tape (state_of replica.event_loop)) }
     ensures started { OnOk result (IsStarted (replica_text (pad line.now.farm.now))
         (locked ∷ S.calls store.old) (S.calls store.new)) }
     ensures unstarted { OnErr result (IsUnstarted (replica_text (pad line.now.farm.now))
@@ -78,37 +79,38 @@ impl<T: Tape + Drop, N: Network + Drop> RunningReplica<T, N> {
         ready: ReadyReplica<T>,
         time: u64,
     ) -> Result<Self, ReplicaFault>
-        ensures begun { IfOk result (λ replica. HasHeardNothing T.Tape (state_of replica.hub)) }
+        ensures begun { IfOk result (λ replica.
+            HasHeardNothing T.Tape (state_of replica.event_loop)) }
         ensures fault { IfErr result (IsReplicaSystemFault ready.plan) }
     {
-        match ReplicaHub::on(rt, network, ready, time) {
-            Ok(hub) => Ok(begun_with(log, hub)),
+        match ReplicaLoop::on(rt, network, ready, time) {
+            Ok(event_loop) => Ok(begun_with(log, event_loop)),
             Err(fault) => Err(fault),
         }
     }
 
     /// What the replica has published.
     pub fn history(&self) -> &History
-        ensures { result.now ≡ self.now.hub.clients.renderer.follower.maps.shelf }
+        ensures { result.now ≡ self.now.event_loop.clients.renderer.follower.maps.shelf }
     {
-        self.hub.history()
+        self.event_loop.history()
     }
 
     /// Whether what it has published is on its tape. Otherwise its tape has failed.
     pub fn has_tape(&self) -> bool {
-        self.hub.has_tape()
+        self.event_loop.has_tape()
     }
 
     /// The replica's list is what it has heard and what its tape has, each client that was answered
     /// was answered from it as it then was, and it never went back, always. The call does nothing.
     pub fn always_lived(&self)
-        ensures lived { HasLearned T.Tape (state_of self.now.hub) }
-        ensures recorded { IsListOnTape T.Tape (state_of self.now.hub) }
-        ensures of_farm { IsOfFarm T.Tape (state_of self.now.hub) }
-        ensures answered { HasAnsweredByList T.Tape (state_of self.now.hub) }
-        ensures stayed { HasOnlyGrown T.Tape (state_of self.now.hub) }
+        ensures lived { HasLearned T.Tape (state_of self.now.event_loop) }
+        ensures recorded { IsListOnTape T.Tape (state_of self.now.event_loop) }
+        ensures of_farm { IsOfFarm T.Tape (state_of self.now.event_loop) }
+        ensures answered { HasAnsweredByList T.Tape (state_of self.now.event_loop) }
+        ensures stayed { HasOnlyGrown T.Tape (state_of self.now.event_loop) }
     {
-        self.hub.always_lived();
+        self.event_loop.always_lived();
     }
 
     /// For how long the next turn may be waited for at most where no socket is ready, in
@@ -116,28 +118,29 @@ impl<T: Tape + Drop, N: Network + Drop> RunningReplica<T, N> {
     pub fn patience(&self, time: u64) -> u64
         ensures { result ≤ 100 }
     {
-        self.hub.patience(time)
+        self.event_loop.patience(time)
     }
 
     /// One turn, at this time in milliseconds, for the sockets with these tokens, which may be
     /// ready; it waits for nothing. One that has to end is to be dropped.
-    pub fn turn<R: Net + Files + Clock + Eprint + AllocGlobal>(
+    pub fn run_once<R: Net + Files + Clock + Eprint + AllocGlobal>(
         &mut self,
         rt: &R,
         log: &Log<'_, R>,
         ready: &[usize],
         time: u64,
     ) -> Turn
-        ensures lived { HasLearned T.Tape (state_of self.new.hub) }
-        ensures recorded { IsListOnTape T.Tape (state_of self.new.hub) }
-        ensures of_farm { IsOfFarm T.Tape (state_of self.new.hub) }
-        ensures answered { HasAnsweredByList T.Tape (state_of self.new.hub) }
-        ensures stayed { HasOnlyGrown T.Tape (state_of self.new.hub) }
-        ensures heard { Hears self.old.hub.asker self.old.hub.clients.renderer.follower
-            self.new.hub.asker self.new.hub.clients.renderer.follower }
-        ensures ended { IsTurn T.Tape result (state_of self.new.hub) }
+        ensures lived { HasLearned T.Tape (state_of self.new.event_loop) }
+        ensures recorded { IsListOnTape T.Tape (state_of self.new.event_loop) }
+        ensures of_farm { IsOfFarm T.Tape (state_of self.new.event_loop) }
+        ensures answered { HasAnsweredByList T.Tape (state_of self.new.event_loop) }
+        ensures stayed { HasOnlyGrown T.Tape (state_of self.new.event_loop) }
+        ensures heard { Hears self.old.event_loop.upstream
+            self.old.event_loop.clients.renderer.follower
+            self.new.event_loop.upstream self.new.event_loop.clients.renderer.follower }
+        ensures ended { IsTurn T.Tape result (state_of self.new.event_loop) }
     {
-        self.hub.turn(rt, log, ready, time)
+        self.event_loop.run_once(rt, log, ready, time)
     }
 }
 
@@ -148,43 +151,45 @@ impl<T: Tape + Drop> RunningReplica<T> {
         log: &Log<'_, R>,
         ready: ReadyReplica<T>,
     ) -> Result<Self, ReplicaFault>
-        ensures begun { IfOk result (λ replica. HasHeardNothing T.Tape (state_of replica.hub)) }
+        ensures begun { IfOk result (λ replica.
+            HasHeardNothing T.Tape (state_of replica.event_loop)) }
         ensures fault { IfErr result (IsReplicaSystemFault ready.plan) }
     {
-        match ReplicaHub::new(rt, ready) {
-            Ok(hub) => Ok(begun_with(log, hub)),
+        match ReplicaLoop::new(rt, ready) {
+            Ok(event_loop) => Ok(begun_with(log, event_loop)),
             Err(fault) => Err(fault),
         }
     }
 
     /// One turn over the network of the system, for which it waits.
-    pub(crate) fn go_on<R: Net + Files + Clock + Eprint + AllocGlobal>(
+    pub(crate) fn wait_and_run<R: Net + Files + Clock + Eprint + AllocGlobal>(
         &mut self,
         rt: &R,
         log: &Log<'_, R>,
     ) -> Turn
-        ensures lived { HasLearned T.Tape (state_of self.new.hub) }
-        ensures recorded { IsListOnTape T.Tape (state_of self.new.hub) }
-        ensures of_farm { IsOfFarm T.Tape (state_of self.new.hub) }
-        ensures answered { HasAnsweredByList T.Tape (state_of self.new.hub) }
-        ensures stayed { HasOnlyGrown T.Tape (state_of self.new.hub) }
-        ensures heard { Hears self.old.hub.asker self.old.hub.clients.renderer.follower
-            self.new.hub.asker self.new.hub.clients.renderer.follower }
-        ensures ended { IsTurn T.Tape result (state_of self.new.hub) }
+        ensures lived { HasLearned T.Tape (state_of self.new.event_loop) }
+        ensures recorded { IsListOnTape T.Tape (state_of self.new.event_loop) }
+        ensures of_farm { IsOfFarm T.Tape (state_of self.new.event_loop) }
+        ensures answered { HasAnsweredByList T.Tape (state_of self.new.event_loop) }
+        ensures stayed { HasOnlyGrown T.Tape (state_of self.new.event_loop) }
+        ensures heard { Hears self.old.event_loop.upstream
+            self.old.event_loop.clients.renderer.follower
+            self.new.event_loop.upstream self.new.event_loop.clients.renderer.follower }
+        ensures ended { IsTurn T.Tape result (state_of self.new.event_loop) }
     {
-        self.hub.go_on(rt, log)
+        self.event_loop.wait_and_run(rt, log)
     }
 }
 
-/// The replica of a hub. Where clients come is logged.
+/// The replica of an event loop. Where clients come is logged.
 fn begun_with<R: Clock + Eprint, T: Tape + Drop, N: Network + Drop>(
     log: &Log<'_, R>,
-    hub: ReplicaHub<T, N>,
+    event_loop: ReplicaLoop<T, N>,
 ) -> RunningReplica<T, N>
-    ensures { result.hub ≡ hub }
+    ensures { result.event_loop ≡ event_loop }
 {
-    if let Some(http) = hub.http() {
+    if let Some(http) = event_loop.http() {
         log.write(&ReplicaEvent::Listening { http });
     }
-    RunningReplica { hub }
+    RunningReplica { event_loop }
 }

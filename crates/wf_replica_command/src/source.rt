@@ -71,7 +71,7 @@ impl<C: Connection + Drop> SourceConnection<C> {
     /// Writes what is left of the question, and reads what came of its reply. Whatever comes while
     /// no question is open ends the connection. The reply is logged, with this number of the
     /// source.
-    pub(crate) fn turn<N: Network<Connection = C>>(
+    pub(crate) fn on_ready<N: Network<Connection = C>>(
         &mut self,
         alloc: Global,
         network: &N,

@@ -1,7 +1,7 @@
 //! The tokens of sockets: which socket an event is about.
 
 /// The first token of the operator's connections.
-pub(crate) const ASKER: usize = 512;
+pub(crate) const OPERATOR: usize = 512;
 
 /// The first token of readers.
 pub(crate) const READER: usize = 768;
@@ -21,7 +21,7 @@ pub(crate) enum ReplicaSocket {
     /// The connection to the source that is asked.
     Source,
     /// The operator's connection in this slot.
-    Asker(usize),
+    Operator(usize),
     /// The reader in this slot.
     Reader(usize),
     /// The client in this slot.
@@ -36,7 +36,7 @@ impl ReplicaSocket {
             ReplicaSocket::Admin => 1,
             ReplicaSocket::Readers => 2,
             ReplicaSocket::Source => 3,
-            ReplicaSocket::Asker(index) => ASKER.saturating_add(index),
+            ReplicaSocket::Operator(index) => OPERATOR.saturating_add(index),
             ReplicaSocket::Reader(index) => READER.saturating_add(index),
             ReplicaSocket::Client(index) => CLIENT.saturating_add(index),
         }
@@ -54,10 +54,10 @@ impl ReplicaSocket {
 
     /// The connection of a token.
     fn of_connection(token: usize) -> ReplicaSocket {
-        if token < ASKER {
+        if token < OPERATOR {
             ReplicaSocket::Source
         } else if token < READER {
-            ReplicaSocket::Asker(token - ASKER)
+            ReplicaSocket::Operator(token - OPERATOR)
         } else if token < CLIENT {
             ReplicaSocket::Reader(token - READER)
         } else {

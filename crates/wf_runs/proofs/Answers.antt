@@ -1,7 +1,7 @@
 -- Sessions that are one farm agree, go on and answer alike.
 use Rattle.std.proofs.Common.{◌≡◌, ◌≢◌, ℕ, List, length, Option, Result, Ok, Err, Vec, refl, sym, ap, subst, ◌∙◌, arith}
 use Rattle.std.specs.declared.alloc.Global.{Global}
-use Rattle.wf_career.specs.Theorems as career
+use Rattle.wf_execution.specs.Theorems as execution
 use Rattle.wf_codec.specs.declared.message.Message.{Message}
 use Rattle.wf_def.specs.Definition.{Definition}
 use Rattle.wf_edge.specs.ErrorResponse.{response_of}
@@ -64,35 +64,35 @@ module _ {T : Type 0} (tapes : Tape T) where
 -- ---- the theorems
 
 module _ {T : Type 0} (tapes : Tape T) (n : ℕ) (sessions : List (NodeSession T)) (is : IsOneFarm tapes n sessions) where
-  held : (node : Node T) → WasOnce sessions node → career.IsHeld n is.careers node
+  held : (node : Node T) → WasOnce sessions node → execution.IsHeld n is.executions node
   held node h =
       let same = is.order h.moment h.moment h.node_index node node (omega arith) h.at h.at in
       record { process = h.node_index; is_member = same.is_member; moment = same.moment; at = same.at }
 
-  history : career.OneHistory tapes → HasOneHistory sessions
+  history : execution.OneHistory tapes → HasOneHistory sessions
   history theorem =
-      let so = theorem n is.careers is.items is.farm in
+      let so = theorem n is.executions is.items is.farm in
       record { history = so.history; each = λ node h. so.each node (held node h) }
 
-  definition : career.OneDefinition tapes → HaveOneDefinition sessions
+  definition : execution.OneDefinition tapes → HaveOneDefinition sessions
   unfolding HaveOneDefinition
-  definition theorem = λ node other h also s c d at there. theorem n is.careers is.items is.farm node other (held node h) (held other also) s c d at there
+  definition theorem = λ node other h also s c d at there. theorem n is.executions is.items is.farm node other (held node h) (held other also) s c d at there
 
-  grow : career.ListsGrow tapes → NoneGoesBack sessions
+  grow : execution.ListsGrow tapes → NoneGoesBack sessions
   unfolding NoneGoesBack
   grow theorem = λ k l i node next order at then.
       let so = is.order k l i node next order at then in
-      theorem n i (is.careers i) so.moment so.later node next (is.farm.each i so.is_member) so.order so.at so.then
+      theorem n i (is.executions i) so.moment so.later node next (is.farm.each i so.is_member) so.order so.at so.then
 
-  module _ (one : career.OneAnswer tapes) (one_map : career.OneMapAnswer tapes) where
+  module _ (one : execution.OneAnswer tapes) (one_map : execution.OneMapAnswer tapes) where
     pages_alike : (node other : Node T) (query : List ℕ) (page another : Response) → WasOnce sessions node → WasOnce sessions other → AskedAlike query node.parts.history other.parts.history →
         IsServicePage node.parts.history query page → IsServicePage other.parts.history query another → another ≡ page
     pages_alike node other query page another h also (AtOneSequence long) is_page is_other =
-        let same = one n is.careers is.items is.farm node other (held node h) (held other also) (length node.parts.history) query is_page.answer is_other.answer refl long
+        let same = one n is.executions is.items is.farm node other (held node h) (held other also) (length node.parts.history) query is_page.answer is_other.answer refl long
         is_page.is_answer (subst (λ s. IsAnswerOf s other.parts.history query is_other.answer) long is_other.is_answer) in
         is_other.is_page ∙ ap service_page same ∙ sym is_page.is_page
     pages_alike node other query page another h also (ForOneMap m asks asks_too) is_page is_other =
-        let same = one_map n is.careers is.items is.farm node other (held node h) (held other also) (length node.parts.history) (length other.parts.history) m query is_page.answer is_other.answer asks asks_too refl refl
+        let same = one_map n is.executions is.items is.farm node other (held node h) (held other also) (length node.parts.history) (length other.parts.history) m query is_page.answer is_other.answer asks asks_too refl refl
         is_page.is_answer is_other.is_answer in
         is_other.is_page ∙ ap service_page same ∙ sym is_page.is_page
 
@@ -112,7 +112,7 @@ module _ {T : Type 0} (tapes : Tape T) (n : ℕ) (sessions : List (NodeSession T
         (responded tapes one.input one.old one.new before one.connection.after one.outputs one.outcome one.connection.served query response one.reply)
         (responded tapes two.input two.old two.new other two.connection.after two.outputs two.outcome two.connection.served query another two.reply) fine fine_too
 
-pub sessions_agree : {T : Type 0} (tapes : Tape T) → FolderIsOneFarm tapes → career.OneHistory tapes → career.OneDefinition tapes → career.ListsGrow tapes → career.OneAnswer tapes → career.OneMapAnswer tapes → SessionsAreOneFarm tapes
+pub sessions_agree : {T : Type 0} (tapes : Tape T) → FolderIsOneFarm tapes → execution.OneHistory tapes → execution.OneDefinition tapes → execution.ListsGrow tapes → execution.OneAnswer tapes → execution.OneMapAnswer tapes → SessionsAreOneFarm tapes
 sessions_agree tapes farms histories definitions grows answers maps = λ n sessions folder.
     let is = farms n sessions folder in
     record {

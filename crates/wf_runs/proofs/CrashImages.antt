@@ -1,6 +1,6 @@
 -- What durable tapes and disks leave.
 use Rattle.std.proofs.Common.{subst}
-use Rattle.wf_career.specs.CrashImages.{LeavesFailed}
+use Rattle.wf_execution.specs.CrashImages.{LeavesFailed}
 use Rattle.wf_def.specs.Definition.{Definition}
 use Rattle.wf_disk.specs.Folder.{bytes_in}
 use Rattle.wf_disk.specs.FolderTheorems.{EndsInAnImage}

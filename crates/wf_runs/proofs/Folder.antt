@@ -2,16 +2,16 @@
 use Rattle.std.proofs.Common.{◌≡◌, ◌⊎◌, ℕ, ◌<◌, ◌≤◌, List, [], ◌∷◌, Option, Some, None, refl, subst, inl, inr, arith}
 use Rattle.std.proofs.lemmas.Bool.{cases_lt}
 use Rattle.std.proofs.lemmas.Option.{none-some, slice_get_within}
-use Rattle.wf_career.specs.Run.{Run}
-use Rattle.wf_career.specs.Career.{Career, Ended, AreRuns, IsCareer, items_of, items_in, values_of}
-use Rattle.wf_career.specs.Continuation.{unstarted}
+use Rattle.wf_execution.specs.Run.{Run}
+use Rattle.wf_execution.specs.Execution.{Execution, Ended, AreRuns, IsExecution, items_of, items_in, values_of}
+use Rattle.wf_execution.specs.Continuation.{unstarted}
 use Rattle.wf_journal.specs.Records.{AreReadOneWay}
 use Rattle.wf_node.specs.Node.{Node}
 use Rattle.wf_tape.specs.declared.tape.Tape.{Ghosts as Tape}
 use Rattle.wf_runs.specs.Session.{NodeSession}
 use Rattle.wf_runs.specs.Folder.{IsNewTape, IsFolder, moments, WasAt}
 use Rattle.wf_runs.specs.Theorems.{IsOneFarm, FolderIsOneFarm}
-use Rattle.wf_runs.proofs.Careers.{Lived, lived}
+use Rattle.wf_runs.proofs.Executions.{Lived, lived}
 use Rattle.wf_runs.proofs.Items.{all_items}
 use Rattle.wf_runs.proofs.Left.{opened_empty}
 use Rattle.wf_runs.proofs.Moments.{ShownBoth, shown_both, all_long, long_at}
@@ -29,7 +29,7 @@ no_moment k i node at = none-some at.nodes at.then
 
 no_sessions : {T : Type 0} (tapes : Tape T) (n : ℕ) → IsOneFarm tapes n []
 no_sessions {T} tapes n = record {
-  careers = unstarted;
+  executions = unstarted;
   items = [];
   farm = record { each = λ i less. tt; own = λ i less. nothing_own T i; in_turn = tt };
   order = λ k l i node next less at then. absurd (no_moment k i node at);
@@ -51,29 +51,29 @@ module _ {T : Type 0} (theorem : AreReadOneWay) (tapes : Tape T) (n : ℕ) (sess
       begins (ended ∷ more) now runs =
           (record { run = record { opened = opened_empty theorem n i is.bytes ended.run.first is.may_be runs.0.run.opened; done = runs.0.run.done }; left = runs.0.left }, runs.1)
 
-  career_by : (i : ℕ) → (i < n) ⊎ (n ≤ i) → Career T
-  career_by i (inl less) = record { ended = (life i less).ended; now = (life i less).now }
-  career_by i (inr beyond) = unstarted i
+  execution_by : (i : ℕ) → (i < n) ⊎ (n ≤ i) → Execution T
+  execution_by i (inl less) = record { ended = (life i less).ended; now = (life i less).now }
+  execution_by i (inr beyond) = unstarted i
 
-  abbrev careers : ℕ → Career T
-  careers i = career_by i (cases_lt i n)
+  abbrev executions : ℕ → Execution T
+  executions i = execution_by i (cases_lt i n)
 
   none_beyond : (i : ℕ) → i < n → n ≤ i → ⊥
   none_beyond i less beyond = omega (arith, less, beyond)
 
-  is_career : (i : ℕ) (d : (i < n) ⊎ (n ≤ i)) → i < n → IsCareer tapes n i (career_by i d)
-  unfolding career_by
-  is_career i (inl it) less = from_empty i (life i it)
-  is_career i (inr beyond) less = absurd (none_beyond i less beyond)
+  is_execution : (i : ℕ) (d : (i < n) ⊎ (n ≤ i)) → i < n → IsExecution tapes n i (execution_by i d)
+  unfolding execution_by
+  is_execution i (inl it) less = from_empty i (life i it)
+  is_execution i (inr beyond) less = absurd (none_beyond i less beyond)
 
-  its_items : (i : ℕ) (d : (i < n) ⊎ (n ≤ i)) → i < n → items_of i (all_items n (session ∷ later)) ≡ items_in i (career_by i d).ended (career_by i d).now
-  unfolding career_by
+  its_items : (i : ℕ) (d : (i < n) ⊎ (n ≤ i)) → i < n → items_of i (all_items n (session ∷ later)) ≡ items_in i (execution_by i d).ended (execution_by i d).now
+  unfolding execution_by
   its_items i (inl it) less = (life i it).items
   its_items i (inr beyond) less = absurd (none_beyond i less beyond)
 
   shown_by : (k l i : ℕ) (node next : Node T) → k ≤ l → WasAt (session ∷ later) k i node → WasAt (session ∷ later) l i next → (d : (i < n) ⊎ (n ≤ i)) → i < n →
-      ShownBoth i (values_of (career_by i d).ended (career_by i d).now) node next
-  unfolding career_by
+      ShownBoth i (values_of (execution_by i d).ended (execution_by i d).now) node next
+  unfolding execution_by
   shown_by k l i node next order at then (inl it) less =
       shown_both i (moments (session ∷ later)) (values_of (life i it).ended (life i it).now) k l at.nodes then.nodes node next (life i it).show order at.then at.there then.then then.there
   shown_by k l i node next order at then (inr beyond) less = absurd (none_beyond i less beyond)
@@ -85,10 +85,10 @@ module _ {T : Type 0} (theorem : AreReadOneWay) (tapes : Tape T) (n : ℕ) (sess
 
   pub one_farm : IsOneFarm tapes n (session ∷ later)
   one_farm = record {
-    careers = careers;
+    executions = executions;
     items = all_items n (session ∷ later);
     farm = record {
-      each = λ i less. is_career i (cases_lt i n) less;
+      each = λ i less. is_execution i (cases_lt i n) less;
       own = λ i less. its_items i (cases_lt i n) less;
       in_turn = all_turn tapes n IsNewTape [] (session ∷ later) are;
     };

@@ -1,8 +1,8 @@
--- The steps of sessions as the items of `wf_career`: each node's own, in their order.
+-- The steps of sessions as the items of `wf_execution`: each node's own, in their order.
 use Rattle.std.proofs.Common.{◌≡◌, ◌≢◌, ℕ, zero, suc, ◌<◌, ◌≤◌, List, [], ◌∷◌, ◌++◌, refl, sym, ap, ◌∙◌, inl, inr, arith, append-nil, eq-eqb, ne_eqb}
 use Rattle.std.proofs.lemmas.Bool.{cases_eq}
-use Rattle.wf_career.specs.Career.{Item, items_of, items_by, items_at}
-use Rattle.wf_career.specs.Run.{Act, RunEnd, Between, Within, Failed}
+use Rattle.wf_execution.specs.Execution.{Item, items_of, items_by, items_at}
+use Rattle.wf_execution.specs.Run.{Act, RunEnd, Between, Within, Failed}
 use Rattle.wf_runs.specs.Session.{SessionStep, NodeSession, acts_at}
 
 -- ---- the items of one process

@@ -2,7 +2,7 @@ mod Items
 mod Turns
 mod Left
 mod Moments
-mod Careers
+mod Executions
 mod Folder
 mod Answers
 mod CrashImages

@@ -1,11 +1,11 @@
 -- The values of the node at one index, at each moment of the sessions, are those of its process's
--- career, in their order.
+-- execution, in their order.
 use Rattle.std.proofs.Common.{◌≡◌, ◌≢◌, ℕ, zero, suc, ◌≤◌, List, [], ◌∷◌, ◌++◌, length, slice_get, slice_set, Some, refl, sym, ap, subst, ◌∙◌, inl, inr, arith, length-set}
 use Rattle.std.specs.Prelude.{⊤}
 use Rattle.std.proofs.lemmas.Bool.{cases_eq}
 use Rattle.std.proofs.lemmas.Option.{none-some, same_Some}
-use Rattle.wf_career.specs.Career.{values_after}
-use Rattle.wf_career.specs.Run.{IsAct, AreDone}
+use Rattle.wf_execution.specs.Execution.{values_after}
+use Rattle.wf_execution.specs.Run.{IsAct, AreDone}
 use Rattle.wf_codec.specs.declared.message.Message.{Message}
 use Rattle.wf_delivery.specs.IndexTheorems.{get_set_other, set_there}
 use Rattle.wf_node.specs.Node.{Node}

@@ -1,6 +1,6 @@
 -- The runs of `serve` on one folder are sessions on it.
 use Rattle.std.proofs.Common.{◌≡◌, ℕ, zero, suc, List, [], ◌∷◌, ◌++◌, length, map, take, slice_get, Some, refl, sym, subst, ◌∙◌}
-use Rattle.wf_career.specs.Run.{Between}
+use Rattle.wf_execution.specs.Run.{Between}
 use Rattle.wf_codec.specs.declared.message.Message.{Message}
 use Rattle.wf_delivery.specs.Delivery.{StandAmong, StandInTurn}
 use Rattle.wf_delivery.specs.Reachability.{AreFresh}

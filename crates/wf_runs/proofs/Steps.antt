@@ -3,8 +3,8 @@
 use Rattle.std.proofs.Common.{◌≡◌, ℕ, zero, suc, Bool, true, false, List, [], ◌∷◌, ◌++◌, slice_get, slice_set, Some, Result, Ok, Err, Vec, refl, sym, ap, subst, ◌∙◌, inl, inr, append-nil, append_assoc}
 use Rattle.std.proofs.lemmas.Option.{none-some, same_Some}
 use Rattle.std.specs.declared.alloc.Global.{Global}
-use Rattle.wf_career.specs.Run.{Act, Input, IsAct}
-use Rattle.wf_career.specs.Career.{IsOneOf}
+use Rattle.wf_execution.specs.Run.{Act, Input, IsAct}
+use Rattle.wf_execution.specs.Execution.{IsOneOf}
 use Rattle.wf_codec.specs.declared.message.Message.{Message}
 use Rattle.wf_edge.specs.StepResult.{IsStepResult}
 use Rattle.wf_edge.specs.RequestEffect.{HandsOut}
@@ -174,12 +174,12 @@ module _ {T : Type 0} (tapes : Tape T) where
   unfolding returned
   answer_reported asks answers answer same m is = in_second m asks.act.outputs (answers.act.outputs ++ []) (in_first m answers.act.outputs [] (subst (IsIn m) (sym same) is))
 
-  question_walk : (asked asker : ℕ) (nodes after : List (Node T)) (lost : Bool) → IsOneQuestion tapes asked asker nodes lost after → Walk tapes [] nodes after
-  question_walk asked asker nodes after lost q =
-      let asks : SessionStep T = record { node_index = asker; act = record { input = action.CatchUp; outputs = q.question ∷ []; after = q.before } } in
+  question_walk : (asked requester : ℕ) (nodes after : List (Node T)) (lost : Bool) → IsOneQuestion tapes asked requester nodes lost after → Walk tapes [] nodes after
+  question_walk asked requester nodes after lost q =
+      let asks : SessionStep T = record { node_index = requester; act = record { input = action.CatchUp; outputs = q.question ∷ []; after = q.before } } in
       let answers : SessionStep T = record { node_index = asked; act = record { input = action.Deliver q.question; outputs = q.answer; after = q.other } } in
-      let first : IsStepTaken tapes [] nodes asks = record { before = q.before; at = q.asker_at; is = record { lost = false; takes = q.asks }; arrived = tt } in
-      let same : stepped nodes asks ≡ nodes = set_same nodes asker q.before q.asker_at in
+      let first : IsStepTaken tapes [] nodes asks = record { before = q.before; at = q.requester_at; is = record { lost = false; takes = q.asks }; arrived = tt } in
+      let same : stepped nodes asks ≡ nodes = set_same nodes requester q.before q.requester_at in
       let second : IsStepTaken tapes (q.question ∷ []) nodes answers =
       record { before = q.other; at = q.asked_at; is = record { lost = q.unanswered; takes = q.answers }; arrived = inl refl } in
       let still : stepped nodes answers ≡ nodes = set_same nodes asked q.other q.asked_at in
@@ -188,15 +188,15 @@ module _ {T : Type 0} (tapes : Tape T) where
         taken = (first, (subst (λ ns. IsStepTaken tapes (q.question ∷ []) ns answers) (sym same) second, tt));
         come = both_come nodes asks answers same still;
       } in
-      let rest = arrived_walk q.answer q.answer nodes asker q.before q.after q.unheard q.asker_at (λ m is. is) q.receives in
+      let rest = arrived_walk q.answer q.answer nodes requester q.before q.after q.unheard q.requester_at (λ m is. is) q.receives in
       subst (Walk tapes [] nodes) (sym q.nodes_are)
-      (walk_both [] q.answer nodes nodes (slice_set nodes asker q.after) both (λ m is. answer_reported asks answers q.answer refl m is) rest)
+      (walk_both [] q.answer nodes nodes (slice_set nodes requester q.after) both (λ m is. answer_reported asks answers q.answer refl m is) rest)
 
   asked_walk : (asked : ℕ) (nodes after : List (Node T)) (lost : Bool) → HaveAsked tapes asked nodes lost after → Walk tapes [] nodes after
   asked_walk asked nodes after lost Rests = walk_none [] nodes nodes refl
-  asked_walk asked nodes after lost (Asks asker missed loses middle last before one) =
+  asked_walk asked nodes after lost (Asks requester missed loses middle last before one) =
       let first = asked_walk asked nodes middle missed before in
-      walk_both [] [] nodes middle last first (none_among (reported [] first)) (question_walk asked asker middle last loses one)
+      walk_both [] [] nodes middle last first (none_among (reported [] first)) (question_walk asked requester middle last loses one)
 
   pub catch_up_walk : (asked : ℕ) (nodes after : List (Node T)) (lost : Bool) → HaveAsked tapes asked nodes lost after → Walk tapes [] nodes after
   catch_up_walk asked nodes after lost are = asked_walk asked nodes after lost are

@@ -1,9 +1,9 @@
 -- Each message that the sessions' items deliver was returned by an earlier one.
 use Rattle.std.proofs.Common.{◌≡◌, ◌⊎◌, ℕ, zero, suc, ◌<◌, ◌≤◌, List, [], ◌∷◌, ◌++◌, length, slice_get, Some, refl, sym, ap, subst, ◌∙◌, inl, inr, arith, append-nil, append_assoc, length-set}
 use Rattle.std.proofs.lemmas.Option.{slice_get_within, slice_get_cases}
-use Rattle.wf_career.specs.Career.{Item, items_at, IsOneOf, AreInTurn}
-use Rattle.wf_career.specs.Theorems.{outputs_in}
-use Rattle.wf_career.specs.Run.{Input, RunEnd, Between, Within, Failed}
+use Rattle.wf_execution.specs.Execution.{Item, items_at, IsOneOf, AreInTurn}
+use Rattle.wf_execution.specs.Theorems.{outputs_in}
+use Rattle.wf_execution.specs.Run.{Input, RunEnd, Between, Within, Failed}
 use Rattle.wf_codec.specs.declared.message.Message.{Message}
 use Rattle.wf_model.specs.Chosen.{IsIn}
 use Rattle.wf_model.specs.declared.action.Action.TheVariants as action

@@ -9,8 +9,8 @@ use Rattle.wf_node.specs.Input.{view}
 use Rattle.wf_node.specs.Step.{IsTransition, entry_of, step_rejection_at, transition_of}
 use Rattle.wf_node.specs.TapeWrites.{bytes_of}
 use Rattle.std.proofs.lemmas.Option.{none-some, same_Some}
-use Rattle.wf_career.specs.Career.{IsOneOf}
-use Rattle.wf_career.specs.Run.{Act, Between, HasLeft, IsAct, IsOpenedFrom, last_of}
+use Rattle.wf_execution.specs.Execution.{IsOneOf}
+use Rattle.wf_execution.specs.Run.{Act, Between, HasLeft, IsAct, IsOpenedFrom, last_of}
 use Rattle.wf_node.specs.Node.{Node}
 use Rattle.wf_tape.specs.declared.tape.Tape.{Ghosts as Tape}
 use Rattle.wf_runs.specs.Session.{NodeSession, SessionStep, acts_at, run_at}

@@ -1,7 +1,7 @@
 -- What a durable tape gives: an opening that is cut off leaves what reads alike; and however a
 -- process ends, its disk leaves what a run leaves.
 use Rattle.std.specs.Prelude.{◌≡◌, ℕ, true, false, List}
-use Rattle.wf_career.specs.Run.{Input, Run, last, Between, Failed, HasLeft, IsRun}
+use Rattle.wf_execution.specs.Run.{Input, Run, last, Between, Failed, HasLeft, IsRun}
 use Rattle.wf_def.specs.Definition.{Definition}
 use Rattle.wf_disk.specs.Folder.{Folder, bytes_in, IsProcessEnded}
 use Rattle.wf_disk.specs.declared.disk.Disk.{Ghosts as Disk}

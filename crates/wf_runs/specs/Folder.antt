@@ -1,8 +1,8 @@
 -- The sessions on one folder, one after the other: each reads what the one before it left on the
 -- tapes.
 use Rattle.std.specs.Prelude.{◌≡◌, ℕ, ⊤, List, [], ◌∷◌, ◌++◌, length, slice_get, Some}
-use Rattle.wf_career.specs.Career.{IsOneOf}
-use Rattle.wf_career.specs.Run.{RunEnd, Between, Within, Failed, HasLeft, IsOpenedFrom}
+use Rattle.wf_execution.specs.Execution.{IsOneOf}
+use Rattle.wf_execution.specs.Run.{RunEnd, Between, Within, Failed, HasLeft, IsOpenedFrom}
 use Rattle.wf_codec.specs.declared.message.Message.{Message}
 use Rattle.wf_def.specs.Definition.{Definition}
 use Rattle.wf_model.specs.DurableState.{DurableState}

@@ -1,6 +1,6 @@
 -- The sessions of `serve`: what was served is steps of the nodes.
 use Rattle.std.specs.Prelude.{◌≡◌, ◌⊎◌, ℕ, zero, suc, ⊤, List, [], ◌∷◌, length, map, take, slice_get, Some, None, Result, Ok, Err, IsSome}
-use Rattle.wf_career.specs.Run.{RunEnd, Between}
+use Rattle.wf_execution.specs.Run.{RunEnd, Between}
 use Rattle.wf_model.specs.Chosen.{IsIn}
 use Rattle.wf_node.specs.Node.{Node}
 use Rattle.wf_serve.specs.Connections.{HaveCome, IfReported, IsServing}

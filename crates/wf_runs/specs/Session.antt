@@ -1,8 +1,8 @@
 -- A session: the nodes of a farm share one process. They are opened, and take steps in one order of
 -- time, until the process ends.
 use Rattle.std.specs.Prelude.{◌≡◌, ℕ, ◌==◌, ⊤, List, [], ◌∷◌, ◌++◌, slice_get, slice_set, Some, if◌then◌else◌}
-use Rattle.wf_career.specs.Career.{IsOneOf}
-use Rattle.wf_career.specs.Run.{Act, RunEnd, Run, IsAct}
+use Rattle.wf_execution.specs.Execution.{IsOneOf}
+use Rattle.wf_execution.specs.Run.{Act, RunEnd, Run, IsAct}
 use Rattle.wf_codec.specs.declared.message.Message.{Message}
 use Rattle.wf_node.specs.Node.{Node}
 use Rattle.wf_tape.specs.declared.tape.Tape.{Ghosts as Tape}

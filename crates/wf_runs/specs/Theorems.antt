@@ -1,7 +1,7 @@
 -- The theorems about sessions on one folder.
 use Rattle.std.specs.Prelude.{◌≡◌, ◌≢◌, ℕ, ◌<◌, ◌≤◌, List, slice_get, Option, Some, Result, Ok, Err, Vec}
 use Rattle.std.specs.declared.alloc.Global.{Global}
-use Rattle.wf_career.specs.Career.{Career, Item, IsFarm, values}
+use Rattle.wf_execution.specs.Execution.{Execution, Item, IsFarm, values}
 use Rattle.wf_codec.specs.declared.message.Message.{Message}
 use Rattle.wf_def.specs.Definition.{Definition}
 use Rattle.wf_edge.specs.Request.{Request}
@@ -24,22 +24,22 @@ use Rattle.wf_runs.specs.Folder.{IsFolder, moments, WasAt, WasOnce}
 -- ---- one farm of processes
 
 -- Of two moments the node at one index was the one value and then the other: so it was in that
--- process's career.
-pub record AreSuccessive {T : Type 0} (n : ℕ) (careers : ℕ → Career T) (node_index : ℕ) (node next : Node T) : Type 0 where
+-- process's execution.
+pub record AreSuccessive {T : Type 0} (n : ℕ) (executions : ℕ → Execution T) (node_index : ℕ) (node next : Node T) : Type 0 where
   pub is_member : node_index < n
   pub moment : ℕ
   pub later : ℕ
   pub order : moment ≤ later
-  pub at : slice_get (values (careers node_index)) moment ≡ Some node
-  pub then : slice_get (values (careers node_index)) later ≡ Some next
+  pub at : slice_get (values (executions node_index)) moment ≡ Some node
+  pub then : slice_get (values (executions node_index)) later ≡ Some next
 
--- The sessions are a farm of n processes of `wf_career`, one for each index: what a node was at
+-- The sessions are a farm of n processes of `wf_execution`, one for each index: what a node was at
 -- each moment, its process held, and in that order.
 pub record IsOneFarm {T : Type 0} (tapes : Tape T) (n : ℕ) (sessions : List (NodeSession T)) : Type 0 where
-  pub careers : ℕ → Career T
+  pub executions : ℕ → Execution T
   pub items : List Item
-  pub farm : IsFarm tapes n careers items
-  pub order : (moment later node_index : ℕ) (node next : Node T) → moment ≤ later → WasAt sessions moment node_index node → WasAt sessions later node_index next → AreSuccessive n careers node_index node next
+  pub farm : IsFarm tapes n executions items
+  pub order : (moment later node_index : ℕ) (node next : Node T) → moment ≤ later → WasAt sessions moment node_index node → WasAt sessions later node_index next → AreSuccessive n executions node_index node next
 
 abbrev pub FolderIsOneFarm : {T : Type 0} → Tape T → Type 0
 FolderIsOneFarm {T} tapes = (n : ℕ) (sessions : List (NodeSession T)) → IsFolder tapes n sessions → IsOneFarm tapes n sessions

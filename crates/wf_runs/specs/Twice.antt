@@ -1,7 +1,7 @@
 -- An example: a node on a disk in memory that is opened, takes a step, loses its power, and is
 -- opened again.
 use Rattle.std.specs.Prelude.{◌≡◌, ℕ, List, [], ◌∷◌, length}
-use Rattle.wf_career.specs.Run.{IsOpenedFrom}
+use Rattle.wf_execution.specs.Run.{IsOpenedFrom}
 use Rattle.wf_node.specs.Images.{StandsFor}
 use Rattle.wf_node.specs.Node.{Node, stored_of}
 use Rattle.wf_tape.specs.declared.tape.Tape.{Ghosts as Tape}

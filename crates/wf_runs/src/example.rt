@@ -1,7 +1,7 @@
 //! An example, which shows that the premises about a folder can be met by what a program calls.
 
 ghost use Rattle.std.specs.Prelude.{◌≡◌, ◌<◌, ◌≤◌, false, IfOk};
-ghost use Rattle.wf_career.specs.Run.{IsOpenedFrom};
+ghost use Rattle.wf_execution.specs.Run.{IsOpenedFrom};
 ghost use Rattle.wf_disk.specs.Folder.{bytes_in};
 ghost use Rattle.wf_runs.specs.Twice.{AreTwoSessions, IsOpenedAgain};
 

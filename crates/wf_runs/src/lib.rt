@@ -12,7 +12,7 @@
 //! these.
 //!
 //! **Promises**, over any kind of tape:
-//! - Sessions on one folder are a farm of processes of `wf_career`, one for each node
+//! - Sessions on one folder are a farm of processes of `wf_execution`, one for each node
 //!   ([`a_folder_is_one_farm`]). So there is one history, of which each list that any node ever
 //!   published is a beginning; no two nodes, at any two moments of any two sessions, have different
 //!   definitions under one sequence; and what the node at an index has published is a beginning of
@@ -25,7 +25,7 @@
 //!   and so is one run of new nodes in memory ([`runs_are_one_farm`]).
 //! - What is said to be left is what a durable tape leaves: inside an opening
 //!   ([`openings_read_alike`]), and however a process ends, by a kill or with the power
-//!   ([`disks_leave_this`]; within a step `durable_tapes_leave_this` of `wf_career`).
+//!   ([`disks_leave_this`]; within a step `durable_tapes_leave_this` of `wf_execution`).
 //! - An example: a node on a disk in memory that proposes a map, loses its power and is opened
 //!   again ([`run_twice`]).
 //!

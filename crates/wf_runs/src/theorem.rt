@@ -4,14 +4,14 @@ ghost use Rattle.wf_runs.specs.Theorems.{FolderIsOneFarm, SessionsAreOneFarm};
 ghost use Rattle.wf_runs.specs.CrashImages.{DiskLeavesBetween, DiskLeavesFailed, OpeningReadsAlike, ShorteningReadsAlike};
 ghost use Rattle.wf_runs.specs.ServedSteps.{NewRunIsOneFarm, RunsAreOneFarm, ServingIsSteps};
 
-use wf_career::{durable_tapes_leave_this, lists_grow, processes_agree, processes_answer_alike};
 use wf_delivery::a_step_is_answered;
 use wf_disk::{Disk, a_process_ends_in_an_image};
+use wf_execution::{durable_tapes_leave_this, lists_grow, processes_agree, processes_answer_alike};
 use wf_journal::records_are_read_one_way;
 use wf_tape::{DiskTape, Tape};
 
-/// Sessions on one folder are a farm of processes of `wf_career`, one for each node, whose lives go
-/// on from one session to the next.
+/// Sessions on one folder are a farm of processes of `wf_execution`, one for each node, whose lives
+/// go on from one session to the next.
 pub fn a_folder_is_one_farm<T: Tape>()
     ensures { FolderIsOneFarm T.Tape }
 {

@@ -18,7 +18,7 @@ after_both a b c first second = record {
 pub reads_none : (calls : List Call) → OnlyReads calls calls
 reads_none calls = record { after = after_none calls; unchanged = refl }
 
-pub reads_one : (call : Call) (earlier calls : List Call) → calls ≡ call ∷ earlier → is_change call.deed ≡ false → OnlyReads earlier calls
+pub reads_one : (call : Call) (earlier calls : List Call) → calls ≡ call ∷ earlier → is_change call.kind ≡ false → OnlyReads earlier calls
 reads_one call earlier calls is reads = record {
   after = after_one call earlier calls is;
   unchanged = ap changes is ∙ ap (λ (b : Bool). if b then call ∷ changes earlier else changes earlier) reads;

@@ -1,8 +1,8 @@
 -- What a file of a folder has, by the folder's calls.
 use Rattle.std.specs.Prelude.{◌≡◌, ◌⊎◌, ℕ, Bool, true, false, List, [], ◌∷◌, Option, None, Some, if◌then◌else◌}
 use Rattle.wf_store.specs.Call.{Call}
-use Rattle.wf_store.specs.declared.deed.Deed.{Deed}
-use Rattle.wf_store.specs.declared.deed.Deed.TheVariants as deeds
+use Rattle.wf_store.specs.declared.call_kind.CallKind.{CallKind}
+use Rattle.wf_store.specs.declared.call_kind.CallKind.TheVariants as kinds
 use Rattle.wf_store.specs.declared.file_name.FileName.{FileName}
 use Rattle.wf_store.specs.declared.file_name.FileName.TheVariants as names
 
@@ -32,14 +32,14 @@ is_tape (names.NodeTape node) = true
 is_tape names.ReplicaTape = true
 
 -- what was read of such a file last, or what it got by a call that succeeded
-abbrev pub text_by : (FileName → Bool) → Deed → (bytes earlier : Option (List ℕ)) → Option (List ℕ)
-text_by is (deeds.Reads file) bytes earlier = if is file then bytes else earlier
-text_by is (deeds.Replaces file) bytes earlier = if is file then bytes else earlier
-text_by is deed bytes earlier = earlier
+abbrev pub text_by : (FileName → Bool) → CallKind → (bytes earlier : Option (List ℕ)) → Option (List ℕ)
+text_by is (kinds.Reads file) bytes earlier = if is file then bytes else earlier
+text_by is (kinds.Replaces file) bytes earlier = if is file then bytes else earlier
+text_by is kind bytes earlier = earlier
 
 abbrev pub text_in : (FileName → Bool) → List Call → Option (List ℕ)
 text_in is [] = None
-text_in is (call ∷ earlier) = text_by is call.deed call.bytes (text_in is earlier)
+text_in is (call ∷ earlier) = text_by is call.kind call.bytes (text_in is earlier)
 
 -- ---- what becomes of it
 

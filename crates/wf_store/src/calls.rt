@@ -2,14 +2,14 @@
 ghost use Rattle.std.specs.Prelude.{◌≡◌, [], ◌∷◌, false};
 ghost use Rattle.wf_store.specs.Call.{IsAfter, OnlyReads, bytes_of, is_change};
 
-use crate::deed::Deed;
+use crate::call_kind::CallKind;
 use std::marker::Model;
 use wf_past::Past;
 
 /// The calls so far, the latest first. Only proofs read them, and they take no memory.
 #[derive(Drop)]
 pub struct Calls {
-    notes: Past<Option<Vec<u8>>, Deed>,
+    notes: Past<Option<Vec<u8>>, CallKind>,
 }
 
 impl Model for Calls {
@@ -30,13 +30,13 @@ impl Calls {
     }
 
     /// One more call, with the bytes that it read, wrote or was to write.
-    pub fn and(&self, deed: Deed, bytes: &Option<Vec<u8>>) -> Calls
-        ensures all { result ≡ record { deed = deed; bytes = bytes_of bytes.now } ∷ self.now }
+    pub fn and(&self, kind: CallKind, bytes: &Option<Vec<u8>>) -> Calls
+        ensures all { result ≡ record { kind = kind; bytes = bytes_of bytes.now } ∷ self.now }
         ensures after { IsAfter self.now result }
-        ensures reads { is_change deed ≡ false → OnlyReads self.now result }
+        ensures reads { is_change kind ≡ false → OnlyReads self.now result }
     {
         Calls {
-            notes: self.notes.and(bytes, &deed),
+            notes: self.notes.and(bytes, &kind),
         }
     }
 }

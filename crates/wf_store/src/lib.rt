@@ -26,8 +26,8 @@
 #![tactic(auto)]
 
 mod at_path;
+mod call_kind;
 mod calls;
-mod deed;
 mod fault;
 mod file_name;
 mod memory;
@@ -41,8 +41,8 @@ mod system_file;
 mod system_folder;
 
 pub use at_path::{ProbeFault, file_length, is_folder, probe_file, read_file};
+pub use call_kind::CallKind;
 pub use calls::Calls;
-pub use deed::Deed;
 pub use fault::FolderFault;
 pub use file_name::{FileName, path_in};
 pub use memory::MemoryStore;

@@ -3,8 +3,8 @@ ghost use Rattle.std.specs.Prelude.{◌≡◌, [], ◌∷◌, None, false, IfErr
 ghost use Rattle.wf_store.specs.Call.{IsAfter, OnlyReads, is_change};
 ghost use Rattle.wf_store.specs.Fault.{IsWhyUnopened, IsWhyUnread, IsWhyUnwritten};
 
+use crate::call_kind::CallKind;
 use crate::calls::Calls;
-use crate::deed::Deed;
 use crate::fault::FolderFault;
 use crate::file_name::FileName;
 use crate::memory_folder::MemoryFolder;
@@ -51,12 +51,12 @@ impl<'a> MemoryStore<'a> {
     }
 
     /// Notes a call that read or wrote no bytes.
-    fn note(&mut self, deed: Deed)
-        ensures all { self.new.calls ≡ record { deed = deed; bytes = None } ∷ self.old.calls }
+    fn note(&mut self, kind: CallKind)
+        ensures all { self.new.calls ≡ record { kind = kind; bytes = None } ∷ self.old.calls }
         ensures after { IsAfter self.old.calls self.new.calls }
-        ensures reads { is_change deed ≡ false → OnlyReads self.old.calls self.new.calls }
+        ensures reads { is_change kind ≡ false → OnlyReads self.old.calls self.new.calls }
     {
-        self.calls = self.calls.and(deed, &None);
+        self.calls = self.calls.and(kind, &None);
     }
 }
 
@@ -153,47 +153,47 @@ impl<'a> Store for MemoryStore<'a> {
     ghost calls = { λ store. store.calls };
 
     fn make(&mut self) -> Result<(), FolderFault> {
-        self.note(Deed::Makes);
+        self.note(CallKind::Makes);
         Ok(())
     }
 
     fn lock(&mut self) -> Result<(), FolderFault> {
         if self.folder.try_lock() {
             self.holds = true;
-            self.note(Deed::Locks);
+            self.note(CallKind::Locks);
             Ok(())
         } else {
-            self.note(Deed::Fails);
+            self.note(CallKind::Fails);
             Err(FolderFault::Held)
         }
     }
 
     fn is_same(&mut self) -> Result<bool, FolderFault> {
         let same = self.holds;
-        self.note(Deed::Compares(same));
+        self.note(CallKind::Compares(same));
         Ok(same)
     }
 
     fn count_names(&mut self) -> Result<usize, FolderFault> {
         let count = self.folder.count_names();
-        self.note(Deed::Counts(count));
+        self.note(CallKind::Counts(count));
         Ok(count)
     }
 
     fn draw(&mut self) -> Result<[u8; 16], FolderFault> {
         let bits = self.folder.bits();
-        self.note(Deed::Draws(bits));
+        self.note(CallKind::Draws(bits));
         Ok(bits)
     }
 
     fn presence(&mut self, file: FileName) -> Result<Presence, FolderFault> {
         match presence_in(self.folder, file) {
             Ok(there) => {
-                self.note(Deed::Sees(file, there));
+                self.note(CallKind::Sees(file, there));
                 Ok(there)
             }
             Err(fault) => {
-                self.note(Deed::Fails);
+                self.note(CallKind::Fails);
                 Err(fault)
             }
         }
@@ -201,18 +201,18 @@ impl<'a> Store for MemoryStore<'a> {
 
     fn length(&mut self, file: FileName) -> Option<u64> {
         let length = length_in(self.folder, file);
-        self.note(Deed::Measures(file, length));
+        self.note(CallKind::Measures(file, length));
         length
     }
 
     fn read(&mut self, file: FileName, limit: usize) -> Result<Option<Vec<u8>>, FolderFault> {
         match read_in(self.folder, file, limit) {
             Ok(found) => {
-                self.calls = self.calls.and(Deed::Reads(file), &found);
+                self.calls = self.calls.and(CallKind::Reads(file), &found);
                 Ok(found)
             }
             Err(fault) => {
-                self.note(Deed::Fails);
+                self.note(CallKind::Fails);
                 Err(fault)
             }
         }
@@ -221,11 +221,11 @@ impl<'a> Store for MemoryStore<'a> {
     fn open(&mut self, file: FileName) -> Result<DiskTape<SharedDisk<'a>>, FolderFault> {
         match open_in(self.folder, file) {
             Ok(tape) => {
-                self.note(Deed::Opens(file));
+                self.note(CallKind::Opens(file));
                 Ok(tape)
             }
             Err(fault) => {
-                self.note(Deed::FailsAt(file));
+                self.note(CallKind::FailsAt(file));
                 Err(fault)
             }
         }
@@ -234,11 +234,11 @@ impl<'a> Store for MemoryStore<'a> {
     fn open_existing(&mut self, file: FileName) -> Result<DiskTape<SharedDisk<'a>>, FolderFault> {
         match open_existing_in(self.folder, file) {
             Ok(tape) => {
-                self.note(Deed::OpensExisting(file));
+                self.note(CallKind::OpensExisting(file));
                 Ok(tape)
             }
             Err(fault) => {
-                self.note(Deed::Fails);
+                self.note(CallKind::Fails);
                 Err(fault)
             }
         }
@@ -246,12 +246,12 @@ impl<'a> Store for MemoryStore<'a> {
 
     fn replace(&mut self, file: FileName, bytes: Vec<u8>) -> Result<(), FolderFault> {
         let replaced = replace_in(self.folder, file, &bytes);
-        let deed = match replaced {
-            Ok(()) => Deed::Replaces(file),
-            Err(_) => Deed::FailsAt(file),
+        let kind = match replaced {
+            Ok(()) => CallKind::Replaces(file),
+            Err(_) => CallKind::FailsAt(file),
         };
         let given = Some(bytes);
-        self.calls = self.calls.and(deed, &given);
+        self.calls = self.calls.and(kind, &given);
         drop(given);
         replaced
     }

@@ -2,8 +2,8 @@
 ghost use Rattle.std.specs.Prelude.{◌≡◌, [], ◌∷◌, None, false};
 ghost use Rattle.wf_store.specs.Call.{IsAfter, OnlyReads, is_change};
 
+use crate::call_kind::CallKind;
 use crate::calls::Calls;
-use crate::deed::Deed;
 use crate::fault::FolderFault;
 use crate::file_name::FileName;
 use crate::store::Store;
@@ -38,12 +38,12 @@ impl<'a, 'p, R: Files<File = File> + AllocGlobal> SystemStore<'a, 'p, R> {
     }
 
     /// Notes a call that read or wrote no bytes.
-    fn note(&mut self, deed: Deed)
-        ensures all { self.new.calls ≡ record { deed = deed; bytes = None } ∷ self.old.calls }
+    fn note(&mut self, kind: CallKind)
+        ensures all { self.new.calls ≡ record { kind = kind; bytes = None } ∷ self.old.calls }
         ensures after { IsAfter self.old.calls self.new.calls }
-        ensures reads { is_change deed ≡ false → OnlyReads self.old.calls self.new.calls }
+        ensures reads { is_change kind ≡ false → OnlyReads self.old.calls self.new.calls }
     {
-        self.calls = self.calls.and(deed, &None);
+        self.calls = self.calls.and(kind, &None);
     }
 }
 
@@ -55,11 +55,11 @@ impl<'a, 'p, R: Files<File = File> + AllocGlobal> Store for SystemStore<'a, 'p, 
     fn make(&mut self) -> Result<(), FolderFault> {
         match make_folder(self.rt, self.folder) {
             Ok(()) => {
-                self.note(Deed::Makes);
+                self.note(CallKind::Makes);
                 Ok(())
             }
             Err(fault) => {
-                self.note(Deed::Fails);
+                self.note(CallKind::Fails);
                 Err(fault)
             }
         }
@@ -69,11 +69,11 @@ impl<'a, 'p, R: Files<File = File> + AllocGlobal> Store for SystemStore<'a, 'p, 
         match lock_folder(self.rt, self.folder) {
             Ok(held) => {
                 self.held = Some(held);
-                self.note(Deed::Locks);
+                self.note(CallKind::Locks);
                 Ok(())
             }
             Err(fault) => {
-                self.note(Deed::Fails);
+                self.note(CallKind::Fails);
                 Err(fault)
             }
         }
@@ -82,11 +82,11 @@ impl<'a, 'p, R: Files<File = File> + AllocGlobal> Store for SystemStore<'a, 'p, 
     fn is_same(&mut self) -> Result<bool, FolderFault> {
         match is_at(self.rt, self.folder, &self.held) {
             Ok(same) => {
-                self.note(Deed::Compares(same));
+                self.note(CallKind::Compares(same));
                 Ok(same)
             }
             Err(fault) => {
-                self.note(Deed::Fails);
+                self.note(CallKind::Fails);
                 Err(fault)
             }
         }
@@ -95,11 +95,11 @@ impl<'a, 'p, R: Files<File = File> + AllocGlobal> Store for SystemStore<'a, 'p, 
     fn count_names(&mut self) -> Result<usize, FolderFault> {
         match count_names(self.rt, self.folder) {
             Ok(count) => {
-                self.note(Deed::Counts(count));
+                self.note(CallKind::Counts(count));
                 Ok(count)
             }
             Err(fault) => {
-                self.note(Deed::Fails);
+                self.note(CallKind::Fails);
                 Err(fault)
             }
         }
@@ -108,11 +108,11 @@ impl<'a, 'p, R: Files<File = File> + AllocGlobal> Store for SystemStore<'a, 'p, 
     fn draw(&mut self) -> Result<[u8; 16], FolderFault> {
         match draw_bits(self.rt) {
             Ok(bits) => {
-                self.note(Deed::Draws(bits));
+                self.note(CallKind::Draws(bits));
                 Ok(bits)
             }
             Err(fault) => {
-                self.note(Deed::Fails);
+                self.note(CallKind::Fails);
                 Err(fault)
             }
         }
@@ -121,11 +121,11 @@ impl<'a, 'p, R: Files<File = File> + AllocGlobal> Store for SystemStore<'a, 'p, 
     fn presence(&mut self, file: FileName) -> Result<Presence, FolderFault> {
         match presence_in(self.rt, self.folder, file) {
             Ok(there) => {
-                self.note(Deed::Sees(file, there));
+                self.note(CallKind::Sees(file, there));
                 Ok(there)
             }
             Err(fault) => {
-                self.note(Deed::Fails);
+                self.note(CallKind::Fails);
                 Err(fault)
             }
         }
@@ -133,18 +133,18 @@ impl<'a, 'p, R: Files<File = File> + AllocGlobal> Store for SystemStore<'a, 'p, 
 
     fn length(&mut self, file: FileName) -> Option<u64> {
         let length = length_in(self.rt, self.folder, file);
-        self.note(Deed::Measures(file, length));
+        self.note(CallKind::Measures(file, length));
         length
     }
 
     fn read(&mut self, file: FileName, limit: usize) -> Result<Option<Vec<u8>>, FolderFault> {
         match read_in(self.rt, self.folder, file, limit) {
             Ok(found) => {
-                self.calls = self.calls.and(Deed::Reads(file), &found);
+                self.calls = self.calls.and(CallKind::Reads(file), &found);
                 Ok(found)
             }
             Err(fault) => {
-                self.note(Deed::Fails);
+                self.note(CallKind::Fails);
                 Err(fault)
             }
         }
@@ -153,11 +153,11 @@ impl<'a, 'p, R: Files<File = File> + AllocGlobal> Store for SystemStore<'a, 'p, 
     fn open(&mut self, file: FileName) -> Result<FileTape<&'a R>, FolderFault> {
         match open_in(self.rt, self.folder, file) {
             Ok(tape) => {
-                self.note(Deed::Opens(file));
+                self.note(CallKind::Opens(file));
                 Ok(tape)
             }
             Err(fault) => {
-                self.note(Deed::FailsAt(file));
+                self.note(CallKind::FailsAt(file));
                 Err(fault)
             }
         }
@@ -166,11 +166,11 @@ impl<'a, 'p, R: Files<File = File> + AllocGlobal> Store for SystemStore<'a, 'p, 
     fn open_existing(&mut self, file: FileName) -> Result<FileTape<&'a R>, FolderFault> {
         match open_existing_in(self.rt, self.folder, file) {
             Ok(tape) => {
-                self.note(Deed::OpensExisting(file));
+                self.note(CallKind::OpensExisting(file));
                 Ok(tape)
             }
             Err(fault) => {
-                self.note(Deed::Fails);
+                self.note(CallKind::Fails);
                 Err(fault)
             }
         }
@@ -178,12 +178,12 @@ impl<'a, 'p, R: Files<File = File> + AllocGlobal> Store for SystemStore<'a, 'p, 
 
     fn replace(&mut self, file: FileName, bytes: Vec<u8>) -> Result<(), FolderFault> {
         let replaced = replace_in(self.rt, self.folder, file, &bytes);
-        let deed = match replaced {
-            Ok(()) => Deed::Replaces(file),
-            Err(_) => Deed::FailsAt(file),
+        let kind = match replaced {
+            Ok(()) => CallKind::Replaces(file),
+            Err(_) => CallKind::FailsAt(file),
         };
         let given = Some(bytes);
-        self.calls = self.calls.and(deed, &given);
+        self.calls = self.calls.and(kind, &given);
         drop(given);
         replaced
     }

@@ -129,7 +129,7 @@ impl<'a> Replica<'a> {
         if let Some(process) = &mut self.process {
             machine.set_millis(clock);
             self.host.begin(time);
-            let turn = process.turn(machine, &Log::new(machine, true), ready, clock);
+            let turn = process.run_once(machine, &Log::new(machine, true), ready, clock);
             let over = self.host.end(time);
             machine.set_millis(time);
             let patience = process.patience(self.host.clock(over)).max(1);

@@ -196,7 +196,7 @@ impl<N: Network> Visitors<N> {
         }
         let client = Client::new(context.alloc(), context.time);
         self.put(index, connection, client);
-        self.turn(context, index);
+        self.on_ready(context, index);
     }
 
     /// The token of the connection in a slot.
@@ -228,14 +228,14 @@ impl<N: Network> Visitors<N> {
     }
 
     /// What came for the client in a slot, or was taken by it.
-    pub fn turn<R: AllocGlobal>(&mut self, context: &Context<'_, '_, R, N>, index: usize)
+    pub fn on_ready<R: AllocGlobal>(&mut self, context: &Context<'_, '_, R, N>, index: usize)
         ensures { responses_of self.new ≡ responses_of self.old }
     {
         let Some((mut connection, mut client)) = self.take(index) else {
             return;
         };
         let token = self.token(index);
-        match go_on(
+        match proceed(
             context,
             &mut connection,
             &mut client,
@@ -391,15 +391,15 @@ impl<N: Network> Visitors<N> {
             server.old (responses_of self.old) result server.new (responses_of self.new) }
     {
         let is_answered = self.answer(context, server, index);
-        self.turn(context, index);
+        self.on_ready(context, index);
         is_answered
     }
 }
 
 impl<N: Network> Visitors<N> {
     /// Lets a server answer the request in a slot, if it is whole; the next
-    /// [`turn`](Visitors::turn) of the client writes what it takes of the response. Returns whether
-    /// a response was given.
+    /// [`on_ready`](Visitors::on_ready) of the client writes what it takes of the response. Returns
+    /// whether a response was given.
     #[tactic(auto, using(crate::proofs::Answered::may_ask))]
     pub fn answer<R: Clock + Eprint + AllocGlobal, S: Server>(
         &mut self,
@@ -526,7 +526,7 @@ fn waits(client: &Client) -> bool {
 
 /// Lets the connection of a client go on in its phase.
 #[tactic(auto, using(crate::proofs::Answered::may_receive, crate::proofs::Answered::may_give, crate::proofs::Answered::may_drop))]
-fn go_on<R, N: Network>(
+fn proceed<R, N: Network>(
     context: &Context<'_, '_, R, N>,
     connection: &mut ClientConnection<N::Connection>,
     client: &mut Client,

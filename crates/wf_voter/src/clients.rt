@@ -76,10 +76,10 @@ impl<T: Tape + Drop, N: Network> Clients<T, N> {
     }
 
     /// What came for the client in a slot, or was taken by it.
-    pub fn turn<R: AllocGlobal>(&mut self, context: &Context<'_, '_, R, N>, index: usize)
+    pub fn on_ready<R: AllocGlobal>(&mut self, context: &Context<'_, '_, R, N>, index: usize)
         ensures { self.new.before.items ≡ self.old.before.items }
     {
-        self.visitors.turn(context, index);
+        self.visitors.on_ready(context, index);
     }
 
     /// Ends the phases whose time is over.

@@ -2,10 +2,10 @@
 use Rattle.wf_catch_up.proofs.Common.{FirstEndUp, HasMost, HaveAsked, KeepEntries, nodes_of}
 use Rattle.wf_catch_up.proofs.questions.ask_each.Given as goal
 
-abbrev pub invariant-loop-asker : goal.invariant-loop-asker
-invariant-loop-asker g l = record {
+abbrev pub invariant-loop-requester : goal.invariant-loop-requester
+invariant-loop-requester g l = record {
   asked : HaveAsked g.T.Tape l.fn.asked (nodes_of l.initial.hosts) l.lost (nodes_of l.hosts);
   most : HasMost (nodes_of l.hosts) l.fn.asked;
-  ends : FirstEndUp l.fn.asked l.asker l.lost (nodes_of l.hosts);
+  ends : FirstEndUp l.fn.asked l.requester l.lost (nodes_of l.hosts);
   entries : KeepEntries g.T.Tape l.initial.hosts l.hosts;
 }

@@ -6,9 +6,9 @@ use Rattle.wf_catch_up.proofs.questions.ask_while_behind.Given as goal
 abbrev pub invariant-loop-alloc : goal.invariant-loop-alloc
 invariant-loop-alloc g l = record {
   asked : HaveAsked g.T.Tape l.fn.asked (nodes_of l.initial.hosts) false (nodes_of l.hosts);
-  one : OneChanges l.fn.asked l.fn.asker (nodes_of l.initial.hosts) (nodes_of l.hosts);
+  one : OneChanges l.fn.asked l.fn.requester (nodes_of l.initial.hosts) (nodes_of l.hosts);
   entries : KeepEntries g.T.Tape l.initial.hosts l.hosts;
 }
 
 abbrev pub decreases-loop-alloc : goal.decreases-loop-alloc
-decreases-loop-alloc g l = lacks (nodes_of l.hosts) l.fn.asked l.fn.asker
+decreases-loop-alloc g l = lacks (nodes_of l.hosts) l.fn.asked l.fn.requester

@@ -11,7 +11,7 @@ use Rattle.wf_rejoin.specs.Replacements.{known_count}
 pub returns-clause-progress : goal.returns-clause-progress
 returns-clause-progress g c =
     IfSome_then c.greeting.result c.greeting.ensures.progress
-    (λ said same. subst (λ (p : Progress). IsGreetedWith c.args.mesh.now.plan.start c.args.voter.now.process.actor.node p) (sym same) c.progress-now.ensures)
+    (λ said same. subst (λ (p : Progress). IsGreetedWith c.args.peers.now.plan.start c.args.voter.now.process.actor.node p) (sym same) c.progress-now.ensures)
 
 pub returns-clause-voted : goal.returns-clause-voted
 returns-clause-voted g c =

@@ -2,7 +2,7 @@ use Rattle.std.proofs.Common.{[], ◌∷◌, ◌++◌, ap, refl, ◌∙◌}
 use Rattle.std.proofs.Math.Logic.{∥∥₁_elim, ∥∥₁_map, ∥∥₁_map₂, ∥∥₁_prop}
 use Rattle.wf_node.specs.Node.{Node}
 use Rattle.wf_wire.specs.Post.{logged}
-use Rattle.wf_career.specs.Run.{given_to}
+use Rattle.wf_execution.specs.Run.{given_to}
 use Rattle.wf_actor.proofs.Lives.{life_steps_now}
 use Rattle.wf_actor.proofs.Receipt.{given_on}
 use Rattle.wf_actor.proofs.actor.Actor.step.Goals as goal

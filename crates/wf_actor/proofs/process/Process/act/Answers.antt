@@ -1,7 +1,7 @@
 -- A step, whose messages wait for whom they are for; or an error, by which nothing is posted.
 use Rattle.std.proofs.Common.{◌≡◌, ◌<◌, ℕ, [], Ok, Err, refl, sym, subst, ◌∙◌}
 use Rattle.std.proofs.Math.Logic.{∥∥₁_map, ∥∥₁_map₂}
-use Rattle.wf_career.specs.Run.{given_to}
+use Rattle.wf_execution.specs.Run.{given_to}
 use Rattle.wf_wire.specs.Post.{logged}
 use Rattle.wf_actor.proofs.Receipt.{given_on}
 use Rattle.wf_actor.proofs.Lives.{keeps_numbers}

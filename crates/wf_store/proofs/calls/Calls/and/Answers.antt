@@ -7,8 +7,8 @@ use Rattle.wf_store.proofs.calls.Calls.and.Goals as goal
 
 pub returns-clause-after : goal.returns-clause-after
 returns-clause-after c = subst (λ (calls : List Call). IsAfter calls (the_view (record { notes = c.and.result }))) c.self.view_is
-    (noted_after c.self.inside.notes.items c.and.result.items c.args.bytes.now c.args.deed c.and.ensures)
+    (noted_after c.self.inside.notes.items c.and.result.items c.args.bytes.now c.args.kind c.and.ensures)
 
 pub returns-clause-reads : goal.returns-clause-reads
 returns-clause-reads c = λ reads. subst (λ (calls : List Call). OnlyReads calls (the_view (record { notes = c.and.result }))) c.self.view_is
-    (noted_reads c.self.inside.notes.items c.and.result.items c.args.bytes.now c.args.deed c.and.ensures reads)
+    (noted_reads c.self.inside.notes.items c.and.result.items c.args.bytes.now c.args.kind c.and.ensures reads)

@@ -1,5 +1,0 @@
-use Rattle.wf_career.proofs.CrashImages.{comparison_leaves}
-use Rattle.wf_career.proofs.theorem.a_compared_node_goes_on.Goals as goal
-
-pub returns : goal.returns
-returns g c = comparison_leaves g.T.Tape

@@ -1,8 +1,0 @@
-pub mod Run
-pub mod RunTheorems
-pub mod Career
-pub mod Theorems
-pub mod Replica
-pub mod Continuation
-pub mod CrashImages
-pub mod Processes

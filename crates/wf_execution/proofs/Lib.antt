@@ -1,0 +1,11 @@
+mod Lists
+mod Lives
+mod Executions
+mod Farms
+mod OneAnswer
+mod Replicas
+mod Continuation
+mod CrashImages
+mod Start
+mod NodeActs
+mod Started

@@ -1,0 +1,11 @@
+-- Which sockets are of peers.
+use Rattle.std.specs.Prelude.{Bool, true, false}
+use Rattle.wf_peer_connections.specs.declared.socket.Socket.{Socket}
+use Rattle.wf_peer_connections.specs.declared.socket.Socket.TheVariants as sockets
+
+-- whether it is a listener for peers, or a connection to or from one
+abbrev pub is_of_peer : Socket → Bool
+is_of_peer sockets.Listen = true
+is_of_peer (sockets.Dial index) = true
+is_of_peer (sockets.Inbound index) = true
+is_of_peer socket = false
