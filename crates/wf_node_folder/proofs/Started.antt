@@ -11,7 +11,7 @@ use Rattle.wf_folder.specs.declared.node_file.NodeFile.{NodeFile}
 use Rattle.wf_folder.specs.declared.presence.Presence.{Presence}
 use Rattle.wf_line.specs.declared.node_line.NodeLine.{NodeLine}
 use Rattle.wf_node_folder.specs.Folder.{IsFarmFound}
-use Rattle.wf_node_folder.specs.FolderTheorems.{with_starts}
+use Rattle.wf_node_folder.specs.NodeFileTheorems.{with_starts}
 use Rattle.wf_node_folder.specs.ReplacementFiles.{AreFilesFound, AreNoted, IsJoinsIn, IsReplacedIn, IsReplacementCause}
 use Rattle.wf_store.specs.Texts.{is_joins, is_replaced, text_in}
 use Rattle.wf_node_folder.specs.Start.{IsFileAdmitted, IsFileCause, IsLookedAt, IsRejectedBy, IsStartAdmitted, IsWhyNotAdmitted, node_in}

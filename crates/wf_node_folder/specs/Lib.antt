@@ -2,7 +2,7 @@ pub mod Cleared
 pub mod Damage
 pub mod Fault
 pub mod Folder
-pub mod FolderTheorems
+pub mod NodeFileTheorems
 pub mod From
 pub mod Held
 pub mod Joined

@@ -4,7 +4,7 @@ ghost use Rattle.std.specs.Prelude.{◌≡◌, ◌+◌, IfSome, None, OnOk, true
 ghost use Rattle.wf_folder.specs.NodeFile.{IsNodeFile};
 ghost use Rattle.wf_folder.specs.Reach.{IsReachNoLess};
 ghost use Rattle.wf_node_folder.specs.Folder.{AreFiles, StaysFrom, calls_in, heard_in, is_own};
-ghost use Rattle.wf_node_folder.specs.FolderTheorems.{are_files_prop};
+ghost use Rattle.wf_node_folder.specs.NodeFileTheorems.{are_files_prop};
 ghost use Rattle.wf_voter.specs.Folder.{HasFarmText};
 
 use crate::running::{RunningStore, not_reopened};
@@ -272,7 +272,7 @@ fn says(file: &NodeFile, reach: &Reach) -> bool
 }
 
 /// A file that counts so many starts.
-#[tactic(auto, using(crate::specs::FolderTheorems::with_starts))]
+#[tactic(auto, using(crate::specs::NodeFileTheorems::with_starts))]
 fn with_starts(file: &NodeFile, starts: u32) -> NodeFile
     requires { IsNodeFile file.now }
     ensures file { IsNodeFile result }

@@ -16,9 +16,9 @@ pub(crate) fn whole_records_are_bad_nowhere()
 
 /// Wherever the power is cut between calls of a folder, or inside one, of which each that writes a
 /// file other than a tape writes one that is read back (`specs/Sound.antt`): each such file isn't
-/// there, or is there whole, and the next start reads it back. Those of `init` are such calls, and
-/// after such those of `clear`, of a start, whether it comes to serve or ends with an error, and of
-/// a node that is served. A theorem.
+/// there, or is there whole, and the next start reads it back (`specs/PowerCut.antt`). Those of
+/// `init` are such calls, and after such those of `clear`, of a start, whether it comes to serve or
+/// ends with an error, and of a node that is served. A theorem.
 #[tactic(auto, using(crate::proofs::PowerCut::files_are_whole, crate::proofs::PowerCut::cuts_are_read_back, crate::proofs::PowerCut::starts_are_sound))]
 pub fn cut_folders_are_read_back()
     ensures whole { FilesAreWhole }

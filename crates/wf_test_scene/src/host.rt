@@ -163,11 +163,13 @@ impl<'a> Host<'a> {
                 self.full_until = stroke.until;
                 return false;
             }
-            _ => {
+            Fault::Disk => {
                 self.folder.set_failure(stroke.call, stroke.kept);
                 self.will_fail = true;
                 return false;
             }
+            // those aren't of one process: the play makes them happen
+            Fault::Alone | Fault::OneWay | Fault::Stop | Fault::Strangers => return false,
         }
         true
     }
