@@ -22,6 +22,7 @@ from tiles import ask
 
 SIDE = 1_024
 MOST_CANONICAL = 65_300
+MAP = 'MAP NAME "dearest" EXTENT 0 0 9 9 PROJECTION "init=epsg:3857" END\n'
 COLOURS = [f"{30 * k} {255 - 30 * k} {k}" for k in range(8)]
 
 
@@ -34,8 +35,7 @@ def styles(words, count=8):
 
 
 def mapfile(kind, styling, features, more=""):
-    layer = f"LAYER NAME a TYPE {kind}\nCLASS\n{styling}{more}END\n{''.join(features)}END\n"
-    return f'MAP NAME "dearest" EXTENT 0 0 9 9 PROJECTION "init=epsg:3857" END\n{layer}END\n'
+    return f"{MAP}LAYER NAME a TYPE {kind}\nCLASS\n{styling}{more}END\n{''.join(features)}END\nEND\n"
 
 
 def feature(points, text=""):
@@ -64,8 +64,9 @@ def grouped(group):
     return f"POINTS {' '.join(f'{x} {y}' for x, y in ends)} END\n"
 
 
-def oblique(draw):
+def oblique(seed):
     """To and fro over the whole width, just flatter than 1 to 1, each end at one of 10 positions."""
+    draw = random.Random(seed)
     return lambda k: (9 * (k % 2), draw.randrange(10) / 10 + 8 * (k % 2))
 
 
@@ -80,7 +81,7 @@ def cases():
             (f"distinct edges with ends anywhere, {outlines}", falling, distinct),
             ("distinct edges with ends anywhere, one fill", styles("COLOR {color}", 1), distinct),
             (f"edges in nine groups with free columns between, {outlines}", falling, groups),
-            (f"oblique edges, {outlines}", falling, [feature(fitting(oblique(random.Random(3)), 6))]),
+            (f"oblique edges, {outlines}", falling, [feature(fitting(oblique(3), 6))]),
             (f"slanted edges, {outlines}", falling,
              [feature(fitting(lambda k: (9 * (k % 2), 7 * (k % 2)), 4))]),
             ("full-height edges, 8 fills and outlines of 16 pixels", styles(full), comb),
@@ -106,12 +107,10 @@ def cases():
 def quotes():
     """A map whose texts are nearly all quotes; its capabilities have its title twice, its address thrice."""
     quote = "'"
-    head = "".join(f'"{key}" "{quote * 1_000}"\n'
-                   for key in ("wms_title", "wms_abstract", "wms_onlineresource"))
+    head = "".join(f'"wms_{key}" "{quote * 1_000}"\n' for key in ("title", "abstract", "onlineresource"))
     layers = "".join(f'LAYER NAME "{quote * 435}{k}" TYPE POINT METADATA wms_title "{quote * 435}" END END\n'
                      for k in range(63))
-    return (f'MAP NAME "dearest" EXTENT 0 0 9 9 PROJECTION "init=epsg:3857" END\nWEB METADATA\n{head}END '
-            f'END\n' f"LAYER NAME a TYPE POINT END\n{layers}END\n")
+    return f"{MAP}WEB METADATA\n{head}END END\nLAYER NAME a TYPE POINT END\n{layers}END\n"
 
 
 def most_resident(process):

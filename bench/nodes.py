@@ -71,7 +71,7 @@ class Table:
         self.conclude(what, f"{value:.2f}{unit}", value <= most, f"at most {most:g}{unit}")
 
     def conclude(self, what, value, is_met, wanted):
-        print(f"  {what:<58} {value:<10} {'met' if is_met else 'MISSED'} (wanted: {wanted})", flush=True)
+        self.note(what, f"{value:<10} {'met' if is_met else 'MISSED'} (wanted: {wanted})")
         if not is_met:
             self.missed.append(what)
 
@@ -91,8 +91,8 @@ def connections(nodes):
     return connect(nodes[0].clients), [connect(node.clients) for node in nodes]
 
 
-def ask_all(nodes, clients):
-    for node, client in zip(nodes, clients):
+def ask_all(clients):
+    for client in clients:
         client.sendall(request("/status"))
     return [int(read_answer(client).body.split()[3]) for client in clients]
 
@@ -105,7 +105,7 @@ def publish(nodes, text, sequence, standing=None):
     if status != 202:
         sys.exit(f"publish: {status} {body!r}")
     while nodes:
-        told = ask_all(nodes, clients)
+        told = ask_all(clients)
         nodes = [node for node, last in zip(nodes, told) if last < sequence]
         clients = [connect(node.clients) for node in nodes]
 
@@ -130,11 +130,9 @@ def measure_publish(options, table):
           contextlib.closing(etcd.connect()) as leader):
         for sequence, text in enumerate(texts, 1):
             body = json.dumps({"key": key, "value": in_base64(text)})
-            standing = connections(nodes)
-            whole.append(milliseconds(publish, nodes, text, sequence, standing))
+            whole.append(milliseconds(publish, nodes, text, sequence, connections(nodes)))
             put.append(milliseconds(call, leader, "/v3/kv/put", body))
-            asking = [connect(node.clients) for node in nodes]
-            alone.append(milliseconds(ask_all, nodes, asking))
+            alone.append(milliseconds(ask_all, [connect(node.clients) for node in nodes]))
             got.append(milliseconds(call, leader, "/v3/kv/range", local))
     # (the first makes a leader)
     table.note("publish of 32 KB until three nodes tell it", tell(whole[1:]))
@@ -153,20 +151,19 @@ def measure_syncs(options, table):
     with farm(options, "syncs") as nodes:
         publish(nodes, texts[0], 1)
         time.sleep(2.5)
-        room = pathlib.Path(options.room)
-        tracing = ["strace", "-f", "-y", "-s", "1", "-e",
-                   "trace=write,fsync,fdatasync,sync_file_range,syncfs"]
-        traces = [subprocess.Popen([*tracing, "-o", str(room / f"syncs-{node.number}"), "-p",
-                                    str(node.process.pid)], stderr=subprocess.DEVNULL) for node in nodes]
+        calls = "trace=write,fsync,fdatasync,sync_file_range,syncfs"
+        files = [pathlib.Path(options.room) / f"syncs-{node.number}" for node in nodes]
+        traces = [subprocess.Popen(["strace", "-f", "-y", "-s", "1", "-e", calls, "-o", file, "-p",
+                                    str(node.process.pid)], stderr=subprocess.DEVNULL)
+                  for node, file in zip(nodes, files)]
         time.sleep(1)
         for sequence, text in enumerate(texts[1:], 2):
             publish(nodes, text, sequence)
         for trace in traces:
             trace.send_signal(signal.SIGINT)
             trace.wait()
-        counted = [syncs_in((room / f"syncs-{node.number}").read_text()) for node in nodes]
-    for node, syncs in zip(nodes, counted):
-        who = f"node {node.number}" + (", which leads" if node.number == 0 else "")
+    for number, syncs in enumerate(syncs_in(file.read_text()) for file in files):
+        who = f"node {number}" + (", which leads" if number == 0 else "")
         table.judge(f"syncs of votes and publications per publish, {who}", syncs["maps"] / count, 2.0)
         table.note("  of promises, one window in four sequences; of what it heard",
                    f"{syncs['promises'] / count:.2f}; {syncs['heard'] / count:.2f}")
@@ -190,8 +187,8 @@ def measure_tiles(options, table):
         return table.note("tiles", "left out: no wrk")
     it = Map(LARGE)
     target = "/wms?" + it.tile(2, 1, 1)
-    nodes = farm(options, "one", 1, logs=False), farm(options, "four", 4, logs=False)
-    with nodes[0] as (one,), nodes[1] as four, contextlib.ExitStack() as stack:
+    with (farm(options, "one", 1, logs=False) as (one,), farm(options, "four", 4, logs=False) as four,
+          contextlib.ExitStack() as stack):
         publish([one], it.text, 1)
         publish(four, it.text, 1)
         body = one.ask(target).body
@@ -215,42 +212,42 @@ def measure_rates(options, table, own, peers):
         for name, (address, path) in asked.items():
             got, _, wrong = rate(address, path, options.seconds, 32)
             rates[name].append(got)
-            errors.add(wrong)
-    ours, theirs, copied = (statistics.median(all_of) for all_of in rates.values())
+            errors |= {wrong} - {None}
+    ours, theirs, copied = map(statistics.median, rates.values())
     for name, all_of in rates.items():
         table.note(name, f"{statistics.median(all_of):,.0f} ({', '.join(f'{it:,.0f}' for it in all_of)})")
-    if errors - {None}:
-        table.note("wrk tells", "; ".join(sorted(errors - {None})))
+    if errors:
+        table.note("wrk tells", "; ".join(sorted(errors)))
     table.note("kept tiles / nginx without sendfile", f"{ours / copied:.2f}")
     table.conclude("kept tiles / nginx", f"{ours / theirs:.2f}", ours >= theirs, "at least 1")
 
 
 def measure_processors(options, table, one, four, target):
-    spent = {"one": [], "four": []}
-    for _ in range(options.rounds):
-        for name, nodes in (("one", [one]), ("four", four)):
-            before = sum(node.processor_seconds() for node in nodes)
-            with concurrent.futures.ThreadPoolExecutor(len(nodes)) as asking:
-                counts = asking.map(lambda node: rate(node.clients, target, options.seconds,
-                                                      32 // len(nodes))[1], nodes)
-                count = sum(counts)
-            spent[name].append(1000 * (sum(node.processor_seconds() for node in nodes) - before) / count)
-    ours, theirs = (statistics.median(spent[name]) for name in ("four", "one"))
+    def spent(nodes):
+        """The processor seconds of these nodes for 1,000 tiles."""
+        before = sum(node.processor_seconds() for node in nodes)
+        with concurrent.futures.ThreadPoolExecutor(len(nodes)) as asking:
+            count = sum(asking.map(lambda node: rate(node.clients, target, options.seconds,
+                                                     32 // len(nodes))[1], nodes))
+        return 1000 * (sum(node.processor_seconds() for node in nodes) - before) / count
+
+    turns = [(spent([one]), spent(four)) for _ in range(options.rounds)]
+    theirs, ours = map(statistics.median, zip(*turns))
     table.note("processor seconds per 1,000 tiles, one process", f"{theirs:.3f}")
     table.note("four processes, all together", f"{ours:.3f}")
     table.judge("four processes / one", ours / theirs, 1.1)
 
 
 def measure_idle(options, table):
-    with farm(options, "idle", 3) as nodes:
+    with farm(options, "idle") as (node, *_):
         alone, beside = [], []
         for _ in range(2 * options.rounds):
-            alone += [milliseconds(nodes[0].ask, "/status") for _ in range(200)]
+            alone += [milliseconds(node.ask, "/status") for _ in range(200)]
             with contextlib.ExitStack() as idle:
                 for _ in range(200):
-                    idle.enter_context(connect(nodes[0].clients))
+                    idle.enter_context(connect(node.clients))
                 time.sleep(0.2)
-                beside += [milliseconds(nodes[0].ask, "/status") for _ in range(200)]
+                beside += [milliseconds(node.ask, "/status") for _ in range(200)]
             time.sleep(0.2)
     table.note("an answer of /status, alone", tell(alone))
     table.note("with 200 connections that send nothing", tell(beside))
@@ -281,8 +278,8 @@ def measure_missed(options, table):
     table.judge(f"1,000 missed maps of {size:,} bytes, from the node's start", took, 3, " s")
 
 
-PARTS = {"publish": measure_publish, "syncs": measure_syncs, "tiles": measure_tiles, "idle": measure_idle,
-         "rest": measure_rest, "missed": measure_missed}
+PARTS = {it.__name__.removeprefix("measure_"): it for it in (
+    measure_publish, measure_syncs, measure_tiles, measure_idle, measure_rest, measure_missed)}
 
 
 def main():

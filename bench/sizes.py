@@ -46,8 +46,7 @@ NODES = 5
 # a proposal that each node hears: Prepare, a Promise of each, Accept, an Accepted of each, Chosen; the next
 # three of the same node need no promises
 MESSAGES, LED = 2 * NODES + 3, NODES + 2
-SCRIPT = [f"nodes {NODES}", "map a", 'MAP NAME "a" EXTENT 0 0 4 4 PROJECTION "init=epsg:4326" END END',
-          "endmap"]
+MAP = 'MAP NAME "a" EXTENT 0 0 4 4 PROJECTION "init=epsg:4326" END END'
 PROMISES = 8
 MESSAGES_SENT = 1_024
 QUERY = ("VERSION=1.3.0&REQUEST=GetMap&LAYERS=a&STYLES=&CRS=EPSG:3857&BBOX=0,0,100,100&WIDTH={}&HEIGHT={}"
@@ -79,11 +78,9 @@ def cost_of(whole, least=None):
     return costs
 
 
-def canon(options):
+def canon(options, size):
     words = [options.program, "canon"]
-    least = words, mapfile(len(HEAD) + len(TAIL))
-    return [(f"{size} bytes", partial(cost_of, (words, mapfile(size)), least))
-            for size in (LONGEST // 4, LONGEST // 2, LONGEST)]
+    return cost_of((words, mapfile(size)), (words, mapfile(len(HEAD) + len(TAIL))))
 
 
 def map_of(kind, styling, features):
@@ -104,51 +101,39 @@ def squares(count):
     return [f"FEATURE POINTS {x} {y} {x + 4} {y} {x + 4} {y + 4} {x} {y + 4} END END\n" for x, y in places]
 
 
-def features(options):
-    return [(f"{count} squares", partial(draw, options, "POLYGON", STYLE, squares(count)))
-            for count in (100, 200, 400)]
+def features(options, count):
+    return draw(options, "POLYGON", STYLE, squares(count))
 
 
-def labels(options):
-    def names(count):
-        return [f'FEATURE TEXT "N{k:03}" POINTS {k % 10 * 10 + 5} {k // 4 + 0.25} END END\n'
-                for k in range(count)]
-
-    return [(f"{count} labels", partial(draw, options, "POINT", "LABEL SIZE TINY END", names(count)))
-            for count in (100, 200, 400)]
+def labels(options, count):
+    places = [f"{k % 10 * 10 + 5} {k // 4 + 0.25}" for k in range(count)]
+    names = [f'FEATURE TEXT "N{k:03}" POINTS {place} END END\n' for k, place in enumerate(places)]
+    return draw(options, "POINT", "LABEL SIZE TINY END", names)
 
 
-def pixels(options):
-    return [(f"{width} by {height}", partial(draw, options, "POLYGON", STYLE, squares(100), width, height))
-            for width, height in ((500, 250), (500, 500), (1000, 500))]
+def pixels(options, width, height):
+    return draw(options, "POLYGON", STYLE, squares(100), width, height)
 
 
-def memory(options):
+def memory(options, height):
     if missing := lacks("valgrind"):
         sys.exit(tell_missing(missing))
     names = [f'FEATURE TEXT "{k % 100}" POINTS {k % 50 * 2 + 0.5} {k // 50 * 2.5 + 0.5} END END\n'
              for k in range(2_000)]
     text = map_of("POINT", "LABEL SIZE TINY END", names)
-
-    def peak(height):
-        held = most_held([options.program, "draw", QUERY.format(1_024, height)], text)
-        return [(held / 1e6, "million bytes")]
-
-    return [(f"1024 by {height}", partial(peak, height)) for height in (256, 512, 1_024)]
+    return [(most_held([options.program, "draw", QUERY.format(1_024, height)], text) / 1e6, "million bytes")]
 
 
-def script(options):
-    def of(lines, deliveries):
-        rounds, more = 0, deliveries
-        while more >= (needed := NODES * (LED if rounds % 4 else MESSAGES)):
-            rounds, more = rounds + 1, more - needed
-        text = SCRIPT + ["propose 0 a", "pump", "published", "sent"] * rounds
-        text += ["deliver 0" + f" {MESSAGES - 1}" * more] if more else []
-        text += ["# nothing happens here"] * (lines - 1 - len(text)) + ["published", ""]
-        written = b"published" + b" %d" % rounds * NODES + b"\n"
-        return [options.program, "run"], "\n".join(text).encode(), written
-
-    return [(f"{lines} lines", partial(cost_of, of(lines, 10 * lines))) for lines in (2_500, 5_000, 10_000)]
+def script(options, lines):
+    """What a script of so many lines costs, with ten deliveries for each."""
+    rounds, more = 0, 10 * lines
+    while more >= (needed := NODES * (LED if rounds % 4 else MESSAGES)):
+        rounds, more = rounds + 1, more - needed
+    text = [f"nodes {NODES}", "map a", MAP, "endmap"] + ["propose 0 a", "pump", "published", "sent"] * rounds
+    text += ["deliver 0" + f" {MESSAGES - 1}" * more] if more else []
+    text += ["# nothing happens here"] * (lines - 1 - len(text)) + ["published", ""]
+    written = b"published" + b" %d" % rounds * NODES + b"\n"
+    return cost_of(([options.program, "run"], "\n".join(text).encode(), written))
 
 
 class Tape:
@@ -179,7 +164,7 @@ class Tape:
         return "\n".join(case).encode(), ENDING
 
 
-def tape_cost(options, maps, held):
+def tape(options, maps, held=0):
     """What opening a node on a tape takes."""
     its, words = Tape(maps, held), [options.cases_program]
     unread = its.asked(["<. \\x00", *its.lines], f"P2: a bad record at 0, {1 + its.length} bytes")
@@ -187,31 +172,23 @@ def tape_cost(options, maps, held):
     return cost_of((words, *whole), (words, *unread))
 
 
-def tape(options):
-    return [(f"{maps} maps", partial(tape_cost, options, maps, 0)) for maps in (1024, 2048, 4096)]
-
-
-def held(options):
-    return [(f"{maps} maps", partial(tape_cost, options, maps, maps)) for maps in (512, 1024, 2048)]
+def held(options, maps):
+    return tape(options, maps, maps)
 
 
 def table_of_votes(votes, messages):
-    """The table that gives an acceptor so many votes, and then messages of a kind, with a wrong answer, so
-    that each is told."""
+    """The table that gives an acceptor votes, and then messages with a wrong answer, so that each is told."""
     lines = ["case votes", "ask acceptor 1", "<& the maps a and b",
              *(f"< accept {slot} 1 0 a" for slot in range(1, votes + 1)), *messages, "> none"]
     return "\n\n".join([*blocks("text (a|b|the maps a and b)"), "\n".join(lines)]).encode() + b"\n"
 
 
-def messages(form, options):
+def messages(form, options, votes):
     """What messages cost an acceptor that has votes, one at each of so many sequences."""
-    def cost(votes):
-        words, places = [options.cases_program], [1 + it * 2477 % votes for it in range(MESSAGES_SENT)]
-        some = [f"< {form.format(spread=at, next=it + 1, round=it + 2)}" for it, at in enumerate(places)]
-        return cost_of((words, table_of_votes(votes, some), UNEXPECTED),
-                       (words, table_of_votes(votes, []), UNEXPECTED))
-
-    return [(f"{votes} votes", partial(cost, votes)) for votes in (1024, 2048, 4096)]
+    places = [1 + it * 2477 % votes for it in range(MESSAGES_SENT)]
+    some = [f"< {form.format(spread=at, next=it + 1, round=it + 2)}" for it, at in enumerate(places)]
+    whole, least = (([options.cases_program], table_of_votes(votes, sent), UNEXPECTED) for sent in (some, []))
+    return cost_of(whole, least)
 
 
 def started(program, tape):
@@ -228,31 +205,40 @@ def started(program, tape):
         return took
 
 
-def start(options):
-    def cost(maps):
-        with tempfile.NamedTemporaryFile() as file:
-            tape_of(options.program, pathlib.Path(file.name), maps)
-            whole = pathlib.Path(file.name).read_bytes()
-        spent = min(started(options.program, whole) - started(options.program, b"") for _ in range(RUNS))
-        return [(spent, "ms")]
-
-    return [(f"{maps} maps", partial(cost, maps)) for maps in (1024, 2048, 4096)]
+def start(options, maps):
+    with tempfile.NamedTemporaryFile() as file:
+        tape_of(options.program, pathlib.Path(file.name), maps)
+        whole = pathlib.Path(file.name).read_bytes()
+    spent = min(started(options.program, whole) - started(options.program, b"") for _ in range(RUNS))
+    return [(spent, "ms")]
 
 
-CASES = {each.__name__: each for each in (canon, features, labels, pixels, script, tape, held, start)} | {
-    name: partial(messages, form) for name, form in (("promise", "prepare {spread} {round} 0"),
-                                                     ("accept", "accept {spread} {round} 0 b"),
-                                                     ("published", "publish {next} a"))
-} | {"memory": memory}
+# what costs, its sizes in words, and the three of them
+CASES = {
+    "canon": (canon, "{} bytes", (LONGEST // 4, LONGEST // 2, LONGEST)),
+    "features": (features, "{} squares", (100, 200, 400)),
+    "labels": (labels, "{} labels", (100, 200, 400)),
+    "pixels": (pixels, "{} by {}", ((500, 250), (500, 500), (1000, 500))),
+    "script": (script, "{} lines", (2_500, 5_000, 10_000)),
+    "tape": (tape, "{} maps", (1024, 2048, 4096)),
+    "held": (held, "{} maps", (512, 1024, 2048)),
+    "start": (start, "{} maps", (1024, 2048, 4096)),
+    "promise": (partial(messages, "prepare {spread} {round} 0"), "{} votes", (1024, 2048, 4096)),
+    "accept": (partial(messages, "accept {spread} {round} 0 b"), "{} votes", (1024, 2048, 4096)),
+    "published": (partial(messages, "publish {next} a"), "{} votes", (1024, 2048, 4096)),
+    "memory": (memory, "1024 by {}", (256, 512, 1_024)),
+}
 
 
-def measure(name, sizes):
+def measure(name, options):
     """Prints a line a size, and the ratios; whether they are as they should be."""
+    cost, words, sizes = CASES[name]
     costs = []
-    for size, cost in sizes:
-        told = cost()
+    for size in sizes:
+        own = size if isinstance(size, tuple) else (size,)
+        told = cost(options, *own)
         amounts = "  ".join(f"{amount:9.3f} {unit}" for amount, unit in told)
-        print(f"{name:8} {size:>12}  {amounts}", flush=True)
+        print(f"{name:8} {words.format(*own):>12}  {amounts}", flush=True)
         costs.append(max(told[-1][0], 0))
     print("   ratios {:.2f}, {:.2f}".format(*ratios(costs)))
     return grows_well(costs)
@@ -264,7 +250,7 @@ def main():
     add_program(words, built("wf_test_farm"), "--cases-program")
     add_cases(words, CASES)
     options = words.parse_args()
-    return 0 if all([measure(name, CASES[name](options)) for name in options.cases or CASES]) else 1
+    return 0 if all([measure(name, options) for name in options.cases or CASES]) else 1
 
 
 if __name__ == "__main__":

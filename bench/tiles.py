@@ -51,10 +51,9 @@ class Map:
         self.name = self.path.stem
         self.text = self.path.read_bytes()
         words = self.text.decode()
-        layers = re.findall(r'^\s*LAYER\b.*?\bNAME\s+"?([\w-]+)"?', words, re.M | re.S | re.I)
-        self.layers = ",".join(layers)
+        self.layers = ",".join(re.findall(r'(?ims)^\s*LAYER\b.*?\bNAME\s+"?([\w-]+)"?', words))
         found = re.search(r"\bEXTENT" + r"\s+(-?[\d.]+)" * 4, words, re.I)
-        self.extent = [float(it) for it in found.groups()]
+        self.extent = [*map(float, found.groups())]
 
     def query(self, box, size, background="0xFFFFFF"):
         corners = ",".join(f"{it:.6f}".rstrip("0").rstrip(".") for it in box)
@@ -80,14 +79,12 @@ def measure(port, path, it, rounds):
     def times(queries):
         return [ask(port, path + query)[1] for query in queries]
 
-    found = {}
     ask(port, path + it.tile(2, 1, 1))
-    found["kept"] = times([it.tile(2, 1, 1)] * (20 * rounds))
     cold = [[it.tile(2, n % 4, n // 4, f"0x{round_:02X}FFFF") for n in range(16)] for round_ in range(rounds)]
-    found["cold"] = [sum(times(metatile)) / 16 for metatile in cold]
-    found["off grid"] = times(it.shifted(n, 0.24, 256) for n in range(10 * rounds))
-    found["large"] = times(it.shifted(n, 0.97, 1024) for n in range(3 * rounds))
-    return found
+    return {"kept": times([it.tile(2, 1, 1)] * (20 * rounds)),
+            "cold": [sum(times(metatile)) / 16 for metatile in cold],
+            "off grid": times(it.shifted(n, 0.24, 256) for n in range(10 * rounds)),
+            "large": times(it.shifted(n, 0.97, 1024) for n in range(3 * rounds))}
 
 
 @contextlib.contextmanager
@@ -95,9 +92,8 @@ def mapserver(it, room):
     """MapServer as FastCGI behind lighttpd, one process; gives its port and path."""
     output = (f'OUTPUTFORMAT NAME "ppm" DRIVER "GDAL/PNM" MIMETYPE "{PIXMAP}" IMAGEMODE RGB EXTENSION "ppm" '
               "END\n")
-    text = re.sub(r"^MAP$", "MAP\n" + output, it.text.decode(), count=1, flags=re.M)
-    text = re.sub(r'("wms_onlineresource".*)$', r'\1 "wms_getmap_formatlist" "' + PIXMAP + '"', text, count=1,
-                  flags=re.M)
+    text = re.sub(r"(?m)^MAP$", "MAP\n" + output, it.text.decode(), count=1)
+    text = re.sub(r'(?m)("wms_onlineresource".*)$', rf'\1 "wms_getmap_formatlist" "{PIXMAP}"', text, count=1)
     (room / "served.map").write_text(text)
     (room / "ms.conf").write_text(f'CONFIG\n ENV\n  MS_MAP_PATTERN "."\n END\n MAPS\n  "served" '
                                   f'"{room}/served.map"\n END\nEND\n')
@@ -136,32 +132,30 @@ def nginx(body, room, sendfile="on"):
 
 
 def compare(program, it, seconds, alone):
-    farm = Farm(program, SPARE, None, nodes=1)
-    try:
+    with tempfile.TemporaryDirectory(prefix="tiles-") as room, contextlib.ExitStack() as stack:
+        os.chmod(room, 0o755)
+        farm = Farm(program, SPARE, None, nodes=1)
+        stack.callback(farm.kill)
         ask(farm.port, "/publish", it.text)
         rounds = max(2, seconds)
         ours = measure(farm.port, "/wms?", it, rounds)
         tile, target = it.tile(2, 1, 1), "/wms?" + it.tile(2, 1, 1)
         asked, theirs = {"wfarm": (farm.port, target)}, {}
-        with tempfile.TemporaryDirectory(prefix="tiles-") as room, contextlib.ExitStack() as stack:
-            os.chmod(room, 0o755)
-            if not alone:
-                port, path = stack.enter_context(mapserver(it, pathlib.Path(room)))
-                theirs = measure(port, path, it, rounds)
-                asked["MapServer"] = port, path + tile
-                asked["nginx"] = stack.enter_context(nginx(ask(farm.port, target)[0], pathlib.Path(room)))
-            rates = {name: rate(loopback(port), path, seconds)[0] for name, (port, path) in asked.items()
-                     if shutil.which("wrk")}
-        print(f"\n{it.name}: {len(it.text)} bytes")
-        for kind, times in ours.items():
-            beside = ""
-            if theirs:
-                share = statistics.median(theirs[kind]) / statistics.median(times)
-                beside = f"  MapServer {tell(theirs[kind])}  {share:6.2f} times its rate"
-            print(f"  {kind:9} wfarm {tell(times)}{beside}")
-        print("  kept, requests a second: " + ", ".join(f"{name} {got:,.0f}" for name, got in rates.items()))
-    finally:
-        farm.kill()
+        if not alone:
+            port, path = stack.enter_context(mapserver(it, pathlib.Path(room)))
+            theirs = measure(port, path, it, rounds)
+            asked["MapServer"] = port, path + tile
+            asked["nginx"] = stack.enter_context(nginx(ask(farm.port, target)[0], pathlib.Path(room)))
+        rates = {name: rate(loopback(port), path, seconds)[0] for name, (port, path) in asked.items()
+                 if shutil.which("wrk")}
+    print(f"\n{it.name}: {len(it.text)} bytes")
+    for kind, times in ours.items():
+        beside = ""
+        if theirs:
+            share = statistics.median(theirs[kind]) / statistics.median(times)
+            beside = f"  MapServer {tell(theirs[kind])}  {share:6.2f} times its rate"
+        print(f"  {kind:9} wfarm {tell(times)}{beside}")
+    print("  kept, requests a second: " + ", ".join(f"{name} {got:,.0f}" for name, got in rates.items()))
 
 
 def main():

@@ -23,21 +23,17 @@ PARTS = ("src", "specs", "proofs", "must-fail", "stdin", "stdout", "args", "stat
 
 
 def is_read(path):
-    """Whether CI reads the file: of must-fail/ only the mutants right there, and a removed one needs no
-    check."""
+    """Whether CI reads the file: of must-fail/ only the mutants right there that weren't removed."""
     return "/must-fail/" not in path or path.endswith(".edit") and (TOP / path).exists()
 
 
 def differing(base):
-    """The crates that differ from the commit, with those above them; all of them where what holds for all
-    changed."""
+    """The crates that differ from the commit and those above them; all where what holds for all changed."""
     every = dependencies()
-    lines = git("diff", "--name-only", "--no-renames", base, "HEAD").splitlines()
-    if "HANDLES" in lines:
+    if "HANDLES" in git("diff", "--name-only", "--no-renames", base, "HEAD").splitlines():
         return set(every)
-    was = git("show", f"{base}:crates.txt").splitlines()
-    now = git("show", "HEAD:crates.txt").splitlines()
-    found = {line.partition(":")[0].split()[0] for line in {*now} - {*was} if line.strip()}
+    was, now = ({*git("show", f"{commit}:crates.txt").splitlines()} for commit in (base, "HEAD"))
+    found = {line.partition(":")[0].split()[0] for line in now - was if line.strip()}
     found |= {name for name, files in changed_files(base, PARTS).items() if any(is_read(it) for it in files)}
     return {name for name in every if not found.isdisjoint(below(name))}
 

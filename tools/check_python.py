@@ -18,24 +18,21 @@ import unittest
 from collections.abc import Iterator
 
 from farmkit.command import parser
+from farmkit.documents import paths
+from farmkit.repository import TOP
 
-HERE = pathlib.Path(__file__).resolve().parent
-TOP = HERE.parent
+HERE = TOP / "tools"
 OLDEST = (3, 11)
 VERSION = re.compile(r"\d+\.\d+")
 # tools that say whether what stands elsewhere is so
 CHECKS = (("links.py",), ("definitions.py", "--check"), ("crates.py", "--check"))
-LEFT_OUT = {".git", "out", "__pycache__", "unlanded"}
 
 
 def scripts() -> list[pathlib.Path]:
     """The files of Python in the repository, those without a suffix too."""
-    found = [TOP / "demo", HERE / "wfarmctl"]
-    for part in ("tools", "bench"):
-        for folder, folders, files in os.walk(TOP / part):
-            folders[:] = sorted(name for name in folders if name not in LEFT_OUT)
-            found += [pathlib.Path(folder) / name for name in sorted(files) if name.endswith(".py")]
-    return [path for path in found if path.exists()]
+    others = [path for path in (TOP / "demo", HERE / "wfarmctl") if path.exists()]
+    return others + [TOP / part / path for part in ("tools", "bench")
+                     for path in sorted(paths(TOP / part)) if path.endswith(".py")]
 
 
 def tell(what: str, wrong: str) -> bool:
@@ -65,11 +62,6 @@ def untested() -> tuple[int, int]:
     return result.testsRun - failed, failed
 
 
-def settings() -> dict[str, dict[str, object]]:
-    import tomllib
-    return tomllib.loads((TOP / "pyproject.toml").read_text(encoding="utf-8"))["tool"]
-
-
 def why_not(name: str, wanted: object) -> str:
     """Why a linter isn't run; nothing where it is."""
     try:
@@ -89,24 +81,19 @@ def flake8_words(of: dict[str, object]) -> list[str]:
     return [*words, *(str(path.relative_to(TOP)) for path in scripts())]
 
 
-def linted() -> Iterator[tuple[str, str]]:
-    """Each linter that is there, with what it finds."""
-    of = settings()
+def checked() -> Iterator[tuple[str, str]]:
+    """Each linter that is there, and each tool of CHECKS, with what it finds."""
+    import tomllib
+    of = tomllib.loads((TOP / "pyproject.toml").read_text(encoding="utf-8"))["tool"]
     commands = {"flake8": flake8_words(of["flake8"]), "mypy": ["mypy", "--cache-dir", os.devnull]}
-    for name, words in commands.items():
-        why = why_not(name, of["check_python"][name])
-        if why:
+    for name in [*commands]:
+        if why := why_not(name, of["check_python"][name]):
             print(f"python checks not run: {why}", flush=True)
-            continue
+            del commands[name]
+    commands |= {f"tools/{name}": [sys.executable, "-B", str(HERE / name), *words] for name, *words in CHECKS}
+    for name, words in commands.items():
         ran = subprocess.run(words, cwd=TOP, capture_output=True, text=True)
         yield name, ran.stdout + ran.stderr if ran.returncode else ""
-
-
-def checked() -> Iterator[tuple[str, str]]:
-    """Each tool of CHECKS, with what it finds."""
-    for name, *words in CHECKS:
-        ran = subprocess.run([sys.executable, "-B", str(HERE / name), *words], capture_output=True, text=True)
-        yield f"tools/{name}", ran.stdout + ran.stderr if ran.returncode else ""
 
 
 def main() -> int:
@@ -118,7 +105,7 @@ def main() -> int:
         return 0
     done = [tell(f"{len(scripts())} files compile", uncompiled())]
     passed, failed = untested()
-    done += [tell(name, wrong) for name, wrong in (*linted(), *checked())]
+    done += [tell(name, wrong) for name, wrong in [*checked()]]
     passed, failed = passed + done.count(True), failed + done.count(False)
     print(f"{passed} passed, {failed} failed")
     return 1 if failed else 0

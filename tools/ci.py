@@ -7,15 +7,14 @@ What both print is printed as it comes. The last line is `N passed, M failed` ov
 nothing failed.
 """
 
-import pathlib
 import re
 import signal
 import subprocess
 import sys
 
 from farmkit.command import parser
+from farmkit.repository import TOP
 
-TOP = pathlib.Path(__file__).resolve().parents[1]
 COMMANDS = ([sys.executable, str(TOP / "tools" / "check_python.py")], ["rt", "ci"])
 COUNT = re.compile(r"(\d+) passed, (\d+) failed")
 

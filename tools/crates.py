@@ -15,6 +15,7 @@ proof of the crate names it, and needed where the line of another one in it does
 import html
 import re
 import sys
+import textwrap
 from collections.abc import Iterator
 from typing import NamedTuple
 
@@ -77,16 +78,6 @@ def arrows(below: dict[str, set[str]]) -> list[tuple[str, str]]:
             if not any(low in reach(other) for other in below[title])]
 
 
-def wrapped(title: str, crates: list[str]) -> list[str]:
-    """The lines of a box: the title, then the names of the crates."""
-    lines, line = [title], ""
-    for crate in crates:
-        if len(f"{line} {crate}") > LETTERS:
-            lines, line = [*lines, line], ""
-        line = f"{line} {crate}".strip()
-    return [*lines, line]
-
-
 def boxes(of: dict[str, list[str]], level: dict[str, int]) -> dict[str, Box]:
     """Where each group stands: the highest ones above, groups of one level side by side."""
     found: dict[str, Box] = {}
@@ -94,7 +85,7 @@ def boxes(of: dict[str, list[str]], level: dict[str, int]) -> dict[str, Box]:
     top = GAP // 2
     for at in range(max(level.values()), -1, -1):
         row = [title for title in of if level[title] == at]
-        lines = {title: wrapped(title, of[title]) for title in row}
+        lines = {title: [title, *textwrap.wrap(" ".join(of[title]), LETTERS)] for title in row}
         high = 10 + LINE * max(len(it) for it in lines.values())
         left = GAP // 2 + (most - len(row)) * (WIDE + GAP) // 2
         for place, title in enumerate(row):

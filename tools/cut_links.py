@@ -17,6 +17,7 @@ seconds are the nodes' own where they get a processor at once. Wants root, iprou
 """
 
 import concurrent.futures
+import itertools
 import pathlib
 import queue
 import shutil
@@ -26,7 +27,6 @@ import time
 
 from farmkit import hosts, processes
 from farmkit.command import add_cases, add_slack, listed, numbers, program_parser, tell_missing
-from farmkit.control import wfarmctl, write_nodes
 from farmkit.mapfiles import map_of
 from farmkit.nodes import NO_MAJORITY, VOTES
 from farmkit.tapes import MOST_MAPS, tape_of
@@ -75,12 +75,12 @@ class Node(processes.Node):
 
 class Farm:
     def __init__(self, options, count, network, folder, tape):
-        self.options, self.folder, self.number = options, folder, 0
+        self.options, self.folder, self.numbers = options, folder, itertools.count(1)
         self.network = hosts.Network(network, count)
         every = self.network.hosts
         self.nodes = [Node(host, folder, options.program, every, tape) for host in every]
         self.file = folder / "nodes"
-        write_nodes(self.file, self.nodes)
+        processes.write_nodes(self.file, self.nodes)
 
     def start(self, published):
         for node in self.nodes:
@@ -105,14 +105,10 @@ class Farm:
             time.sleep(0.5)
 
     def publish(self, node):
-        before, answer = self.top(), node.publish(self.next())
+        before, answer = self.top(), node.publish(next(self.numbers))
         want(f"no publish: {answer}", answer[0] == 202)
         until(lambda: (node.published() or 0) > before, PATIENCE, 0.1)
         until(self.is_level, PATIENCE, 0.1)
-
-    def next(self):
-        self.number += 1
-        return self.number
 
     def top(self):
         return max(node.published() or 0 for node in self.nodes)
@@ -144,7 +140,7 @@ class Farm:
         return None if left else took
 
     def control(self, *words):
-        return wfarmctl(self.options.program, self.file, *words)
+        return processes.wfarmctl(self.options.program, self.file, *words)
 
     def stop(self):
         for node in self.nodes:
@@ -256,18 +252,17 @@ def waits(farm, name, seconds):
     ends = ("published", "overtaken") if name in ("each", "away") else ("published",)
 
     def publish():
-        answers = [node.publish(farm.next()) for node in waiting]
+        answers = [node.publish(next(farm.numbers)) for node in waiting]
         want(f"the publishes were answered by {answers}", all(answer[0] == 202 for answer in answers))
         if name == "away":
             file = farm.folder / "a.map"
-            file.write_bytes(map_of(farm.next()))
+            file.write_bytes(map_of(next(farm.numbers)))
             published = farm.control("publish", file)
             first = (len(farm.nodes) - 1) // 2
             want(f"wfarmctl publish: {published}",
                  published[:2] == (0, f"published {before + 1} at node {first}\n"))
 
-    fell = silence(farm, silenced, seconds, publish)
-    seen = {"fell": fell, **healed(farm, waiting, ends)}
+    seen = {"fell": silence(farm, silenced, seconds, publish), **healed(farm, waiting, ends)}
     states = [node.proposal() for node in waiting]
     want(f"what waited is {states}", name == "away" or "published" in states)
     if name == "last":
@@ -275,7 +270,7 @@ def waits(farm, name, seconds):
         rest(farm)
         again = {"fell": silence(farm, silenced, AGAIN), **healed(farm, [], ends)}
         rest(farm)
-        want("a further publish", farm.nodes[0].publish(farm.next())[0] == 409)
+        want("a further publish", farm.nodes[0].publish(next(farm.numbers))[0] == 409)
         seen["when full"] = f"fell {again['fell']}, heard {again['heard']}"
     else:
         for node in farm.nodes:

@@ -52,7 +52,6 @@ as not made, to show that a program without them would be found.
 """
 
 import collections
-import pathlib
 import random
 import re
 import signal
@@ -75,14 +74,11 @@ from farmkit.tapes import ACCEPTED, PUBLISHED, record, records
 from farmkit.web import CAPABILITIES, Unanswered, exchange, loopback
 
 NODES = 3
+TAPES = [f"node-{node}.tape" for node in range(NODES)]
 CONNECTIONS = 1_000_000
 # how long a run may take to reach the call that it is cut at
 RUN_SECONDS = 2.5
 DEVICE_BYTES = 16 << 20
-
-
-def tape_name(node):
-    return f"node-{node}.tape"
 
 
 class Ledger(ledger.Ledger):
@@ -122,9 +118,9 @@ class Ledger(ledger.Ledger):
 
     def tapes(self, folder):
         """Compares what the tapes hold with what they held, and with what their nodes told."""
-        for node in range(NODES):
-            path = pathlib.Path(folder) / tape_name(node)
-            found, torn = records(path.read_bytes() if path.exists() else b"")
+        files = contents(folder)
+        for node, tape in enumerate(TAPES):
+            found, torn = records(files.get(tape, b""))
             self.counts["torn"] += torn
             here = {int.from_bytes(body[:2], "big"): body[2:] for kind, body in found if kind == PUBLISHED}
             for sequence, text in here.items():
@@ -195,10 +191,9 @@ class Run:
     """One run of the program, from its start to its kill, so many seconds after its first answers or its
     start; `begun` is given its process."""
 
-    def __init__(self, words, seconds, begun=None, is_late=False):
+    def __init__(self, words, seconds, begun=lambda process: None, is_late=False):
         self.process = subprocess.Popen(words, stdout=subprocess.PIPE, stderr=subprocess.DEVNULL, text=True)
-        if begun is not None:
-            begun(self.process)
+        begun(self.process)
         listening = re.fullmatch(r"listening ([0-9]+)\n", self.process.stdout.readline())
         self.port = listening and int(listening[1])
         self.timer, self.is_late = threading.Timer(seconds, self.process.kill), is_late
@@ -218,12 +213,11 @@ class Run:
 
 def tear(folder, draw):
     """Adds a beginning of a record to a tape, as a machine leaves it that stops in a write."""
-    path = pathlib.Path(folder) / tape_name(draw.randrange(NODES))
-    found, torn = records(path.read_bytes() if path.exists() else b"")
+    tape = draw.choice(TAPES)
+    found, torn = records(contents(folder).get(tape, b""))
     if found and not torn:
-        kind, body = draw.choice(found)
-        whole = record(kind, body)
-        with path.open("ab") as rest:
+        whole = record(*draw.choice(found))
+        with open(f"{folder}/{tape}", "ab") as rest:
             rest.write(whole[:draw.randrange(1, len(whole))])
 
 
@@ -237,9 +231,11 @@ class Judge(Watcher):
         self.new, self.safe = set(), set()
         self.has_sent = False
 
-    def unsynced(self, but=None):
-        """The names of the files that hold unsynced bytes."""
-        return [name for name, file in self.folder.names.items() if file is not but and file.changes]
+    def done(self, what, but=None):
+        """Something is done, which may not be while another file holds unsynced bytes."""
+        for name, file in self.folder.names.items():
+            if file is not but and file.changes:
+                self.violations.add(f"{what} while {name} isn't synced")
 
     def opened(self, name, file):
         self.safe.discard(file)
@@ -249,8 +245,7 @@ class Judge(Watcher):
         if not file.content:
             self.new.add(file)
         self.counts["appended" if name.endswith(".tape") else "written"] += 1
-        for other in self.unsynced(but=file):
-            self.violations.add(f"{name} is written while {other} isn't synced")
+        self.done(f"{name} is written", file)
         for other in self.folder.renamed():
             self.violations.add(f"{name} is written while the new name {other} isn't synced")
 
@@ -267,13 +262,11 @@ class Judge(Watcher):
             self.violations.add(f"{old} is renamed to {new} and wasn't synced")
         if file.synced and file not in self.new:
             self.violations.add(f"{old} is renamed to {new} and wasn't made or emptied in this run")
-        for other in self.unsynced(but=file):
-            self.violations.add(f"{old} is renamed while {other} isn't synced")
+        self.done(f"{old} is renamed", file)
 
     def sent(self, data):
         self.counts["sent"] += 1
-        for name in self.unsynced():
-            self.violations.add(f"bytes are sent while {name} isn't synced")
+        self.done("bytes are sent")
         for name in sorted({change[0] for change in self.folder.changes}):
             self.violations.add(f"bytes are sent while the name {name} isn't synced")
         if not self.has_sent:
@@ -287,8 +280,7 @@ class Judge(Watcher):
     def reported(self, node, sequence):
         self.counts["reports"] += 1
         synced = self.folder.synced
-        tapes = [records(synced[name].synced)[0] if name in synced else []
-                 for name in map(tape_name, range(NODES))]
+        tapes = [records(synced[name].synced)[0] if name in synced else [] for name in TAPES]
         own = {int.from_bytes(body[:2], "big") for kind, body in tapes[node] if kind == PUBLISHED}
         if not own.issuperset(range(1, sequence + 1)):
             self.violations.add(f"node {node} reports what its synced tape doesn't hold")
@@ -390,10 +382,10 @@ class Modelled(Killed):
         self.folder = Folder(left)
 
 
-class OnDevice(Modelled):
+class OnDevice(Killed):
     """A folder on an ext4 of its own. A run is cut at a write to the device, or a flush of it."""
 
-    name = "cuts of a device"
+    name, lengths, most_sequences, cuts = "cuts of a device", Modelled.lengths, Modelled.most_sequences, True
 
     def __init__(self, above, given, done):
         self.above, self.given, self.done = above, given, done
@@ -405,9 +397,6 @@ class OnDevice(Modelled):
         return Run(serve_words(self.given.program, CONNECTIONS, self.path),
                    RUN_SECONDS if is_cut else draw.random(),
                    lambda process: self.machine.disk.cut_at(count, process.kill) if is_cut else None)
-
-    def ended(self):
-        """Its program has ended."""
 
     def cut(self, ledger, draw):
         """Drops writes that weren't flushed, and lets ext4 recover."""

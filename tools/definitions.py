@@ -16,6 +16,7 @@ about, a line `-- ..` above a definition what that is.
 import graphlib
 import re
 import sys
+from itertools import takewhile
 
 from farmkit.command import parser
 from farmkit.names import missing
@@ -28,7 +29,7 @@ TYPE = re.compile(r"^pub (?:struct|enum|trait) (\w+)", re.MULTILINE)
 # words and types that may stand in several crates: most mean one thing at several layers
 MOST_SHARED = 51
 
-IMPORT = re.compile(r"ghost use Rattle\.(wf\w*)\.specs\.((?:\w+\.)*\w+)\.\{([^}]*)\}")
+IMPORT = re.compile(r"ghost use Rattle\.(wf\w*)\.specs\.(?!declared\.\w)((?:\w+\.)*\w+)\.\{([^}]*)\}")
 FUNCTION = re.compile(r"^[ ]*(pub (?:const )?fn|fn) (\w+)")
 CLAUSE = re.compile(r"^\s+(requires|ensures)\b")
 
@@ -37,8 +38,6 @@ def imported(text):
     """The words of our own definitions that a file brings in, each with the crate and file that define it."""
     words = {}
     for crate, file, names in IMPORT.findall(text):
-        if file.startswith("declared."):
-            continue
         for name in names.split(","):
             spelled = name.strip().split(" as ")
             words[spelled[-1].strip()] = f"{crate}/specs/{file.replace('.', '/')}.antt", spelled[0].strip()
@@ -51,13 +50,10 @@ def clauses(text):
     for line in text.split("\n"):
         if re.match(r"^impl\b", line):
             inside_trait_impl = " for " in line
-        found = FUNCTION.match(line)
-        if found:
+        if found := FUNCTION.match(line):
             name = found[2] if found[1].startswith("pub") or inside_trait_impl else None
             said = []
-        elif name and CLAUSE.match(line):
-            said.append(line)
-        elif name and said and not re.match(r"^\s*\{\}?\s*$", line):
+        elif name and (CLAUSE.match(line) or said and not re.match(r"^\s*\{\}?\s*$", line)):
             said.append(line)
         elif name and said:
             yield name, "\n".join(said)
@@ -65,12 +61,8 @@ def clauses(text):
 
 
 def about(lines):
-    text = []
-    for line in lines:
-        if not line.startswith("--"):
-            break
-        text.append(line.lstrip("-").strip())
-    return " ".join(it for it in text if it)
+    comment = takewhile(lambda line: line.startswith("--"), lines)
+    return " ".join(filter(None, (line.lstrip("-").strip() for line in comment)))
 
 
 def words_of(lines):
@@ -79,14 +71,13 @@ def words_of(lines):
     for line in lines:
         deep = 2 if line.startswith("  ") else 0
         if line[deep:].startswith("--"):
-            text = line.strip("- ")
-            said[deep] = [*said[deep], text] if is_open else [text]
+            said[deep] = [*(said[deep] if is_open else []), line.strip("- ")]
             is_open = True
             continue
         is_open = False
         at = INNER.match(line) or DEFINED.match(line)
         if at and at[1] != "mod":
-            found.append((at[1], " ".join(it for it in said[deep] if it)))
+            found.append((at[1], " ".join(filter(None, said[deep]))))
         if line and not deep:
             said[2] = []
     return found

@@ -15,6 +15,7 @@ count. Run it on a clean clone, with nothing beside it.
 """
 
 import collections
+import contextlib
 import datetime
 import os
 import pathlib
@@ -36,37 +37,26 @@ FROM_NOTHING = "every proof and must-fail edit was done in this run"
 MARKS = "<!-- gate_cost.py: begin -->\n", "<!-- gate_cost.py: end -->\n"
 
 
-def read(path):
-    try:
-        return pathlib.Path(path).read_bytes()
-    except OSError:
-        return b""
-
-
-def task_of(pid):
+def task_of(process):
     """The crate and the part of its cost that a process of CI works on, by its words and its folder."""
-    words = read(f"/proc/{pid}/cmdline").split(b"\0")
+    words = (process / "cmdline").read_bytes().split(b"\0")
     if b"--crate-name" not in words:
         return None
-    crate = words[words.index(b"--crate-name") + 1].decode()
-    try:
-        folder = os.readlink(f"/proc/{pid}/cwd")
-    except OSError:
-        return None
-    if "rt-edit-" in folder:
-        return crate, "edits"
-    return crate, "tests" if b"--test" in words else "proof"
+    is_edit = "rt-edit-" in os.readlink(process / "cwd")
+    part = "edits" if is_edit else "tests" if b"--test" in words else "proof"
+    return words[words.index(b"--crate-name") + 1].decode(), part
 
 
 def look(seen, gate):
     """Notes the task of each process of CI and the processor time that it has used so far."""
     for number in descendants(gate):
-        # what the system reports of it: the fields that follow its name
-        stat = read(f"/proc/{number}/stat").rpartition(b") ")[2].split()
-        key = number, stat[19] if len(stat) > 19 else None
-        task = seen[key][0] if key in seen else task_of(number)
-        if task and len(stat) > 19:
-            seen[key] = task, (int(stat[11]) + int(stat[12])) / TICKS / 60
+        process = pathlib.Path(f"/proc/{number}")
+        with contextlib.suppress(OSError):  # it has ended
+            # what the system reports of it: the fields that follow its name
+            stat = (process / "stat").read_bytes().rpartition(b") ")[2].split()
+            key = number, stat[19]
+            if task := seen[key][0] if key in seen else task_of(process):
+                seen[key] = task, (int(stat[11]) + int(stat[12])) / TICKS / 60
 
 
 def table(seen):

@@ -78,11 +78,13 @@ def attack(address, kind, seed):
 
 
 def attacked(rows, draw):
-    """Makes these connections, some at a time: addresses and kinds. How many there were of each kind."""
+    """Makes these connections, some at a time: addresses and kinds. What is told of them."""
+    begun = time.monotonic()
     with concurrent.futures.ThreadPoolExecutor(AT_ONCE) as pool:
         work = [pool.submit(attack, address, kind, draw.random()) for address, kind in rows]
         ended = collections.Counter(it.result() for it in work)
-    return ", ".join(f"{count} {kind}" for kind, count in sorted(ended.items()))
+    counts = ", ".join(f"{count} {kind}" for kind, count in sorted(ended.items()))
+    return f"in {time.monotonic() - begun:.0f} s, {AT_ONCE} at a time ({counts})"
 
 
 class Behaving(threading.Thread):
@@ -118,44 +120,34 @@ def asked(farm, path, body=None):
 def state(farm, folder):
     """What the farm is: what each node told as published, its capabilities and the tile, and the tapes."""
     told = sorted(asked(farm, "/status")[1].split()[1:4] for _ in range(NODES))
-    answers = {asked(farm, path) for path in (CAPABILITIES, TILE) for _ in range(NODES)}
-    return told, answers, contents(folder)
+    return told, {asked(farm, path) for path in (CAPABILITIES, TILE) for _ in range(NODES)}, contents(folder)
 
 
 def sockets(program, count, draw):
     """Whether the farm is what it was after all connections, and the client that behaves was served."""
-    with tempfile.TemporaryDirectory() as folder:
-        farm = Farm(program, 1_000_000, folder)
-        try:
-            asked(farm, "/publish", MAP)
-            before = state(farm, folder)
-            client = Behaving([farm.address], asked(farm, TILE)[1])
-            begun = time.monotonic()
-            client.start()
-            said = attacked([(farm.address, kind) for kind in kinds(count, draw)], draw)
-            print(f"{count} hostile connections in {time.monotonic() - begun:.0f} s, {AT_ONCE} at a time "
-                  f"({said})")
-            good = client.end()
-            same = state(farm, folder) == before
-            lives = farm.process.poll() is None
-        finally:
-            farm.kill()
-    print(f"the farm {'is what it was' if same and lives else 'IS NOT WHAT IT WAS'}: sequence, capabilities, "
-          f"tile and tapes")
-    return same and lives and good
+    with tempfile.TemporaryDirectory() as folder, Farm(program, 1_000_000, folder) as farm:
+        asked(farm, "/publish", MAP)
+        before = state(farm, folder)
+        client = Behaving([farm.address], asked(farm, TILE)[1])
+        client.start()
+        said = attacked([(farm.address, kind) for kind in kinds(count, draw)], draw)
+        print(f"{count} hostile connections {said}")
+        good = client.end()
+        same = state(farm, folder) == before and farm.process.poll() is None
+    print(f"the farm {'is what it was' if same else 'IS NOT WHAT IT WAS'}: sequence, capabilities, tile and "
+          f"tapes")
+    return same and good
 
 
 # Nodes and a replica.
 
 class Attacked:
-    """Three nodes, of which one doesn't run: a stranger listens in its place, and greets as it. And a replica
-    that asks a node, and a stranger."""
+    """Three nodes, in the place of one a stranger, which greets as it; a replica that asks a stranger too."""
 
     def __init__(self, program, folder, draw):
         self.nodes = Nodes(program, folder, has_readers=True).begin()
         readers = self.nodes.readers[0]
-        self.nodes.publish_whole(0, MAP)
-        self.nodes.level()
+        self.nodes.publish_all(MAP)
         own = greeting(self.nodes, 2)
         self.nodes.kill(2)
         self.impostors = [Impostor(self.nodes.peer[2], peer_answers(own, draw)),
@@ -229,11 +221,9 @@ def processes(program, count, draw):
         try:
             client.start()
             publisher.start()
-            begun = time.monotonic()
             said = attacked(farm.rows(count, draw), draw)
-            print(f"{count} hostile connections to nodes and a replica in {time.monotonic() - begun:.0f} s, "
-                  f"{AT_ONCE} at a time ({said}); {farm.impostors[0].count} connections of nodes to a "
-                  f"stranger, {farm.impostors[1].count} of the replica")
+            print(f"{count} hostile connections to nodes and a replica {said}; {farm.impostors[0].count} "
+                  f"connections of nodes to a stranger, {farm.impostors[1].count} of the replica")
             print(f"{farm.fill_slots()} silent connections at once for {FILLED} s")
             good = client.end()
             publisher.over.set()
@@ -265,8 +255,8 @@ FAULT = re.compile(rb"(map fault M(2|9|11)|map fault M([3-8]|10|12) at \d+|canon
 LIMITED = ("/bin/sh", "-c", f'ulimit -v {MOST_MEMORY}; exec "$0" "$@"')
 
 
-class Runner:
-    """Runs of the program on one file of input, one after the other."""
+class Runner(threading.local):
+    """Runs of the program on one file of input, one after the other, of its own in each thread."""
 
     def __init__(self, program, folder):
         self.program = str(program)
@@ -301,21 +291,15 @@ class Mutations:
     """Runs on mutated input, and what came of them."""
 
     def __init__(self, program, folder, seed):
-        self.program, self.folder, self.seed = program, folder, seed
+        self.runner, self.seed = Runner(program, folder), seed
         self.statuses, self.dearest, self.failures = collections.Counter(), 0.0, []
-        self.local = threading.local()
-
-    def run(self, words, text):
-        if not hasattr(self.local, "runner"):
-            self.local.runner = Runner(self.program, self.folder)
-        return self.local.runner.run(words, text)
 
     def canon(self, number):
         """One mapfile through canon; a text that it writes is read again."""
         text = Maps(random.Random(f"{self.seed} canon {number}")).next()
-        ran = self.run(["canon"], text)
+        ran = self.runner.run(["canon"], text)
         failed = wrong(ran)
-        if not failed and ran[0] == 0 and self.run(["canon"], ran[1])[:2] != (0, ran[1]):
+        if not failed and ran[0] == 0 and self.runner.run(["canon"], ran[1])[:2] != (0, ran[1]):
             failed = "the canonical text isn't its own"
         return ran, failed, text, b""
 
@@ -325,7 +309,7 @@ class Mutations:
         maps = Maps(draw)
         text = maps.next() if draw.random() < 0.3 else maps.made().encode()
         query = Queries(draw).next()
-        ran = self.run(["draw", "--", query], text)
+        ran = self.runner.run(["draw", "--", query], text)
         return ran, wrong(ran), text, query.encode()
 
     def go(self, make, count, jobs):

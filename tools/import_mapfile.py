@@ -25,14 +25,12 @@ import sys
 from dataclasses import replace
 from pathlib import Path
 
-from maps import account, fitting, mapfile, options, texts
+from maps import account, fitting, mapfile, options, preview, texts
 from maps.account import Teller, drop_block
 from maps.cutting import cut
 from maps.errors import MapError, Notes, library, saying
 from maps.geometry import DIGITS, checked, on_grid, whole_extent
 from maps.model import EXTENT_DIGITS, LEAST_POINTS, MOST_CLASSES, MOST_PIXELS, Feature, Layer, Map
-from maps.preview import MapServer, Painter, picture_query, size_of
-from maps.preview import write as write_preview
 from maps.symbology import Symbology, has_scale
 
 OWN = {"4326": "init=epsg:4326", "3857": "init=epsg:3857"}
@@ -94,16 +92,14 @@ class Importer:
     def wrong(self, what):
         return MapError(f"{self.asked.mapfile}: {what}")
 
-    # ---- systems and extent
-
     def system(self, text, what):
         """The system of a map or layer, that of --source if it names none; None where it is the map's own."""
         if crs_of(text) == self.crs:
             return None
         text = text or (f"init={self.asked.source.lower()}" if self.asked.source else "")
         if not text:
-            raise MapError(f"{what}: it has no PROJECTION, and the map has none: write --source EPSG: and "
-                           f"its number")
+            raise MapError(f"{what}: it has no PROJECTION, and the map has none: "
+                           "write --source EPSG: and its number")
         with saying(f"{what}: the system {text} isn't known: @", *self.errors):
             return self.script.projectionObj(text)
 
@@ -122,10 +118,9 @@ class Importer:
 
     def reprojected(self, sides, source, target):
         """The box with these sides in another system, or as it is where either is None."""
-        box = self.script.rectObj(*sides)
+        box, name = self.script.rectObj(*sides), self.asked.mapfile
         if source is not None and target is not None:
-            with saying(f"{self.asked.mapfile}: its extent can't be reprojected: @: write --extent",
-                        *self.errors):
+            with saying(f"{name}: its extent can't be reprojected: @: write --extent", *self.errors):
                 box.project(source, target)
         return box
 
@@ -139,13 +134,9 @@ class Importer:
         self.map.setExtent(box.minx, box.miny, box.maxx, box.maxy)
         return width, self.asked.scale or self.map.scaledenom
 
-    # ---- layers
-
     def imported(self):
         self.tell_of_map()
-        layers = []
-        for name, layer, block in self.chosen_layers():
-            layers += self.layers_of(layer, block, name)
+        layers = [made for entry in self.chosen_layers() for made in self.layers_of(*entry)]
         if not layers:
             why = [line for line in self.notes.lines() if line.startswith("layer ")]
             raise self.wrong(f"nothing is drawn: {'; '.join(why) or 'it has no layers'}")
@@ -154,9 +145,8 @@ class Importer:
                 raise self.wrong(f"no layer has the attribute {item!r} of --keep")
         name, metadata = self.map.name or "map", self.map.web.metadata
         title, abstract, address = (first_of(metadata, keys) for keys in (TITLES, ABSTRACTS, ADDRESSES))
-        address = self.asked.address or address or "http://localhost/wms?"
-        own_texts = [texts.plain(text, self.teller, "the map's texts")
-                     for text in (name, title or name, abstract, address)]
+        said = (name, title or name, abstract, self.asked.address or address or "http://localhost/wms?")
+        own_texts = [texts.plain(text, self.teller, "the map's texts") for text in said]
         whole = Map(*own_texts, self.crs, self.digits, whole_extent(self.extent, self.digits),
                     with_own_names(layers, self.notes))
         if not self.asked.extent:
@@ -168,8 +158,7 @@ class Importer:
     def chosen_layers(self):
         """(name, layer, its block) of the layers that are asked for; the others aren't counted."""
         layers, blocks = [self.map.getLayer(i) for i in range(self.map.numlayers)], self.written.all("LAYER")
-        counts = [layer.numclasses for layer in layers]
-        if counts != [len(block.all("CLASS")) for block in blocks]:
+        if [layer.numclasses for layer in layers] != [len(block.all("CLASS")) for block in blocks]:
             raise self.wrong("its LAYER and CLASS blocks aren't those that MapServer reads")
         names = [layer.name or f"layer{place}" for place, layer in enumerate(layers, 1)]
         wanted = names if self.asked.layers is None else self.asked.layers
@@ -179,8 +168,6 @@ class Importer:
         others = [block for name, block in zip(names, blocks) if name not in wanted]
         self.written.blocks = [block for block in self.written.blocks if block not in others]
         return [entry for entry in zip(names, layers, blocks) if entry[0] in wanted]
-
-    # ---- what becomes of the map's keywords
 
     def tell_of_map(self):
         """Tells of all that isn't of a layer."""
@@ -193,7 +180,11 @@ class Importer:
         metadata = {keyword.name.lower(): keyword for web in self.written.all("WEB")
                     for block in web.all("METADATA") for keyword in block.keywords}
         self.tell_of_address(metadata)
-        self.tell_of_systems(metadata)
+        for keyword in filter(None, map(metadata.get, SYSTEMS)):
+            others = sorted(set(keyword.words[0].upper().split()) - OFFERED[self.crs])
+            if others:
+                self.teller.change(keyword, f": a farm doesn't answer in {', '.join(others)}")
+            self.teller.told.add((keyword, None))
         account.tell(self.written, self.teller, self.scale)
 
     def tell_of_address(self, metadata):
@@ -205,13 +196,6 @@ class Importer:
                            f"mapfile: write --address", keyword.place)
         elif not self.asked.address:
             self.notes.add("map: warning: clients are sent to http://localhost/wms?: write --address")
-
-    def tell_of_systems(self, metadata):
-        for keyword in filter(None, map(metadata.get, SYSTEMS)):
-            others = sorted(set(keyword.words[0].upper().split()) - OFFERED[self.crs])
-            if others:
-                self.teller.change(keyword, f": a farm doesn't answer in {', '.join(others)}")
-            self.teller.told.add((keyword, None))
 
     def why_not_drawn(self, layer):
         """Why nothing of the layer is imported, or None."""
@@ -229,21 +213,19 @@ class Importer:
             return "it has no CLASS" + (", and STYLEITEM isn't supported" if layer.styleitem else "")
         return None
 
-    def layers_of(self, layer, block, name):
+    def layers_of(self, name, layer, block):
         """What the layer draws, as one layer, or as several where it has too many classes."""
         teller = Teller(self.notes, f"layer {name}")
-        why = self.why_not_drawn(layer)
-        if why is not None:
-            teller.lost(f"all of it: {why}", block.place)
-            account.mark(block.whole(), account.LEFT_OUT)
-            return []
-        if not layer.name:
-            teller.add(f"it has no NAME, and became {name}", block.place)
-        classes = self.chosen_classes(layer, block, teller)
-        drawn = self.drawn_features(layer, block, classes, name, teller)
-        self.tell_of_layer(layer, block, classes, {index for index, _, _ in drawn}, teller)
+        drawn, why = [], self.why_not_drawn(layer)
+        if why is None:
+            if not layer.name:
+                teller.add(f"it has no NAME, and became {name}", block.place)
+            classes = self.chosen_classes(layer, block, teller)
+            drawn = self.drawn_features(layer, block, classes, name, teller)
+            self.tell_of_layer(layer, block, classes, {index for index, _, _ in drawn}, teller)
+            why = f"nothing is drawn in the extent at 1:{self.scale:,.0f}"
         if not drawn:
-            teller.lost(f"all of it: nothing is drawn in the extent at 1:{self.scale:,.0f}", block.place)
+            teller.lost(f"all of it: {why}", block.place)
             account.mark(block.whole(), account.LEFT_OUT)
             return []
         title = first_of(layer.metadata, TITLES) or name
@@ -255,10 +237,10 @@ class Importer:
                 drop_block(group, teller, ": no shape is drawn by it")
         if layer.styleitem:
             teller.drop(block.keyword("STYLEITEM"))
-        projection = block.keyword("PROJECTION")
-        if projection is not None and [word.upper() for word in projection.words] == ["AUTO"]:
-            teller.change(projection,
-                          ": its datum is left out, since MapServer takes none; name the system to be exact")
+        system = block.keyword("PROJECTION")
+        if system is not None and [word.upper() for word in system.words] == ["AUTO"]:
+            teller.change(system, ": its datum is left out, since MapServer takes none; name the system "
+                          "to be exact")
         if layer.status == self.script.MS_DEFAULT:
             teller.change(block.keyword("STATUS"), ": it is drawn where a request lists it")
         for keyword in block.keywords:
@@ -294,12 +276,11 @@ class Importer:
         if outside > 0:
             teller.lost("shapes outside of the extent", count=outside)
             self.shapes_read += outside
-        symbology = Symbology(layer, self.kinds[layer.type], self.scale, classes, items or item_names(layer),
-                              teller)
+        kind, items = self.kinds[layer.type], items or item_names(layer)
+        symbology = Symbology(layer, kind, self.scale, classes, items, teller)
         self.kept[name] = [item for item in self.asked.keep if item in symbology.items]
-        lines = self.lines_of(shapes, system)
         result = []
-        for (place, index, shape), parts in zip(shapes, lines):
+        for (place, index, shape), parts in zip(shapes, self.lines_of(shapes, system)):
             how = symbology.drawn(index, shape)
             feature = self.feature(symbology, index, shape, parts, self.kept[name], place)
             if feature is not None and not how.styles and not feature.text:
@@ -318,11 +299,11 @@ class Importer:
             where = f"layer {name}: shape {place}"
             with saying(f"{where}: MapServer can't choose its class: @: repair the EXPRESSION", *self.errors):
                 index = layer.getClassIndex(self.map, shape, None, 0)
+            group = layer.getClass(index)
             if index < 0:
                 teller.lost("shapes in no CLASS, which MapServer doesn't draw", where)
-            elif layer.getClass(index).status == self.script.MS_OFF:
-                teller.lost(f"shapes of CLASS {layer.getClass(index).name or index}, whose STATUS is OFF",
-                            where)
+            elif group.status == self.script.MS_OFF:
+                teller.lost(f"shapes of CLASS {group.name or index}, whose STATUS is OFF", where)
             elif 0 <= layer.maxfeatures <= drawn:
                 teller.lost("shapes beyond MAXFEATURES", where)
             else:
@@ -349,13 +330,13 @@ class Importer:
         return count
 
     def open(self, layer, name):
-        with saying(f"layer {name}: MapServer can't open its data: @: look at DATA and CONNECTION, or choose "
-                    "--layers", *self.errors):
+        remedy = "look at DATA and CONNECTION, or choose --layers"
+        with saying(f"layer {name}: MapServer can't open its data: @: {remedy}", *self.errors):
             layer.open()
 
     def shapes(self, layer, name, box):
-        with saying(f"layer {name}: MapServer can't read its data: @: repair them, or choose --layers",
-                    *self.errors):
+        remedy = "repair them, or choose --layers"
+        with saying(f"layer {name}: MapServer can't read its data: @: {remedy}", *self.errors):
             layer.whichShapes(box)
             yield from iter(layer.nextShape, None)
 
@@ -365,7 +346,7 @@ class Importer:
         if system is None:
             return [[points_of(line) for line in some] for some in lines]
         together = self.script.shapeObj(self.script.MS_SHAPE_POINT)
-        for line in (line for some in lines for line in some):
+        for line in itertools.chain.from_iterable(lines):
             together.add(line)
         if together.numlines and not self.is_projected(together, system):
             apart = (where for where, _, shape in shapes if not self.is_projected(shape, system))
@@ -399,9 +380,8 @@ class Importer:
         for _, how, _ in sorted(drawn, key=lambda entry: entry[0]):
             if how not in classes:
                 classes.append(how)
-        if len(classes) > MOST_CLASSES:
-            teller.add(f"its {len(classes)} classes became layers of {MOST_CLASSES} each "
-                       f"({name}, {name}_2, ..)")
+        if (count := len(classes)) > MOST_CLASSES:
+            teller.add(f"its {count} classes became layers of {MOST_CLASSES} each ({name}, {name}_2, ..)")
         items = [texts.name(item, teller, "an attribute's name") for item in self.kept[name]]
         for start in range(0, len(classes), MOST_CLASSES):
             some = classes[start : start + MOST_CLASSES]
@@ -410,16 +390,6 @@ class Importer:
             named = [replace(how, name=texts.plain(how.name, teller, f"layer {name}: the name of a class"))
                      for how in some]
             yield Layer(own, title, kind, named, features, items)
-
-    def preview(self, the_map, written):
-        painter = Painter(self.asked.program, self.asked.side)
-        server = MapServer(self.asked.mapfile, self.asked.layers, self.crs, self.scale)
-
-        def source(extent):
-            sides = [side / 10**EXTENT_DIGITS for side in extent]
-            return painter.pixels(server.drawn(sides, *size_of(extent, self.asked.side)))
-
-        write_preview(self.asked.preview, painter, the_map, written, source)
 
 
 def crs_of(system):
@@ -459,8 +429,7 @@ def with_own_names(layers, notes):
 def silenced_output():
     """Standard output, kept for the map alone: MapServer's library prints some expressions there."""
     kept = os.fdopen(os.dup(sys.stdout.fileno()), "wb")
-    nothing = os.open(os.devnull, os.O_WRONLY)
-    os.dup2(nothing, sys.stdout.fileno())
+    os.dup2(os.open(os.devnull, os.O_WRONLY), sys.stdout.fileno())
     return kept
 
 
@@ -470,29 +439,34 @@ def made(asked, notes):
     the_map = importer.imported()
     written = fitting.finished(the_map, asked, importer.teller)
     if asked.query is not None:
-        asked.query.write_text(picture_query(the_map, asked.side) + "\n", encoding="ascii")
+        asked.query.write_text(preview.picture_query(the_map, asked.side) + "\n", encoding="ascii")
     tell(written, importer, notes, sys.stderr)
     if asked.preview is not None:
-        importer.preview(the_map, written)
+        painter = preview.Painter(asked.program, asked.side)
+        server = preview.MapServer(asked.mapfile, asked.layers, importer.crs, importer.scale)
+
+        def source(extent):
+            sides = [side / 10**EXTENT_DIGITS for side in extent]
+            return painter.pixels(server.drawn(sides, *preview.size_of(extent, asked.side)))
+
+        preview.write(asked.preview, painter, the_map, written, source)
     if asked.report is not None:
         with asked.report.open("w", encoding="utf-8", errors="backslashreplace") as report:
             tell(written, importer, notes, report)
     if asked.strict and notes.changes:
-        raise importer.wrong("something is changed or left out, as the notes say: no map is written, by "
-                             "--strict")
+        raise importer.wrong("something is changed or left out, as the notes say: no map is written, "
+                             "by --strict")
     return written.text
 
 
 def tell(written, importer, notes, stream):
     """Writes the notes and the map's size, and at the end how much was carried, changed and left out."""
-    idle = account.idle(importer.written)
-    if idle:
+    if idle := account.idle(importer.written):
         print(f"note: without effect on a farm's answers: {idle}", file=stream)
     fitting.tell(written, notes, stream)
-    left_out = importer.shapes_read - importer.shapes_drawn + len(written.lost_features)
-    shapes = (f"of {importer.shapes_read:,} shapes {importer.shapes_read - left_out:,} were carried, "
-              f"{left_out:,} left out")
-    print(f"note: {account.counted(importer.written)}; {shapes}", file=stream)
+    read, drawn = importer.shapes_read, importer.shapes_drawn - len(written.lost_features)
+    print(f"note: {account.counted(importer.written)}; "
+          f"of {read:,} shapes {drawn:,} were carried, {read - drawn:,} left out", file=stream)
 
 
 def main():

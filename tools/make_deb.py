@@ -29,39 +29,33 @@ import time
 
 import stamp
 from farmkit.command import lacks, program_parser, tell_missing
+from farmkit.processes import run
 from farmkit.repository import PROGRAM, TOP
 
 UNITS = ("examples/wfarm.service", "examples/wfarm@.service", "examples/three/wfarm-node@.service",
          "examples/three/wfarm-failed@.service", "examples/three/wfarm-replica@.service")
-
 # the documents that operators read, and what these name
 DOCUMENTS = ("README.md", "CHANGELOG.md", "CONTRIBUTING.md", "SECURITY.md", "docs", "bench/README.md")
 MAP_TOOLS = ("make_map.py", "import_mapfile.py", "pixmap_to_png.py", "maps", "geojson")
-COMMANDS = ("init", "node", "clear", "replica", "serve", "draw", "caps", "check", "canon", "tape", "run",
-            "wire")
-
+COMMANDS = "init node clear replica serve draw caps check canon tape run wire".split()
 RUNNING = "'wfarm-node@*.service' 'wfarm-replica@*.service' 'wfarm@*.service' wfarm.service"
-
 # the texts of a package: scripts of dpkg, and what Debian wants of each
 FORMS = TOP / "tools" / "debian"
 
 
 def form(name, **values):
     """A text of tools/debian, with each of these values in the place of its name in braces."""
-    text = (FORMS / name).read_text(encoding="utf-8")
-    for word, value in values.items():
-        text = text.replace("{" + word + "}", value)
-    return text
+    return (FORMS / name).read_text(encoding="utf-8").format(**values)
 
 
-def installed(unit):
-    return (TOP / unit).read_text().replace("/usr/local/bin/wfarm", "/usr/bin/wfarm")
-
-
-def place(text, path, mode):
+def place(content, path, mode=0o644):
     path.parent.mkdir(parents=True, exist_ok=True)
-    path.write_text(text)
+    path.write_bytes(content if isinstance(content, bytes) else content.encode())
     path.chmod(mode)
+
+
+def zipped(text):
+    return gzip.compress(text.encode(), 9, mtime=0)
 
 
 def sum_of(path):
@@ -73,14 +67,6 @@ def depends(program):
     symbols = [tuple(map(int, found)) for found in re.findall(rb"GLIBC_(\d+)\.(\d+)", program.read_bytes())]
     library = ["libc6 (>= %d.%d)" % max(symbols)] if symbols else []
     return ", ".join([*library, "python3", "adduser"])
-
-
-def put_binaries(root, program):
-    binaries = root / "usr/bin"
-    binaries.mkdir(parents=True)
-    stamp.write_stamped(program, stamp.revision_now(), binaries / "wfarm")
-    shutil.copy(TOP / "tools" / "wfarmctl", binaries / "wfarmctl")
-    (binaries / "wfarmctl").chmod(0o755)
 
 
 def help_of(*words):
@@ -102,17 +88,10 @@ def put_manuals(root, day):
     program, tool = str(root / "usr/bin/wfarm"), str(root / "usr/bin/wfarmctl")
     texts = [("SYNOPSIS", help_of(program, "help")),
              *((f"WFARM {command.upper()}", help_of(program, "help", command)) for command in COMMANDS)]
-    pages = (("wfarm", manual("wfarm", "farm of Web Map Service servers", day, texts)),
-             ("wfarmctl", manual("wfarmctl", "runs a farm of wfarm nodes", day,
-                                 [("SYNOPSIS", help_of(sys.executable, tool, "--help"))])))
-    for name, text in pages:
-        put_zipped(text, root / f"usr/share/man/man1/{name}.1.gz")
-
-
-def put_zipped(text, path):
-    path.parent.mkdir(parents=True, exist_ok=True)
-    path.write_bytes(gzip.compress(text.encode(), 9, mtime=0))
-    path.chmod(0o644)
+    own = [("SYNOPSIS", help_of(sys.executable, tool, "--help"))]
+    for page in (("wfarm", "farm of Web Map Service servers", day, texts),
+                 ("wfarmctl", "runs a farm of wfarm nodes", day, own)):
+        place(zipped(manual(*page)), root / f"usr/share/man/man1/{page[0]}.1.gz")
 
 
 def copy_tracked(names, target):
@@ -131,29 +110,26 @@ def put_shared(root):
     copy_tracked(DOCUMENTS, documents)
     for name in ("examples", "tools"):
         (documents / name).symlink_to(f"../../wfarm/{name}")
-    for path in (share, documents):
-        for each in path.rglob("*"):
-            if not each.is_symlink():
-                is_script = not each.is_dir() and each.read_bytes()[:2] == b"#!"
-                each.chmod(0o755 if each.is_dir() or is_script else 0o644)
+    for each in (*share.rglob("*"), *documents.rglob("*")):
+        if not each.is_symlink():
+            each.chmod(0o755 if each.is_dir() or each.read_bytes()[:2] == b"#!" else 0o644)
 
 
 def put_build(root, program, version, maintainer):
     """What Debian wants of each package, and what the program was built of."""
     documents = root / "usr/share/doc/wfarm"
     day = stamp.git("log", "-1", "--format=%cs")
-    place(form("copyright"), documents / "copyright", 0o644)
-    place(form("overrides"), root / "usr/share/lintian/overrides/wfarm", 0o644)
+    place(form("copyright"), documents / "copyright")
+    place(form("overrides"), root / "usr/share/lintian/overrides/wfarm")
     date = stamp.git("log", "-1", "--format=%cD") or email.utils.formatdate(0)
-    put_zipped(form("changelog", version=version, day=day, date=date, maintainer=maintainer),
-               documents / "changelog.gz")
-    is_ours = program == PROGRAM
-    proved = ("yes: `rt ci` leaves it where all proofs passed" if is_ours
+    changes = form("changelog", version=version, day=day, date=date, maintainer=maintainer)
+    place(zipped(changes), documents / "changelog.gz")
+    proved = ("yes: `rt ci` leaves it where all proofs passed" if program == PROGRAM
               else "not known: it was given by --program")
     revision = stamp.revision_now()
     known = revision if revision != stamp.UNKNOWN else "not known: there are changes that aren't committed"
     place(form("BUILD", version=version, revision=known, installed=sum_of(root / "usr/bin/wfarm"),
-               built=sum_of(program), proved=proved), documents / "BUILD", 0o644)
+               built=sum_of(program), proved=proved), documents / "BUILD")
     put_manuals(root, day)
 
 
@@ -161,19 +137,21 @@ def put_sums(root):
     """The sums of all files, for `dpkg --verify`."""
     files = sorted(path for path in root.rglob("*") if path.is_file() and not path.is_symlink())
     sums = [f"{hashlib.md5(path.read_bytes()).hexdigest()}  {path.relative_to(root)}\n" for path in files]
-    place("".join(sums), root / "DEBIAN/md5sums", 0o644)
+    place("".join(sums), root / "DEBIAN/md5sums")
 
 
 def fill(root, program, version, maintainer):
     """Puts everything where it is installed."""
-    put_binaries(root, program)
+    place((TOP / "tools" / "wfarmctl").read_bytes(), root / "usr/bin/wfarmctl", 0o755)
+    stamp.write_stamped(program, stamp.revision_now(), root / "usr/bin/wfarm")
     for unit in UNITS:
-        place(installed(unit), root / "lib/systemd/system" / pathlib.Path(unit).name, 0o644)
+        text = (TOP / unit).read_text().replace("/usr/local/bin/wfarm", "/usr/bin/wfarm")
+        place(text, root / "lib/systemd/system" / pathlib.Path(unit).name)
     put_shared(root)
     put_build(root, program, version, maintainer)
     put_sums(root)
     place(form("control", version=version, maintainer=maintainer, depends=depends(program)),
-          root / "DEBIAN/control", 0o644)
+          root / "DEBIAN/control")
     for name in ("postinst", "prerm", "postrm"):
         place(form(name, running=RUNNING), root / "DEBIAN" / name, 0o755)
     for folder in root.rglob("*"):
@@ -206,12 +184,10 @@ def main():
         except stamp.Unstamped as error:
             print(f"{program}: {error}", file=sys.stderr)
             return 1
-        subprocess.run(["dpkg-deb", "--build", "--root-owner-group", str(root), str(package)], check=True,
-                       capture_output=True)
+        run("dpkg-deb", "--build", "--root-owner-group", str(root), str(package))
     sums = package.with_name(package.name + ".sha256")
     sums.write_text(f"{sum_of(package)}  {package.name}\n")
-    print(package)
-    print(sums)
+    print(package, sums, sep="\n")
     return 0
 
 

@@ -30,18 +30,18 @@ import json
 import math
 import re
 import sys
+from bisect import bisect_right
 from dataclasses import dataclass
 from functools import partial
+from itertools import cycle, islice
 from pathlib import Path
 
-from maps import fitting, options, texts
+from maps import fitting, options, preview, texts
 from maps.cutting import cut
 from maps.errors import MapError, Notes, library, saying
 from maps.geometry import DIGITS, bounds, checked, longer_side, meet, on_grid, whole_extent, widened
 from maps.model import (LABEL_SIZES, LEAST_POINTS, MOST_CLASSES, POSITIONS, Class, Feature, Label, Layer, Map,
                         Style)
-from maps.preview import Painter, picture_query
-from maps.preview import write as write_preview
 
 KINDS = {"POINT": "POINT", "LINESTRING": "LINE", "POLYGON": "POLYGON"}  # by their names of GDAL
 MEMBERS = {"MULTIPOINT", "MULTILINESTRING", "MULTIPOLYGON"}
@@ -57,7 +57,6 @@ OTHER = "other"
 
 
 # ---- what is asked for
-
 
 class OfLayer(argparse.Action):
     """--layer, which begins a layer with what its options are if left out, or an option of the last one."""
@@ -83,13 +82,11 @@ def class_of(text):
 
 
 def ranges_of(text):
-    try:
+    with contextlib.suppress(ValueError):
         breaks = [float(piece) for piece in text.split(",")]
-    except ValueError:
-        breaks = []
-    if not breaks or not all(map(math.isfinite, breaks)) or breaks != sorted(set(breaks)):
-        raise argparse.ArgumentTypeError(f"{text!r} isn't a list of numbers that rise, as 100,500,1000")
-    return breaks
+        if all(map(math.isfinite, breaks)) and breaks == sorted(set(breaks)):
+            return breaks
+    raise argparse.ArgumentTypeError(f"{text!r} isn't a list of numbers that rise, as 100,500,1000")
 
 
 def arguments():
@@ -99,8 +96,7 @@ def arguments():
     add("--title", help="its title (the name)")
     add("--abstract", default="", help="what it shows")
     add("--address", default="http://localhost/wms?", help="the address that clients will use")
-    add("--crs", choices=["4326", "3857"], default="4326",
-        help="degrees, or metres of the Mercator projection")
+    add("--crs", choices=DIGITS, default="4326", help="degrees, or metres of the Mercator projection")
     add("--extent", type=options.extent, metavar="MINX,MINY,MAXX,MAXY",
         help="in the map's units (that of the data); a negative one as --extent=-3,51,-2,52")
     add("--skip", action="store_true", help="leave out features that can't be drawn, and count them")
@@ -139,7 +135,6 @@ def arguments():
 
 
 # ---- the data
-
 
 @dataclass
 class Record:
@@ -271,8 +266,7 @@ class Source:
             raise MapError(f"{place}: attribute {name} is binary: keep another")
         if definition.GetSubType() == ogr.OFSTBoolean:
             return "true" if feature.GetFieldAsInteger(index) else "false"
-        if definition.GetType() in (ogr.OFTStringList, ogr.OFTIntegerList, ogr.OFTInteger64List,
-                                    ogr.OFTRealList):
+        if definition.GetTypeName().endswith("List"):
             return ",".join(map(str, feature.GetField(index)))
         with saying(f"{place}: attribute {name} isn't UTF-8: write its --encoding, as ISO-8859-1",
                     UnicodeError, AttributeError):
@@ -289,16 +283,12 @@ def unread(gdal, path, error):
     with contextlib.suppress(OSError, ValueError, KeyError, TypeError, AttributeError):
         listed = json.loads(Path(path).read_text(encoding="utf-8-sig"))["features"]
         for place, entry in enumerate(listed, 1):
-            shape = entry.get("geometry")
-            if shape is not None and not reads(gdal, shape):
+            shape, made = entry.get("geometry"), None
+            with contextlib.suppress(RuntimeError):
+                made = gdal.ogr.CreateGeometryFromJson(json.dumps(shape))
+            if shape is not None and made is None:
                 return f"feature {place}: its geometry is malformed: repair it ({text})"
     return f"GDAL can't read it: {text}"
-
-
-def reads(gdal, shape):
-    with contextlib.suppress(RuntimeError):
-        return gdal.ogr.CreateGeometryFromJson(json.dumps(shape)) is not None
-    return False
 
 
 def raw_parts(geometry, place):
@@ -324,12 +314,11 @@ def raw_parts(geometry, place):
 
 # ---- classes
 
-
 def shades(palette, count):
     """So many colours of a palette."""
     colors = [options.color(f"#{text}") for text in PALETTES[palette].split()]
     if palette in LISTED:
-        return [colors[i % len(colors)] for i in range(count)]
+        return list(islice(cycle(colors), count))
     return [mixed(colors, i / max(1, count - 1)) for i in range(count)]
 
 
@@ -337,22 +326,13 @@ def mixed(colors, share):
     """The colour at a share of the way along the colours."""
     along = share * (len(colors) - 1)
     first = min(int(along), len(colors) - 2)
-    rest = along - first
-    return tuple(round(a + (b - a) * rest) for a, b in zip(colors[first], colors[first + 1]))
-
-
-def range_names(breaks):
-    names = [f"{a:g} to {b:g}" for a, b in zip(breaks, breaks[1:])]
-    return [f"under {breaks[0]:g}", *names, f"{breaks[-1]:g} and more"]
+    return tuple(round(a + (b - a) * (along - first)) for a, b in zip(colors[first], colors[first + 1]))
 
 
 def range_of(text, breaks):
     """The index of the range that the number is in, or None."""
-    try:
-        value = float(text)
-    except ValueError:
-        return None
-    return None if math.isnan(value) else sum(value >= start for start in breaks)
+    with contextlib.suppress(ValueError):
+        return None if math.isnan(float(text)) else bisect_right(breaks, float(text))
 
 
 class Classes:
@@ -362,12 +342,11 @@ class Classes:
         self.asked = asked
         values = {record.values.get(asked.class_by, "") for record in records}
         self.names, self.colors = [], []
-        if asked.class_by is None:
-            if asked.classes or asked.ranges or asked.palette:
-                raise MapError(f"{asked.path}: --class, --ranges and --palette need --class-by and an "
-                               f"attribute")
-        elif asked.ranges:
-            self.names = range_names(asked.ranges)
+        if asked.class_by is None and (asked.classes or asked.ranges or asked.palette):
+            raise MapError(f"{asked.path}: --class, --ranges and --palette need --class-by and an attribute")
+        if asked.ranges:
+            between = [f"{a:g} to {b:g}" for a, b in zip(asked.ranges, asked.ranges[1:])]
+            self.names = [f"under {asked.ranges[0]:g}", *between, f"{asked.ranges[-1]:g} and more"]
             self.colors = shades(asked.palette or "heat", len(self.names))
         elif asked.classes:
             self.names = [texts.plain(name, notes, "--class") for name, _ in asked.classes]
@@ -375,7 +354,7 @@ class Classes:
             for name in self.names:
                 if name not in values:
                     notes.add(f"{asked.path}: no feature has {asked.class_by} {name!r}")
-        else:
+        elif asked.class_by is not None:
             self.names = sorted(values - {""})
             if len(self.names) >= MOST_CLASSES:
                 raise MapError(f"{asked.path}: attribute {asked.class_by} has {len(self.names)} values, and "
@@ -395,9 +374,9 @@ class Classes:
         return len(self.names) if index is None else index
 
     def drawn(self, kind, layer_name):
-        asked = self.asked
-        label = None if asked.label is None else Label(asked.label_color, asked.label_size,
-                                                       asked.label_position, asked.label_priority)
+        asked, label = self.asked, None
+        if asked.label is not None:
+            label = Label(asked.label_color, asked.label_size, asked.label_position, asked.label_priority)
         named = list(zip(self.names, self.colors))
         if self.others or not named:
             named.append((OTHER if named else layer_name, None))
@@ -418,11 +397,9 @@ def style_of(kind, asked, shade):
 
 # ---- the map
 
-
 def layers_of(gdal, asked, common, notes):
     """The layers of one --layer, one for each kind of geometry."""
-    source = Source(gdal, asked, notes)
-    records = list(source.records(common.crs, common.skip))
+    records = list(Source(gdal, asked, notes).records(common.crs, common.skip))
     if not records:
         raise MapError(f"{asked.path}: no feature is left to draw: --skip left out all of them")
     classes = Classes(asked, records, notes)
@@ -484,11 +461,11 @@ def main():
         made = the_map(common, notes)
         written = fitting.finished(made, common, notes)
         if common.query is not None:
-            common.query.write_text(picture_query(made, common.side) + "\n", encoding="ascii")
+            common.query.write_text(preview.picture_query(made, common.side) + "\n", encoding="ascii")
         if common.preview is not None:
-            painter = Painter(common.program, common.side)
+            painter = preview.Painter(common.program, common.side)
             whole = fitting.Fitting(made, argparse.Namespace(apart=True, by_class=False))
-            write_preview(common.preview, painter, made, written, partial(painter.source, whole))
+            preview.write(common.preview, painter, made, written, partial(painter.source, whole))
     except (MapError, OSError) as error:
         print(f"error: {error}", file=sys.stderr)
         return 1

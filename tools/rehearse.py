@@ -47,7 +47,6 @@ LENGTHS = (0,) * 12 + (4_000,) * 3 + (29_000,)
 class Rehearsal:
     def __init__(self, options, above):
         self.options, self.draw, above = options, random.Random(options.seed), pathlib.Path(above)
-        self.settled = SETTLED + options.slack
         self.ledger = Ledger(lambda words: print(time.strftime("%H:%M:%S violation: ") + words, flush=True),
                              set())
         self.numbers, self.done, self.over = itertools.count(1), collections.Counter(), threading.Event()
@@ -102,7 +101,7 @@ class Rehearsal:
         KINDS[kind](self, voter, self.draw.uniform(0.05, 0.8))
         self.last_end = time.monotonic()
         self.done[kind] += 1
-        if kind == "full" or sum(self.done.values()) % HEALING == 0:
+        if kind == "full" or self.done.total() % HEALING == 0:
             self.heal(kind)
 
     def kill(self, voter, pause):
@@ -161,7 +160,7 @@ class Rehearsal:
         self.watch()
         self.pausing.set()
         waiting, running, told, is_healed = list(self.voters), [], [], False
-        while not is_healed and (took := time.monotonic() - self.last_end) <= self.settled:
+        while not is_healed and (took := time.monotonic() - self.last_end) <= SETTLED + self.options.slack:
             waiting = [voter for voter in waiting if not self.is_taken(voter)]
             told = [voter.published(1) for voter in self.voters]
             running = [voter.known_as for voter in self.voters
@@ -189,7 +188,7 @@ class Rehearsal:
             client.start()
         until = time.monotonic() + self.options.seconds
         try:
-            while (sum(self.done.values()) < self.options.faults and time.monotonic() < until
+            while (self.done.total() < self.options.faults and time.monotonic() < until
                    and len(self.ledger.violations) < MOST_VIOLATIONS):
                 self.fault(self.draw.choice(self.options.kinds))
                 self.watch()
@@ -208,10 +207,9 @@ class Rehearsal:
     def report(self):
         healed = {f"times healed after {kind}: {sum(times) / len(times):.1f} s, {max(times):.1f} at most":
                   len(times) for kind, times in self.healed.items()}
-        counts = {**self.done, **healed, **self.ledger.counts}
-        for what, count in sorted(counts.items()):
+        for what, count in sorted({**self.done, **healed, **self.ledger.counts}.items()):
             print(f"{count:5} {what}")
-        print(f"seed {self.options.seed}: {sum(self.done.values())} faults, "
+        print(f"seed {self.options.seed}: {self.done.total()} faults, "
               f"{max(self.ledger.most.values(), default=0)} sequences, "
               f"{len(self.ledger.violations)} violations")
 
@@ -239,7 +237,7 @@ def main():
     finally:
         rehearsal.stop()
     rehearsal.report()
-    failed = bool(rehearsal.ledger.violations) or sum(rehearsal.done.values()) < options.faults
+    failed = bool(rehearsal.ledger.violations) or rehearsal.done.total() < options.faults
     print(f"{time.monotonic() - begun:.0f} seconds")
     if failed:
         print(f"the logs are in {above}")

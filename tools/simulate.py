@@ -8,13 +8,14 @@ replicas and faults were left out as long as it still violates. `--renew` plays 
 that, and puts what was counted there into it, unless a play violates.
 """
 
-import pathlib
+import bisect
 import random
 import re
 import resource
 import subprocess
 import sys
 import time
+from collections import Counter
 from collections.abc import Callable
 from dataclasses import dataclass, field, replace
 
@@ -49,15 +50,7 @@ class Plan:
         return replace(self, kinds={name: self.kinds[name] for name in self.kinds if name != kind})
 
 
-@dataclass(frozen=True)
-class Played:
-    """What a play violated, and what was counted."""
-    violations: list[str]
-    counts: dict[str, int]
-
-
 def plan_of(seed: int) -> Plan:
-    """The plan of a seed."""
     draw = random.Random(seed)
     kinds = {kind: draw.randint(1, 10) for kind in WEIGHTS if draw.random() < 0.6}
     kinds |= {kind: draw.randint(1, most) for kind, most in PER_MILLION.items() if draw.random() < 0.5}
@@ -83,32 +76,23 @@ def given_in(report: str) -> dict[int, str]:
     return {int(line): answer.removesuffix("\\n") for line, answer in found}
 
 
-def counts_in(line: str) -> dict[str, int]:
-    """The numbers of the line that tells what happened, by their words."""
-    return {word: int(number) for word, number in re.findall(r"([a-z-]+) (\d+)", line)}
-
-
-def play(program: str, seed: int, plan: Plan) -> Played:
-    """What a play answered."""
+def play(program: str, seed: int, plan: Plan) -> tuple[list[str], dict[str, int]]:
+    """What a play violated, and what was counted."""
     ran = subprocess.run([program], input=case_of(seed, plan), capture_output=True, text=True)
     for answer in given_in(ran.stdout).values():
         *violations, happened = answer.split("\\n")
-        return Played(violations, counts_in(happened))
-    return Played([f"the program ended with status {ran.returncode}", ran.stdout, ran.stderr[-2_000:]], {})
+        return violations, {word: int(number) for word, number in re.findall(r"([a-z-]+) (\d+)", happened)}
+    return [f"the program ended with status {ran.returncode}", ran.stdout, ran.stderr[-2_000:]], {}
 
 
 def least(low: int, high: int, holds: Callable[[int], bool]) -> int:
     """A number at which it holds, if it does at the greater one, and not at the number before."""
-    while low < high:
-        middle = (low + high) // 2
-        low, high = (low, middle) if holds(middle) else (middle + 1, high)
-    return high
+    return low + bisect.bisect_left(range(low, high), True, key=holds)
 
 
 def smaller(seed: int, plan: Plan, violates: Callable[[int, Plan], bool]) -> Plan:
     """A plan of fewer faults that violates too."""
-    drawn = 2_000 * plan.seconds
-    last = least(0, drawn, lambda number: violates(seed, plan.having(last=number)))
+    last = least(0, 2_000 * plan.seconds, lambda number: violates(seed, plan.having(last=number)))
     plan = plan.having(last=last)
     first = last + 1 - least(0, last, lambda number: violates(seed, plan.having(first=last + 1 - number)))
     plan = plan.having(first=first)
@@ -123,10 +107,6 @@ def smaller(seed: int, plan: Plan, violates: Callable[[int, Plan], bool]) -> Pla
     return plan
 
 
-def tell(counts: dict[str, int]) -> str:
-    return ", ".join(f"{word} {count}" for word, count in counts.items())
-
-
 def most_memory() -> str:
     """The most memory that a process of plays took, which grows with farms that don't give theirs back."""
     return f"{resource.getrusage(resource.RUSAGE_CHILDREN).ru_maxrss // 1024} MiB at most"
@@ -134,27 +114,28 @@ def most_memory() -> str:
 
 def search(program: str, first: int, minutes: float) -> int:
     """Plays seeds until the time is over or one violates."""
-    ends, seed, sums = time.monotonic() + 60 * minutes, first, dict[str, int]()
+    ends, seed, sums = time.monotonic() + 60 * minutes, first, Counter[str]()
     while time.monotonic() < ends:
         plan = plan_of(seed)
-        played = play(program, seed, plan)
-        if played.violations:
-            print(*played.violations, "it is played again by", case_of(seed, plan.having(log=1)), sep="\n")
-            fewer = smaller(seed, plan, lambda number, plan: bool(play(program, number, plan).violations))
+        violations, counts = play(program, seed, plan)
+        if violations:
+            print(*violations, "it is played again by", case_of(seed, plan.having(log=1)), sep="\n")
+            fewer = smaller(seed, plan, lambda number, plan: bool(play(program, number, plan)[0]))
             print("and with fewer faults by", case_of(seed, fewer.having(log=1)), sep="\n")
             return 1
-        for word, count in played.counts.items():
-            sums[word] = sums.get(word, 0) + count * (word != "digest")
+        sums.update(counts)
         seed += 1
-    sums.pop("digest", None)
-    print(f"{seed - first} plays, none violates, {most_memory()}: {tell(sums)}")
+    del sums["digest"]
+    told = ", ".join(f"{word} {count}" for word, count in sums.items())
+    print(f"{seed - first} plays, none violates, {most_memory()}: {told}")
     return 0
 
 
 def renew(program: str) -> int:
     """Plays the table, and writes what was counted into it."""
-    ran = subprocess.run([program], input=TABLE.read_text(), capture_output=True, text=True)
-    lines = TABLE.read_text().splitlines()
+    table = TABLE.read_text()
+    ran = subprocess.run([program], input=table, capture_output=True, text=True)
+    lines = table.splitlines()
     for number, answer in given_in(ran.stdout).items():
         said, _, _ = lines[number - 1].partition(" => ")
         if "\\n" in answer:
@@ -173,9 +154,6 @@ def main() -> int:
     options.add_argument("--seed", type=int, default=FIRST_SEED, help=f"the first one ({FIRST_SEED})")
     options.add_argument("--renew", action="store_true", help="play the table of CI, and renew its numbers")
     told = options.parse_args()
-    if not pathlib.Path(told.program).exists():
-        print(f"missing: {told.program} (rt ci or rt run makes it)", file=sys.stderr)
-        return 2
     return renew(told.program) if told.renew else search(told.program, told.seed, told.minutes)
 
 

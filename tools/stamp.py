@@ -28,8 +28,7 @@ class Unstamped(Exception):
 
 
 def git(*words):
-    return subprocess.run(["git", "-C", str(TOP), *words], capture_output=True, text=True,
-                          check=False).stdout.strip()
+    return subprocess.run(["git", "-C", TOP, *words], capture_output=True, text=True).stdout.strip()
 
 
 def revision_now():
@@ -38,26 +37,12 @@ def revision_now():
     return UNKNOWN if changed else git("rev-parse", "HEAD") or UNKNOWN
 
 
-def newest_source():
-    """The newest of the sources, definitions and proofs of the program."""
-    files = (file for crate in below("wfarm") for file in (TOP / "crates" / crate).glob("[sp]*/**/*.*"))
-    return max(files, key=lambda file: file.stat().st_mtime)
-
-
 def fail_if_stale(program):
-    """Fails where the program that `rt ci` left was made before its sources became what they are."""
-    newest = newest_source()
+    """Fails where the program that `rt ci` left is older than a source, definition or proof of it."""
+    files = (file for crate in below("wfarm") for file in (TOP / "crates" / crate).glob("[sp]*/**/*.*"))
+    newest = max(files, key=lambda file: file.stat().st_mtime)
     if program == PROGRAM and program.stat().st_mtime < newest.stat().st_mtime:
         raise Unstamped(f"{newest.relative_to(TOP)} is newer: `rt ci` makes the program of it")
-
-
-def stamped(program, revision):
-    """The bytes of the program with that revision in each of its places."""
-    for place in PLACES:
-        if place.format(UNKNOWN).encode() not in program:
-            raise Unstamped(f"no {place.format('0..0')} in it")
-        program = program.replace(place.format(UNKNOWN).encode(), place.format(revision).encode())
-    return program
 
 
 def revision_of(word):
@@ -68,9 +53,14 @@ def revision_of(word):
 
 
 def write_stamped(program, revision, path):
-    """Writes the program with that revision, as a file that can be run."""
+    """Writes the program with that revision in each of its places, as a file that can be run."""
     fail_if_stale(program)
-    path.write_bytes(stamped(program.read_bytes(), revision))
+    data = program.read_bytes()
+    for place in PLACES:
+        if place.format(UNKNOWN).encode() not in data:
+            raise Unstamped(f"no {place.format('0..0')} in it")
+        data = data.replace(place.format(UNKNOWN).encode(), place.format(revision).encode())
+    path.write_bytes(data)
     path.chmod(0o755)
 
 
@@ -88,7 +78,7 @@ def main():
     except (OSError, Unstamped) as error:
         print(f"{options.program}: {error}", file=sys.stderr)
         return 1
-    return subprocess.run([options.to.resolve(), "--version"], check=False).returncode
+    return subprocess.run([options.to.resolve(), "--version"]).returncode
 
 
 if __name__ == "__main__":

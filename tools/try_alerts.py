@@ -6,6 +6,7 @@ well; and what promtool says of the metrics.
 Wants promtool (package prometheus).
 """
 
+import json
 import pathlib
 import re
 import subprocess
@@ -57,13 +58,13 @@ def series_of(short):
 
 
 def case_of(alerts, series):
-    """A test of promtool: after ten minutes of these samples each of these alerts is there, and no other."""
-    rows = "".join(f"      - series: '{series_of(name)}'\n        values: '{value}x60'\n"
-                   for name, value in series.items())
-    names = re.findall(r"alert: (\w+)", RULES.read_text())
-    tests = "".join(f"      - eval_time: 10m\n        alertname: {name}\n        exp_alerts: []\n"
-                    for name in names if name not in alerts)
-    return f"  - interval: 15s\n    input_series:\n{rows}    alert_rule_test:\n{tests}"
+    """A test of promtool: after ten minutes of these samples no alert is there but these."""
+    return {"interval": "15s",
+            "input_series": [{"series": series_of(name), "values": f"{value}x60"}
+                             for name, value in series.items()],
+            "alert_rule_test": [{"eval_time": "10m", "alertname": name, "exp_alerts": []}
+                                for name in re.findall(r"alert: (\w+)", RULES.read_text())
+                                if name not in alerts]}
 
 
 def try_rules(trial, _, folder):
@@ -74,8 +75,8 @@ def try_rules(trial, _, folder):
     file = folder / "cases.yml"
 
     def passes(alerts, series):
-        file.write_text(f"rule_files: ['{RULES}']\nevaluation_interval: 15s\ntests:\n"
-                        + case_of(alerts, series))
+        file.write_text(json.dumps({"rule_files": [str(RULES)], "evaluation_interval": "15s",
+                                    "tests": [case_of(alerts, series)]}))
         return promtool("test", "rules", file)
 
     code, told = passes(set(), WELL)
@@ -94,13 +95,10 @@ def metrics_of(process):
 
 def try_metrics(trial, program, folder):
     with Nodes(program, folder / "farm", 1, has_readers=True) as nodes:
-        replica = Replica(program, folder / "replica", nodes.called, *nodes.readers)
-        replica.start()
-        try:
+        with Replica(program, folder / "replica", nodes.called, *nodes.readers) as replica:
+            replica.start()
             seconds_until(lambda: metrics_of(replica), PATIENCE, 0.1)
             texts = {"a node": metrics_of(nodes[0]), "a replica": metrics_of(replica)}
-        finally:
-            replica.kill()
     told = set(re.findall(r"(?m)^# TYPE (wfarm_\w+)", "".join(texts.values())))
     lacks = set(re.findall(r"\bwfarm_\w+", RULES.read_text())) - told
     trial.see("each metric that the rules name is told", not lacks, lacks)
@@ -118,8 +116,7 @@ def try_rejection(trial, program, folder):
     nodes[1].init("roads")
     counted = re.compile(r'(?m)^wfarm_rejected_peers_total\{peer="1"\} [1-9]')
     try:
-        for i in range(2):
-            nodes.start(i)
+        nodes.start(0, 1)
         trial.wait("a peer of another farm is counted as rejected",
                    lambda: counted.search(metrics_of(nodes[0])), PATIENCE)
     finally:

@@ -22,7 +22,7 @@ import shutil
 import subprocess
 import sys
 import tempfile
-from dataclasses import dataclass
+from typing import NamedTuple
 
 from farmkit.command import parser as parser_of
 from farmkit.repository import TOP, changed_files, dependencies
@@ -30,8 +30,7 @@ from farmkit.repository import TOP, changed_files, dependencies
 CRATES = TOP / "crates"
 
 
-@dataclass(frozen=True)
-class Mutant:
+class Mutant(NamedTuple):
     """An edit of a crate's code that the prover has to reject."""
 
     name: str

@@ -6,6 +6,7 @@ FILE gets the farm's own picture beside the reprojected one. Wants Debian's mapp
 and python3-pyproj), nginx and openssl.
 """
 
+import contextlib
 import io
 import pathlib
 import re
@@ -46,9 +47,6 @@ class MapProxy:
     def ask(self, path):
         return ask(loopback(self.port), f"/{path}", None, PATIENCE)
 
-    def wait(self):
-        seconds_until(lambda: self.ask("").status, PATIENCE, 0.2)
-
     def picture(self, version, system, box):
         """A picture, as an image; None where it isn't one."""
         key = "CRS" if version == "1.3.0" else "SRS"
@@ -77,7 +75,7 @@ def attempt(trial, proxy, picture):
     own = image_of(trial.nginx.ask(
         f"wms?VERSION=1.3.0&REQUEST=GetMap&LAYERS=roads&STYLES=&CRS=CRS:84&BBOX={','.join(map(str, BOX))}"
         f"&WIDTH={SIDE}&HEIGHT={SIDE}&FORMAT=image/x-portable-pixmap")[2])
-    proxy.wait()
+    seconds_until(lambda: proxy.ask("").status, PATIENCE, 0.2)
     newer, older = proxy.picture("1.3.0", "CRS:84", BOX), proxy.picture("1.1.1", "EPSG:4326", BOX)
     trial.see("PNG has the farm's own pixels", newer is not None and newer.tobytes() == own.tobytes(), newer)
     trial.see("WMS 1.1.1 has the same", older is not None and older.tobytes() == own.tobytes(), older)
@@ -85,8 +83,8 @@ def attempt(trial, proxy, picture):
     box = to_metres.transform_bounds(*BOX)
     other = proxy.picture("1.1.1", SYSTEM, box)
     common = [colour for colour, count in colours(own).items() if count > SIDE]
-    trial.see(f"{SYSTEM}: a picture with the farm's colours", other is not None
-              and all(colours(other).get(colour) for colour in common), common)
+    trial.see(f"{SYSTEM}: a picture with the farm's colours",
+              other is not None and colours(other).keys() >= {*common}, common)
     before = proxy.ask(TILE)[1]
     tile = image_of(before)
     trial.see("a tile of Mercator with something on it", tile is not None and tile.size == (256, 256)
@@ -113,21 +111,18 @@ def main():
         return tell_missing(lacking)
     for name in ("PIL.Image", "pyproj"):
         of_debian(name)
-    with tempfile.TemporaryDirectory(prefix="wfarm-mapproxy-") as name:
+    with tempfile.TemporaryDirectory(prefix="wfarm-mapproxy-") as name, contextlib.ExitStack() as ends:
         folder = pathlib.Path(name)
         folder.chmod(0o777)
-        trial, proxy = Trial(options.program, folder), None
-        try:
-            trial.begin(RED)
-            trial.publish((EXAMPLES / "roads.map").read_bytes())
-            trial.nginx.start(trial.configuration("county"))
-            proxy = MapProxy(folder, trial.nginx)
-            attempt(trial, proxy, options.picture)
-        finally:
-            if proxy is not None:
-                proxy.end()
-            trial.nginx.end()
-            trial.nodes.end()
+        trial = Trial(options.program, folder)
+        ends.callback(trial.nodes.end)
+        ends.callback(trial.nginx.end)
+        trial.begin(RED)
+        trial.publish((EXAMPLES / "roads.map").read_bytes())
+        trial.nginx.start(trial.configuration("county"))
+        proxy = MapProxy(folder, trial.nginx)
+        ends.callback(proxy.end)
+        attempt(trial, proxy, options.picture)
     return trial.conclude()
 
 

@@ -51,8 +51,7 @@ class Trial(trial.Trial):
 
     def publish(self, text):
         """Publishes a map at the first node, and waits until all have it."""
-        self.nodes.publish_whole(0, text)
-        self.nodes.level()
+        self.nodes.publish_all(text)
 
     def anew(self, farm):
         """A new farm at the addresses of the old one."""

@@ -119,14 +119,11 @@ def clients(nodes):
 
 def told_to(nodes, i, sent, source="127.0.0.1"):
     """What the peers' port of a node answers to these bytes, until it closes; and the seconds until then."""
-    begun = time.time()
-    with socket.create_connection(("127.0.0.1", nodes.peer[i]), timeout=10,
-                                  source_address=(source, 0)) as stranger:
-        try:
-            stranger.sendall(sent)
-            came = received(stranger)
-        except ConnectionError:
-            came = b""
+    begun, came = time.time(), b""
+    with (socket.create_connection(("127.0.0.1", nodes.peer[i]), 10, (source, 0)) as stranger,
+          contextlib.suppress(ConnectionError)):
+        stranger.sendall(sent)
+        came = received(stranger)
     return came, round(time.time() - begun, 1)
 
 
@@ -170,13 +167,11 @@ def unknown(nodes):
 
 def dual(nodes):
     """nodes that listen at [::], and whose peers are listed by addresses of IPv4"""
-    try:
-        socket.create_server(("::", 0), family=socket.AF_INET6, dualstack_ipv6=True).close()
-    except (OSError, ValueError):
+    if not socket.has_dualstack_ipv6():
         return "left out: no IPv6 here"
     nodes.kill_all()
     for i in range(NODES):
-        nodes.start(i, "--listen", f"[::]:{nodes.peer[i]}")
+        nodes.start(i, more=("--listen", f"[::]:{nodes.peer[i]}"))
     until(lambda: all(nodes[i].metrics().get("wfarm_peers_connected") == NODES - 1 for i in range(NODES)))
     for i in range(NODES):
         nodes.publish_whole(i, a_map(f"dual{i}"))
@@ -244,13 +239,10 @@ def forgot(nodes):
     until(lambda: all(nodes.health(i)[0] == 200 for i in range(NODES)))
     nodes.level()
     shutil.copytree(nodes[2].folder, nodes.folder / "clone")
-    clone = nodes.beside(2, nodes.folder / "clone")
-    clone.start()
-    try:
+    with nodes.beside(2, nodes.folder / "clone") as clone:
+        clone.start()
         want_none(suspension(nodes, 2, PATIENCE))
         said.append(nodes.health(2)[1])
-    finally:
-        clone.kill()
     return "; ".join(said)
 
 

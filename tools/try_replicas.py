@@ -100,14 +100,6 @@ def misled(options, top):
 QUESTION_BYTES = 76
 
 
-def pieces_of(connection, count):
-    """So many bytes of a connection; fewer where it ends."""
-    came = b""
-    while len(came) < count and (piece := connection.recv(count - len(came))):
-        came += piece
-    return came
-
-
 class Repeater(Listener):
     """A source that asks a voter's readers' port what it is asked, and sends each reply twice."""
 
@@ -116,11 +108,12 @@ class Repeater(Listener):
         super().__init__()
 
     def serve(self, asker):
-        with connect(self.voter, PATIENCE) as voter:
-            while len(question := pieces_of(asker, QUESTION_BYTES)) == QUESTION_BYTES:
+        with (connect(self.voter, PATIENCE) as voter, asker.makefile("rb") as asked,
+              voter.makefile("rb") as told):
+            while len(question := asked.read(QUESTION_BYTES)) == QUESTION_BYTES:
                 voter.sendall(question)
-                head = pieces_of(voter, 4)
-                reply = head + pieces_of(voter, int.from_bytes(head, "big"))
+                head = told.read(4)
+                reply = head + told.read(int.from_bytes(head, "big"))
                 asker.sendall(reply)
                 # not in one piece with it: that would be no reply at all
                 time.sleep(0.01)
@@ -231,8 +224,9 @@ def tape(options, top):
         for name, content, left, told in cases:
             begin_with(farm, replica, content, left, told)
             want(f"{name}: the tape isn't whole again", file.read_bytes() == whole)
-        metric = write_no_more(farm, replica, len(whole) + 100)
-    print(f"tape: whole, torn, missing and damaged ones; one that can't be written any more: {metric}")
+        write_no_more(farm, replica, len(whole) + 100)
+    print("tape: whole, torn, missing and damaged ones; one that can't be written any more: "
+          "wfarm_tape_failed 1")
 
 
 def begin_with(farm, replica, content, left, told):
@@ -251,18 +245,15 @@ def begin_with(farm, replica, content, left, told):
 
 
 def write_no_more(farm, replica, most):
-    """What a replica tells whose files may have so many bytes: it learns on."""
+    """A replica whose files may have so many bytes learns on, and tells that its tape failed."""
     # (its log would be a file too, so it goes to a pipe)
     replica.start(before=UNSIGNALLED, preexec_fn=limited(most), stderr=subprocess.PIPE)
-    try:
+    with replica:
         until(lambda: replica.published() == 3, 20)
         farm.publish_numbers(4, 5)
         want("it doesn't learn on", is_so_within(lambda: replica.published() == 5, 20))
         want("a replica took a publish", replica.ask("/publish", map_of(9)).status == 404)
         want("not told at the operator's port", replica.metrics().get("wfarm_tape_failed") == 1)
-    finally:
-        replica.kill()
-    return "wfarm_tape_failed 1"
 
 
 def chain(options, top):

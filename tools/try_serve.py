@@ -29,10 +29,10 @@ QUERY = ("VERSION=1.3.0&REQUEST=GetMap&LAYERS=sq&STYLES=&CRS=EPSG:3857&BBOX=0,0,
          "&FORMAT=image/x-portable-pixmap")
 
 
-def square(size, inside):
+def square(inside):
+    """The picture of MAP by QUERY, with this colour inside."""
     white = b"\xff\xff\xff"
-    rows = [[inside if 1 <= x <= 2 and 1 <= y <= 2 else white for x in range(size)] for y in range(size)]
-    return b"P6\n%d %d\n255\n" % (size, size) + b"".join(b"".join(row) for row in rows)
+    return b"P6\n4 4\n255\n" + 4 * white + 2 * (white + 2 * inside + white) + 4 * white
 
 
 def three_nodes(seen, program, folder):
@@ -46,10 +46,10 @@ def three_nodes(seen, program, folder):
     seen.same("equal capabilities", documents.count(documents[0]), 3)
     seen.same("the sequence in them", b'updateSequence="1"' in documents[0][1], True)
     pictures = [farm.ask("/wms?" + QUERY) for _ in range(3)]
-    seen.same("equal pictures", pictures, [(200, square(4, b"\xff\x00\x00"))] * 3)
+    seen.same("equal pictures", pictures, [(200, square(b"\xff\x00\x00"))] * 3)
     seen.same("a second publish", farm.ask("/publish", blue), (202, b"accepted for 2\n"))
-    seen.same("the old map", farm.ask("/wms?%s&MAPSEQ=1" % QUERY), (200, square(4, b"\xff\x00\x00")))
-    seen.same("the new map", farm.ask("/wms?" + QUERY), (200, square(4, b"\x00\x00\xff")))
+    seen.same("the old map", farm.ask("/wms?%s&MAPSEQ=1" % QUERY), (200, square(b"\xff\x00\x00")))
+    seen.same("the new map", farm.ask("/wms?" + QUERY), (200, square(b"\x00\x00\xff")))
     seen.same("no map", farm.ask("/publish", b'MAP INCLUDE "x" END'), (400, b"M5 4\n"))
     seen.same("no such path", farm.ask("/x")[0], 404)
     seen.same("a publish by GET", farm.ask("/publish")[0], 405)
@@ -85,18 +85,12 @@ def farm_with(program, folder, colors):
     farm.end()
 
 
-def copied(folder, name):
-    copy = folder.parent / name
-    shutil.copytree(folder, copy)
-    return copy
-
-
 def rejections(seen, program, folder):
     """Starts that are rejected for a cause, which the log names."""
     farm_with(program, folder, ["255 0 0", "0 0 255"])
     other = folder.parent / "other"
     farm_with(program, other, ["0 255 0"])
-    copy = copied(folder, "foreign")
+    copy = shutil.copytree(folder, folder.parent / "foreign")
     shutil.copy(other / "node-1.tape", copy / "node-1.tape")
     differ = f'cause="tapes differ" file="{copy}/node-0.tape" other="{copy}/node-1.tape" sequence=1'
     for place, nodes, cause in ((folder, 5, "one of 3 nodes"), (copy, 3, differ)):
@@ -118,7 +112,7 @@ def beginnings(seen, program, folder):
     seen.same("a folder of one tape without a byte", start(program, empty)[0], 0)
     seen.same("its file", bool(re.fullmatch(form % "empty", (empty / "farm").read_text())), True)
     seen.same("two folders, two marks", (empty / "farm").read_text() != text, True)
-    copy = copied(folder, "found")
+    copy = shutil.copytree(folder, folder.parent / "found")
     (copy / "farm").unlink()
     seen.same("a folder that is taken over", start(program, copy)[0], 0)
     seen.same("its file", bool(re.fullmatch(form % "found", (copy / "farm").read_text())), True)
@@ -145,7 +139,7 @@ def log(seen, program, folder):
 
 def files_that_cannot_grow(seen, program, folder):
     """The signal ends the program; without the signal a publish is answered 503."""
-    copy = copied(folder, "limited")
+    copy = shutil.copytree(folder, folder.parent / "limited")
     start(program, copy)  # shortens the tapes
     most = max(map(len, contents(copy).values())) + 20
     farm = Farm(program, 3, copy, preexec_fn=limited(most))
@@ -157,7 +151,7 @@ def files_that_cannot_grow(seen, program, folder):
     farm.end()
     more = Farm(program, 2, copy)
     seen.same("with more room what was published is there", more.ask(f"/wms?{QUERY}&MAPSEQ=1"),
-              (200, square(4, b"\xff\x00\x00")))
+              (200, square(b"\xff\x00\x00")))
     seen.same("and a publish is taken", more.ask("/publish", (MAP % "9 9 9").encode())[0], 202)
     more.end()
 

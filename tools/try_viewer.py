@@ -23,16 +23,21 @@ import threading
 import time
 import urllib.parse
 import urllib.request
+from functools import partial
 
 from farmkit.command import add_slack, lacks, of_debian, program_parser, tell_missing
 from farmkit.nginx import Nginx, certificate, changed, whole
 from farmkit.nodes import Nodes
 from farmkit.processes import Farm
-from farmkit.repository import EXAMPLES
+from farmkit.repository import EXAMPLES, TOP
 from farmkit.trial import Trial
-from farmkit.web import Listener, ask, connect, loopback, received
+from farmkit.web import Listener, ask, connect, end_of, loopback, received
 
 NODES = 3
+# scripts for the page: its tiles as they are shown, and whether all are loaded
+READ, LOADED = ((TOP / "tools" / "viewer" / name).read_text() for name in ("tiles.js", "loaded.js"))
+# a value as it stands in an address
+encoded = partial(urllib.parse.quote, safe="")
 # keys as a WebDriver sends them
 ARROW_LEFT, ARROW_RIGHT, ADD, SUBTRACT = "\ue012", "\ue014", "\ue025", "\ue027"
 LABEL = bytes((1, 2, 3))  # the colour of labels in ACROSS
@@ -79,16 +84,12 @@ class Relay(Listener):
     @staticmethod
     def request(client):
         came = b""
-        while b"\r\n\r\n" not in came:
+        while b"\r\n\r\n" not in came or len(came) < (end_of(came) or 0):
             piece = client.recv(1 << 16)
             if not piece:
                 raise OSError("no request")
             came += piece
-        head, _, body = came.partition(b"\r\n\r\n")
-        length = re.search(rb"(?i)content-length: *(\d+)", head)
-        while length and len(body) < int(length[1]):
-            body += client.recv(1 << 16)
-        return head + b"\r\n\r\n" + body
+        return came
 
     def ask(self, path, body=None):
         return ask(loopback(self.port), f"/{path}", body, 60)
@@ -114,9 +115,8 @@ class PageNginx(Nginx):
             ("/usr/share/wfarm/viewer", str(EXAMPLES / "viewer")),
             ("http://127.0.0.1:8080", f"http://127.0.0.1:{relay.port}")))
         if wms:
-            site = site.replace("location / {",
-                                "location = /other { proxy_pass %s; }\n    location / {"
-                                % wms.partition("?")[0])
+            other = f"location = /other {{ proxy_pass {wms.partition('?')[0]}; }}\n    location / {{"
+            site = site.replace("location / {", other)
         self.start(whole(folder, site))
 
 
@@ -137,27 +137,23 @@ class LocalNginx(Nginx):
         return int(asked[-1]) if asked else None
 
 
-# scripts for the page: its tiles as they are shown, and whether all are loaded
-READ, LOADED = ((pathlib.Path(__file__).parent / "viewer" / name).read_text()
-                for name in ("tiles.js", "loaded.js"))
-
-
 class Page:
     def __init__(self, browser, shots):
-        self.browser, self.shots = browser, shots
+        self.browser, self.shots, self.run = browser, shots, browser.execute_script
+        self.element = partial(browser.find_element, "id")
 
     def text(self, name):
-        return self.browser.find_element("id", name).text
+        return self.element(name).text
 
-    def run(self, script, *words):
-        return self.browser.execute_script(script, *words)
+    def says(self, **texts):
+        return all(self.text(name) == text for name, text in texts.items())
 
     def set_to(self, name, value):
         self.run("const it = document.getElementById(arguments[0]); it.value = arguments[1]; "
-                 "it.dispatchEvent(new Event('input'));it.dispatchEvent(new Event('change'))" , name, value)
+                 "it.dispatchEvent(new Event('input'));it.dispatchEvent(new Event('change'))", name, value)
 
     def click(self, name):
-        self.browser.find_element("id", name).click()
+        self.element(name).click()
 
     def loaded(self, name="left"):
         return self.run(LOADED, name)
@@ -165,12 +161,24 @@ class Page:
     def tiles(self, name="left"):
         return json.loads(self.browser.execute_async_script(READ, name))
 
+    def has(self, word, name="left"):
+        """Whether every tile is there, and the query for them has this word."""
+        return self.loaded(name) and word in self.tiles(name)[0]["path"]
+
+    def nodes(self):
+        return self.text("nodes").splitlines()
+
+    def stand_at(self, sequence):
+        """Whether each node is shown with this sequence."""
+        return [it.split()[:4] for it in self.nodes()] == [["node", str(k), "published", str(sequence)]
+                                                           for k in range(NODES)]
+
     def zoom(self, level):
         self.run("const it = state.maps.left.map; const [a, b, c] = extent();"
                  "it.setView([b + (c - a) / 2, (a + c) / 2], arguments[0], {animate: false})", level)
 
     def publish(self, file):
-        self.browser.find_element("id", "file").send_keys(str(file))
+        self.element("file").send_keys(str(file))
         self.click("publish")
 
     def shoot(self, name):
@@ -188,14 +196,14 @@ def pixels_of(ppm):
     return ppm[head.end():] if head else None
 
 
-def alike(tiles, ask):
-    """How many tiles have the pixels of the server's own answer, and how many don't."""
-    good = sum(base64.b64decode(it["rgb"]) == pixels_of(ask(it["path"])[1]) for it in tiles)
-    return good, len(tiles) - good
+def unlike(tiles, ask):
+    """How many tiles have other pixels than the server's own answer."""
+    return sum(base64.b64decode(it["rgb"]) != pixels_of(ask(it["path"])[1]) for it in tiles)
 
 
 def see_pixels(look, tiles, ask, whose, least=1):
-    good, bad = alike(tiles, ask)
+    bad = unlike(tiles, ask)
+    good = len(tiles) - bad
     look.see(f"{good} tiles have the pixels of {whose}, {bad} don't", good >= least and not bad)
 
 
@@ -213,19 +221,15 @@ def tint(page, look, what, seconds, is_tinted=True):
 def together(tiles, side):
     """One picture of the tiles 0 to side - 1 in both directions."""
     by_place = {(it["x"], it["y"]): base64.b64decode(it["rgb"]) for it in tiles}
-    rows = []
-    for y in range(side):
-        row = [by_place[x, y] for x in range(side)]
-        rows += [part[768 * k:768 * (k + 1)] for k in range(256) for part in row]
-    return b"".join(rows)
+    return b"".join(by_place[x, y][768 * k:768 * (k + 1)]
+                    for y in range(side) for k in range(256) for x in range(side))
 
 
 def try_first_maps(page, relay, look):
     look.wait("nothing is published yet, and the page says so",
-              lambda: page.text("message") == "Nothing is published yet.", 15)
+              lambda: page.says(message="Nothing is published yet."), 15)
     relay.ask("publish", (ACROSS % (1, "200 220 190")).encode())
-    look.wait("a publish is seen", lambda: page.text("shown") == "1 of 1"
-              and page.text("title") == "Across 1", 8)
+    look.wait("a publish is seen", lambda: page.says(shown="1 of 1", title="Across 1"), 8)
     look.wait("every tile is there", page.loaded, 30)
     page.zoom(2)
     look.wait("and at level 2", page.loaded, 30)
@@ -239,16 +243,14 @@ def try_first_maps(page, relay, look):
     look.see(f"a label crosses the border between them ({borders[0]} and {borders[1]} of its pixels beside it)",
              min(borders) > 0)
     page.shoot("level-2")
-    look.wait("three nodes stand at 1",
-              lambda: [it.split()[:4] for it in page.text("nodes").splitlines()]
-              == [["node", str(k), "published", "1"] for k in range(NODES)], 8)
+    look.wait("three nodes stand at 1", lambda: page.stand_at(1), 8)
 
 
 def judged(tiles, relay):
     """Of tinted tiles: how many name the node that the relay knows, another one, and none."""
     said = [(re.fullmatch(r"node (\d+)", it["by"] or ""), relay.drew(it["path"])) for it in tiles]
     true = sum(bool(it and int(it[1]) == drew) for it, drew in said)
-    unknown = sum(it is None for it, _ in said)
+    unknown = [it for it, _ in said].count(None)
     return true, len(tiles) - true - unknown, unknown
 
 
@@ -289,39 +291,37 @@ def try_renderers(page, relay, look):
 
 def try_history(page, relay, look):
     relay.ask("publish", (ACROSS % (2, "230 150 120")).encode())
-    look.wait("a second publish is seen", lambda: page.text("shown") == "2 of 2", 8)
-    look.wait("and its tiles", lambda: page.loaded() and not alike(page.tiles(), relay.ask)[1], 30)
-    slider = page.browser.find_element("id", "sequence")
-    slider.send_keys(ARROW_LEFT)
-    look.wait("the slider's left arrow shows the sequence before",
-              lambda: page.text("shown") == "1 of 2" and page.loaded()
-              and "MAPSEQ=1" in page.tiles()[0]["path"] and not alike(page.tiles(), relay.ask)[1], 30)
+    look.wait("a second publish is seen", lambda: page.says(shown="2 of 2"), 8)
+    look.wait("and its tiles", lambda: page.loaded() and not unlike(page.tiles(), relay.ask), 30)
+    page.element("sequence").send_keys(ARROW_LEFT)
+    look.wait("the slider's left arrow shows the sequence before", lambda: page.says(shown="1 of 2")
+              and page.has("MAPSEQ=1") and not unlike(page.tiles(), relay.ask), 30)
     page.set_to("other", 2)
     page.click("compare")
     look.wait("two sequences side by side", lambda: page.loaded("right") and page.loaded(), 30)
-    look.see("the right one is the other sequence, pixel by pixel", "MAPSEQ=2" in page.tiles("right")[0]["path"]
-             and not alike(page.tiles("right"), relay.ask)[1])
+    look.see("the right one is the other sequence, pixel by pixel",
+             page.has("MAPSEQ=2", "right") and not unlike(page.tiles("right"), relay.ask))
     page.run("state.maps.left.map.panBy([120, 40], {animate: false})")
-    look.wait("both move together",
-              lambda: page.run("const c = (id) => state.maps[id].map.getCenter(); return "
-                               "c('left').distanceTo(c('right')) < 1"), 10)
+    look.wait("both move together", lambda: page.run("const c = (id) => state.maps[id].map.getCenter(); "
+                                                     "return c('left').distanceTo(c('right')) < 1"), 10)
     page.shoot("compared")
     page.click("compare")
     page.set_to("sequence", 2)
-    look.wait("one map again", lambda: page.run("return document.getElementById('right').hidden")
-              and page.loaded(), 10)
+    look.wait("one map again", lambda: page.element("right").get_property("hidden") and page.loaded(), 10)
 
 
-def try_publishing(page, relay, look, folder, nginx):
+def try_publishing(page, look, folder, nginx):
+    def marked():
+        return page.run("return document.querySelector('#where mark').textContent")
+
     page.publish(EXAMPLES / "refused-include.map")
-    look.wait("an error in a mapfile is said and marked",
-              lambda: page.text("answer").startswith("M5 4: ") and "line 1" in page.text("answer")
-              and page.run("return document.querySelector('#where mark').textContent") == "INCLUDE", 8)
+    look.wait("an error in a mapfile is said and marked", lambda: page.text("answer").startswith("M5 4: ")
+              and "line 1" in page.text("answer") and marked() == "INCLUDE", 8)
     page.shoot("error")
     (folder / "cut.map").write_text('MAP\n  NAME "é"\n  EXTENT 0 0 4 x4\n', encoding="utf-8")
     page.publish(folder / "cut.map")
-    look.wait("an offset in bytes after letters of two bytes", lambda: "line 3" in page.text("answer")
-              and page.run("return document.querySelector('#where mark').textContent") == "x4", 8)
+    look.wait("an offset in bytes after letters of two bytes",
+              lambda: "line 3" in page.text("answer") and marked() == "x4", 8)
     (folder / "long.map").write_bytes(b"#" * 140_000)
     page.publish(folder / "long.map")
     look.wait("a file that is too long", lambda: page.text("answer").startswith("The file is too long"), 8)
@@ -329,12 +329,13 @@ def try_publishing(page, relay, look, folder, nginx):
     page.publish(folder / "third.map")
     look.wait("a map is accepted", lambda: "sequence 3" in page.text("answer"), 8)
     look.wait("and published, as the page says",
-              lambda: page.text("answer") == "Published as sequence 3." and page.text("shown") == "3 of 3", 8)
-    look.see("a page of another site can't publish", nginx.ask("publish", b"MAP", Origin="https://elsewhere.example")[0] == 403)
+              lambda: page.says(answer="Published as sequence 3.", shown="3 of 3"), 8)
+    look.see("a page of another site can't publish",
+             nginx.ask("publish", b"MAP", Origin="https://elsewhere.example")[0] == 403)
 
 
 def try_keyboard(page, look):
-    held = page.browser.find_element("id", "left")
+    held = page.element("left")
 
     def place():
         return page.run("const it = state.maps.left.map; return [it.getCenter().lng, it.getZoom()]")
@@ -346,33 +347,28 @@ def try_keyboard(page, look):
     look.wait("plus zooms", lambda: place()[1] == before[1] + 1, 5)
     held.send_keys(SUBTRACT)
     look.wait("minus zooms back", lambda: place()[1] == before[1], 5)
-    box = page.browser.find_element("css selector", "#layers input")
-    box.send_keys(" ")
-    look.wait("the space bar takes a layer away", lambda: page.loaded()
-              and "ground" not in page.tiles()[0]["path"], 15)
-    box = page.browser.find_element("css selector", "#layers input")
-    box.send_keys(" ")
-    look.wait("and back", lambda: page.loaded() and "ground" in page.tiles()[0]["path"], 15)
+    for what, is_shown in (("the space bar takes a layer away", False), ("and back", True)):
+        page.browser.find_element("css selector", "#layers input").send_keys(" ")
+        look.wait(what, lambda: page.loaded() and ("ground" in page.tiles()[0]["path"]) == is_shown, 15)
 
 
 def try_systems(page, relay, look):
     relay.ask("publish", SQUARE_DEGREES.encode())
-    look.wait("a map in degrees is seen", lambda: page.text("shown") == "4 of 4" and page.loaded(), 8)
+    look.wait("a map in degrees is seen", lambda: page.says(shown="4 of 4") and page.loaded(), 8)
     pictures = {}
     for system in ("CRS:84", "EPSG:4326"):
         page.set_to("crs", system)
         page.zoom(2)
-        look.wait(f"its tiles in {system}", lambda: page.loaded()
-                  and ("CRS=" + system.replace(":", "%3A")) in page.tiles()[0]["path"], 30)
+        look.wait(f"its tiles in {system}", lambda: page.has(f"CRS={encoded(system)}"), 30)
         tiles = page.tiles()
         see_pixels(look, tiles, relay.ask, "the farm", 16)
         pictures[system] = {(it["x"], it["y"], it["z"]): it["rgb"] for it in tiles}
     look.see("both systems have the same tiles", pictures["CRS:84"] == pictures["EPSG:4326"])
     page.set_to("sequence", 1)
     look.wait("an exception in place of a picture is a sentence",
-              lambda: page.text("message") == "The server says: CRS is not offered.", 15)
+              lambda: page.says(message="The server says: CRS is not offered."), 15)
     page.set_to("sequence", 4)
-    look.wait("which goes", lambda: page.text("message") == "" and page.loaded(), 15)
+    look.wait("which goes", lambda: page.says(message="") and page.loaded(), 15)
 
 
 def try_odd_maps(page, relay, look):
@@ -383,17 +379,17 @@ def try_odd_maps(page, relay, look):
     see_pixels(look, tiles, relay.ask, "the farm")
     look.see("rows go on above the first square", min(it["y"] for it in tiles) < 0)
     relay.ask("publish", (EXAMPLES / "a.map").read_bytes())
-    look.wait("a map without layers is said", lambda: page.text("message") == "This map has no layers.", 8)
+    look.wait("a map without layers is said", lambda: page.says(message="This map has no layers."), 8)
     relay.ask("publish", (ACROSS % (7, "200 200 90")).replace("NAME ground", "NAME soil").encode())
-    look.wait("the next map", lambda: page.text("shown") == "7 of 7" and page.loaded(), 8)
+    look.wait("the next map", lambda: page.says(shown="7 of 7") and page.loaded(), 8)
     page.set_to("sequence", 5)
-    look.wait("an older map with other layers is drawn with its own", lambda: page.loaded()
-              and "LAYERS=ground&" in page.tiles()[0]["path"] and not alike(page.tiles(), relay.ask)[1], 15)
+    look.wait("an older map with other layers is drawn with its own",
+              lambda: page.has("LAYERS=ground&") and not unlike(page.tiles(), relay.ask), 15)
     page.set_to("sequence", 7)
     relay.behind = 2
     look.wait("a node that is behind is marked", lambda: any(
         it.startswith("node 2 published 0 ") and it.endswith("(behind)")
-        for it in page.text("nodes").splitlines()), 10)
+        for it in page.nodes()), 10)
     page.shoot("behind")
     relay.behind = None
     look.wait("until it isn't any more", lambda: "behind" not in page.text("nodes"), 10)
@@ -413,20 +409,18 @@ def try_window(page, look):
 def try_ends(page, farm, relay, look, program):
     farm.process.kill()
     farm.process.wait()
-    look.wait("a farm that is gone is said to be",
-              lambda: page.text("message") == "The farm does not answer.", 12)
+    look.wait("a farm that is gone is said to be", lambda: page.says(message="The farm does not answer."), 12)
     page.run("state.maps.left.map.panBy([600, 0], {animate: false})")
     page.shoot("gone")
     again = Farm(program, 1_000_000, None, nodes=2)
     relay.aim(again.port)
     look.wait("a farm that begins again with nothing is said to",
-              lambda: page.text("message") == "Nothing is published yet.", 40)
-    look.wait("with two nodes, of which the third is gone",
-              lambda: page.text("nodes").splitlines()[-1].endswith("(gone)")
+              lambda: page.says(message="Nothing is published yet."), 40)
+    look.wait("with two nodes, of which the third is gone", lambda: page.nodes()[-1].endswith("(gone)")
               and page.text("nodes").count("published 0") == 2, 15)
     relay.ask("publish", SQUARE_DEGREES.encode())
-    look.wait("and its first map is seen", lambda: page.text("shown") == "1 of 1" and page.loaded()
-              and page.text("message") == "", 8)
+    look.wait("and its first map is seen",
+              lambda: page.says(shown="1 of 1") and page.loaded() and page.says(message=""), 8)
     return again
 
 
@@ -434,32 +428,24 @@ def asking(node):
     return lambda path, body=None: node.ask(f"/{path}", body, 60)
 
 
-def lines_of(page):
-    return page.text("nodes").splitlines()
-
-
 def try_nodes(page, look, folder, program):
     """Three nodes in processes of their own, each at an address of its own."""
-    nodes = Nodes(program, folder / "nodes").begin().each
-    nginx = LocalNginx(folder, nodes)
-    try:
-        page.browser.get(f"{nginx.address}?nodes=node/0,node/1,node/2")
-        look_at_all(page, look, nginx, nodes)
-        look_at_two(page, look, nginx, nodes, folder)
-        look_at_links(page, look)
-    finally:
-        nginx.end()
-        for node in nodes:
-            node.kill()
+    with Nodes(program, folder / "nodes") as nodes:
+        nginx = LocalNginx(folder, nodes.each)
+        try:
+            page.browser.get(f"{nginx.address}?nodes=node/0,node/1,node/2")
+            look_at_all(page, look, nginx, nodes)
+            look_at_two(page, look, nginx, nodes, folder)
+            look_at_links(page, look)
+        finally:
+            nginx.end()
 
 
 def look_at_all(page, look, nginx, nodes):
     """All nodes are there: each tile is asked at one that is known."""
-    look.wait("three nodes are seen at 0",
-              lambda: [it.split()[:4] for it in lines_of(page)] == [["node", str(k), "published", "0"]
-                                                                    for k in range(NODES)], 30)
+    look.wait("three nodes are seen at 0", lambda: page.stand_at(0), 30)
     asking(nodes[0])("publish", (ACROSS % (1, "200 220 190")).encode())
-    look.wait("a publish is seen", lambda: page.text("shown") == "1 of 1" and page.loaded(), 15)
+    look.wait("a publish is seen", lambda: page.says(shown="1 of 1") and page.loaded(), 15)
     page.zoom(2)
     look.wait("tiles at level 2", page.loaded, 30)
     tint(page, look, "each is tinted by its node", 60)
@@ -474,19 +460,18 @@ def look_at_all(page, look, nginx, nodes):
 def look_at_two(page, look, nginx, nodes, folder):
     nodes[2].kill()
     look.wait("an ended node is shown as gone, with the time",
-              lambda: re.search(r"\(gone since [\d:]+", lines_of(page)[2]) is not None, 15)
+              lambda: re.search(r"\(gone since [\d:]+", page.nodes()[2]) is not None, 15)
     page.zoom(3)
-    look.wait("its tiles come from the others", lambda: page.loaded()
-              and {it["by"] for it in page.tiles()} == {"node 0", "node 1"}, 60)
+    look.wait("its tiles come from the others",
+              lambda: page.loaded() and {it["by"] for it in page.tiles()} == {"node 0", "node 1"}, 60)
     see_pixels(look, page.tiles(), asking(nodes[1]), "node 1")
     (folder / "next.map").write_text(ACROSS % (2, "230 150 120"), encoding="utf-8")
     page.publish(folder / "next.map")
-    look.wait("two nodes publish", lambda: page.text("answer") == "Published as sequence 2."
-              and page.text("shown") == "2 of 2", 20)
+    look.wait("two nodes publish", lambda: page.says(answer="Published as sequence 2.", shown="2 of 2"), 20)
     page.shoot("gone")
     nodes[2].start()
     look.wait("the node is back, and at 2", lambda: "gone" not in page.text("nodes")
-              and lines_of(page)[2].startswith("node 2 published 2 "), 30)
+              and page.nodes()[2].startswith("node 2 published 2 "), 30)
     page.zoom(2)  # tiles that are shown already aren't asked again
     look.wait("and draws again", lambda: page.loaded()
               and {it["by"] for it in page.tiles()} == {f"node {k}" for k in range(NODES)}, 60)
@@ -494,30 +479,28 @@ def look_at_two(page, look, nginx, nodes, folder):
 
 def look_at_links(page, look):
     """Two sequences side by side, and the address of what is shown."""
+    numbers = {"left-number": "sequence 2", "right-number": "sequence 1"}
+    place = "const it = state.maps.left.map; return [it.getZoom(), it.getCenter().lng.toFixed(3)]"
     page.click("tint")
     page.set_to("other", 1)
     page.click("compare")
-    look.wait("both maps carry their sequence", lambda: page.loaded("right")
-              and (page.text("left-number"), page.text("right-number")) == ("sequence 2", "sequence 1"), 30)
-    where = page.run("const it = state.maps.left.map; return [it.getZoom(), it.getCenter().lng.toFixed(3)]")
+    look.wait("both maps carry their sequence", lambda: page.loaded("right") and page.says(**numbers), 30)
+    before = page.run(place)
     page.browser.get(page.run("return document.getElementById('link').href"))
     page.browser.refresh()
-    look.wait("the link shows the same", lambda: page.loaded("right")
-              and (page.text("left-number"), page.text("right-number")) == ("sequence 2", "sequence 1")
-              and page.run("const it = state.maps.left.map; return [it.getZoom(), "
-                           "it.getCenter().lng.toFixed(3)]") == where, 40)
+    look.wait("the link shows the same", lambda: page.loaded("right") and page.says(**numbers)
+              and page.run(place) == before, 40)
 
 
 def try_other(page, nginx, look, wms):
-    query = wms.partition("?")[2]
-    page.browser.get(f"{nginx.address}?"
-                     + urllib.parse.urlencode({"wms": f"other?{query}&" if query else "other"}))
+    base, _, query = wms.partition("?")
+    page.browser.get(f"{nginx.address}?wms={encoded(f'other?{query}&' if query else 'other')}")
     look.wait("another WMS: its tiles are there", page.loaded, 20)
     look.see("its title is " + page.text("title"), page.text("title") not in ("", "wfarm"))
-    look.see("what only a farm has isn't shown", not any(page.browser.find_element("id", it).is_displayed()
-                                                         for it in ("history", "farm", "publishing")))
-    formats = page.run("return [...document.getElementById('format').options].map((it) => it.value)")
-    base = wms.partition("?")[0]
+    look.see("what only a farm has isn't shown",
+             not any(page.element(it).is_displayed() for it in ("history", "farm", "publishing")))
+    options = "return [...document.getElementById(arguments[0]).options].map((it) => it.value)"
+    formats = page.run(options, "format")
 
     def own(path):
         with urllib.request.urlopen(base + path[len("other"):], timeout=60) as it:
@@ -525,8 +508,7 @@ def try_other(page, nginx, look, wms):
 
     for media in formats[:2]:
         page.set_to("format", media)
-        look.wait(f"tiles as {media}", lambda: page.loaded()
-                  and ("FORMAT=" + media.replace("/", "%2F")) in page.tiles()[0]["path"], 30)
+        look.wait(f"tiles as {media}", lambda: page.has(f"FORMAT={encoded(media)}"), 30)
         tiles = page.tiles()
         if "pixmap" in media:
             see_pixels(look, tiles, own, "the server")
@@ -534,10 +516,9 @@ def try_other(page, nginx, look, wms):
             look.see("they aren't empty", any(len(set(base64.b64decode(it["rgb"]))) > 8 for it in tiles))
         page.shoot("other-" + re.sub(r"\W", "-", media))
     page.set_to("format", formats[0])
-    for system in page.run("return [...document.getElementById('crs').options].map((it) => it.value)"):
+    for system in page.run(options, "crs"):
         page.set_to("crs", system)
-        look.wait(f"its tiles in {system}", lambda: page.loaded()
-                  and ("CRS=" + system.replace(":", "%3A")) in page.tiles()[0]["path"], 30)
+        look.wait(f"its tiles in {system}", lambda: page.has(f"CRS={encoded(system)}"), 30)
         drawn = sum(len(set(base64.b64decode(it["rgb"]))) > 8 for it in page.tiles())
         look.see(f"something is drawn on {drawn} of them", drawn > 0)
         page.shoot("other-" + re.sub(r"\W", "-", system))
@@ -546,19 +527,17 @@ def try_other(page, nginx, look, wms):
 def open_browser():
     webdriver = of_debian("selenium.webdriver")
     options = webdriver.ChromeOptions()
-    for word in ("--headless=new", "--no-sandbox", "--disable-gpu", "--ignore-certificate-errors",
-                 "--window-size=1700,1300"):
-        options.add_argument(word)
+    for word in "headless=new no-sandbox disable-gpu ignore-certificate-errors window-size=1700,1300".split():
+        options.add_argument(f"--{word}")
     options.set_capability("goog:loggingPrefs", {"browser": "ALL"})
-    browser = webdriver.Chrome(options=options,
-                               service=webdriver.chrome.service.Service("/usr/bin/chromedriver"))
+    service = webdriver.chrome.service.Service("/usr/bin/chromedriver")
+    browser = webdriver.Chrome(options=options, service=service)
     browser.set_script_timeout(120)
     return browser
 
 
 def try_farm(page, look, folder, given):
-    program, relay = given.program, Relay()
-    farm = Farm(program, 1_000_000, None)
+    relay, farm = Relay(), Farm(given.program, 1_000_000, None)
     relay.aim(farm.port)
     nginx = PageNginx(folder, relay, given.wms)
     try:
@@ -566,12 +545,12 @@ def try_farm(page, look, folder, given):
         try_first_maps(page, relay, look)
         try_renderers(page, relay, look)
         try_history(page, relay, look)
-        try_publishing(page, relay, look, folder, nginx)
+        try_publishing(page, look, folder, nginx)
         try_keyboard(page, look)
         try_systems(page, relay, look)
         try_odd_maps(page, relay, look)
         try_window(page, look)
-        farm = try_ends(page, farm, relay, look, program)
+        farm = try_ends(page, farm, relay, look, given.program)
         if given.wms:
             try_other(page, nginx, look, given.wms)
     finally:

@@ -19,10 +19,9 @@ from unittest import mock
 
 from farmkit import trial
 from farmkit.command import add_slack, program_parser
-from farmkit.control import command, wfarmctl, write_nodes
 from farmkit.mapfiles import canonical
 from farmkit.nodes import Nodes
-from farmkit.processes import Replica
+from farmkit.processes import UNSIGNALLED, Replica, ctl_words, wfarmctl, write_nodes
 from farmkit.repository import EXAMPLES
 from farmkit.web import Listener
 
@@ -73,10 +72,11 @@ class Trial(trial.Trial):
         """What `wfarmctl` does: its status, what it writes, and what it writes on standard error."""
         return wfarmctl(program or self.program, file or self.file, *words, seconds=seconds)
 
-    def tells(self, what, *words, code=0, out=None, has=(), error=(), **options):
-        """What a call writes: all of it, and a part or parts of it and of what comes on standard error."""
+    def tells(self, what, *words, code=None, out=None, has=(), error=(), **options):
+        """What a call writes: all of it, a part or parts of it, and of an error, which has the status 1."""
         status, told, wrong = self.call(*words, **options)
-        holds = status == code and (out is None or told == out) and all(
+        wanted = int(bool(error)) if code is None else code
+        holds = status == wanted and (out is None or told == out) and all(
             part in text for parts, text in ((has, told), (error, wrong))
             for part in ([parts] if isinstance(parts, str) else parts))
         self.see(what, holds, (status, told, wrong))
@@ -99,25 +99,24 @@ def try_well(trial):
                 out="published 1 at node 0\n")
     trial.wait("all nodes have it", lambda: trial.all_at(1))
     invalid = EXAMPLES / "refused-include.map"
-    trial.tells("publish: what `wfarm check` finds in a map that isn't valid", "publish", invalid, code=1,
+    trial.tells("publish: what `wfarm check` finds in a map that isn't valid", "publish", invalid,
                 error=("line 1, column 5", "Found INCLUDE", "400 M5 4\n"))
     code, _, error = trial.call("publish", invalid, program=trial.folder / "nothing")
     trial.see("publish: not where the program isn't there",
               (code, error) == (1, "wfarmctl: node 0: 400 M5 4\n"), error)
-    trial.tells("publish: a file that isn't there", "publish", trial.folder / "nothing",
-                code=1, error="No such file")
+    trial.tells("publish: a file that isn't there", "publish", trial.folder / "nothing", error="No such file")
     trial.tells("publish: another", "publish", second, out="published 2 at node 0\n")
     trial.tells("publish: the published map", "publish", second, out="unchanged: it is sequence 2\n")
     trial.tells("rollback: to the published map", "rollback", 2, out="unchanged: it is sequence 2\n")
     trial.tells("map: the canonical text", "map", 1, out=trial.canonical(first))
-    trial.tells("map: a sequence that isn't published", "map", 3, code=1, error="sequence 3 isn't published")
+    trial.tells("map: a sequence that isn't published", "map", 3, error="sequence 3 isn't published")
     trial.tells("diff: what was taken away, and what came", "diff", 1, 2, has=("\n-", "\n+", "another title"))
     trial.tells("diff: nothing", "diff", 1, 1, out="")
     trial.tells("rollback: the map again, under a new sequence", "rollback", 1, has="published 3 ")
     trial.tells("map: the same as before", "map", 3, out=trial.canonical(first))
     trial.wait("all nodes have it", lambda: trial.all_at(3))
-    trial.tells("replace: a node that the farm hasn't", "replace", 7, code=1, error="the farm has no node 7")
-    trial.tells("replace: one that doesn't join", "replace", 2, code=1, error="doesn't join: it serves")
+    trial.tells("replace: a node that the farm hasn't", "replace", 7, error="the farm has no node 7")
+    trial.tells("replace: one that doesn't join", "replace", 2, error="doesn't join: it serves")
     try_history(trial)
     try_file_of_nodes(trial)
 
@@ -154,17 +153,16 @@ def try_export(trial):
     trial.see("export: a file each", [file.read_text() for file in files] == maps, files)
     trial.tells("verify: an export", "verify", folder, out=f"{folder}: whole, published 3\n")
     (folder / "0003.map").unlink(missing_ok=True)
-    trial.tells("verify: one that lacks a map", "verify", folder,
-                code=1, error="the map of sequence 3 is missing")
+    trial.tells("verify: one that lacks a map", "verify", folder, error="the map of sequence 3 is missing")
     trial.see("export: it goes on", trial.call("export", folder)[0] == 0
               and sorted(folder.glob("*.map")) == files != [])
     second = folder / "0002.map"
     second.parent.mkdir(exist_ok=True)
     second.write_text(maps[0])
     trial.tells("export: never beside another farm's maps", "export", folder,
-                code=1, error="0002.map: not the farm's map of sequence 2")
+                error="0002.map: not the farm's map of sequence 2")
     trial.tells("verify: a map that was changed", "verify", folder,
-                code=1, error="the map of sequence 2 isn't the one that was exported")
+                error="the map of sequence 2 isn't the one that was exported")
     second.write_text(maps[1])
 
 
@@ -202,7 +200,7 @@ def try_strangers(trial):
         stranger.end()
     for address in ("127.0.0.1", "127.0.0.1:80a", "127.0.0.1:99999"):
         file.write_text(f"{address} 127.0.0.1:1\n")
-        trial.tells(f"status: {address} is no address", "status", file=file, code=1,
+        trial.tells(f"status: {address} is no address", "status", file=file,
                     error="not a line per node with two addresses")
     with mock.patch.dict("os.environ", http_proxy="http://127.0.0.1:1"):
         trial.see("status: no proxy is asked", trial.call("status")[0] == 0)
@@ -229,7 +227,7 @@ def try_failures(trial):
     trial.see("status: a node that was killed", code == 1 and "unreachable" in told.splitlines()[3]
               and told.count(" ok\n") == 2, told)
     trial.tells("map: a sequence that isn't published, where the last host doesn't answer", "map", 99,
-                code=1, error="sequence 99 isn't published")
+                error="sequence 99 isn't published")
     trial.tells("publish: two of three", "publish", trial.map("fourth"), out="published 4 at node 0\n")
     third.start()
     trial.wait("status: well again, once the node was started", lambda: trial.call("status")[0] == 0)
@@ -238,13 +236,13 @@ def try_failures(trial):
                 out="published 5 at node 1\n")
     third.pause()
     trial.tells("publish: one of three: it isn't known what will become of it, since there is no majority",
-                "publish", trial.map("sixth"), seconds=3, code=1,
+                "publish", trial.map("sixth"), seconds=3,
                 error=("it isn't known", "no majority (node 0 is unreachable ", "; node 2 is unreachable "))
     trial.wait("status: the one that is left hears no majority",
                lambda: trial.call("status")[1].splitlines()[2].endswith(" no majority"))
     trial.see("status: so the farm isn't well", trial.call("status")[0] == 1)
     trial.tells("publish: why the last node didn't", "publish", trial.map("sixth"), seconds=1,
-                code=1, error="node 1 still proposes another map: no majority")
+                error="node 1 still proposes another map: no majority")
     third.go_on()
     trial.wait("the map is published once the majority is back", lambda: trial.all_at(6, trial.nodes[1:]))
     first.start()
@@ -253,7 +251,7 @@ def try_failures(trial):
     read = json.loads(trial.call("status", "-o", "json")[1])
     trial.see("status: as JSON, what isn't known where no node answers",
               (read["well"], read["published"], read["left"]) == (False, None, None), read)
-    trial.tells("publish: no node", "publish", trial.map("seventh"), seconds=2, code=1, error="not published")
+    trial.tells("publish: no node", "publish", trial.map("seventh"), seconds=2, error="not published")
     trial.start()
     trial.wait("status: well again", lambda: trial.call("status")[0] == 0)
 
@@ -281,7 +279,7 @@ def try_suspended(trial):
 def try_full(trial):
     node = trial.nodes[2]
     node.kill()
-    node.start(before=("env", "--ignore-signal=XFSZ"))
+    node.start(before=UNSIGNALLED)
     trial.wait("a node is started again", lambda: node.published() == 6)
     resource.prlimit(node.running().pid, resource.RLIMIT_FSIZE, (100, resource.RLIM_INFINITY))
     trial.tells("publish: two of three", "publish", trial.map("eighth"), out="published 7 at node 0\n")
@@ -304,7 +302,7 @@ def try_copy(trial):
     copy_to(trial, "fourth", source.folder / "node-1.tape", maps)
     copy_to(trial, "fifth", export, maps, first=part)
     trial.tells("copy: of nothing", "copy", trial.folder / "nothing", trial.file,
-                code=1, error="neither a folder, nor a tape, nor an address")
+                error="neither a folder, nor a tape, nor an address")
 
 
 def copy_to(trial, name, source, maps, first=None):
@@ -325,7 +323,7 @@ def copy_to(trial, name, source, maps, first=None):
     trial.tells("copy: one that is done", "copy", source, file, out=f"copied {len(maps)} maps\n")
     if first is not None:
         trial.tells("copy: never onto a farm that has other maps", "copy", first, file,
-                    code=1, error="has published maps already")
+                    error="has published maps already")
     trial.kill(nodes)
 
 
@@ -335,16 +333,16 @@ def try_verify(trial):
     trial.see("verify: whole tapes of one farm", code == 0 and told.count(": whole, published 7") == 3,
               (told, error))
     trial.tells("verify: folders of two farms", "verify", folders[0], trial.folder / "second" / "1",
-                code=1, error="not folders of one farm")
+                error="not folders of one farm")
     tape = folders[0] / "node-0.tape"
     whole = tape.read_bytes()
     tape.write_bytes(whole[:-3])
     trial.see("verify: a torn record at the end is what a crash leaves",
               trial.call("verify", folders[0])[0] == 0)
     tape.write_bytes(b"\x63" + whole[1:])
-    trial.tells("verify: a bad record", "verify", folders[0], code=1, error="not every tape is whole")
+    trial.tells("verify: a bad record", "verify", folders[0], error="not every tape is whole")
     tape.write_bytes(whole)
-    trial.tells("verify: not a node's folder", "verify", trial.folder, code=1, error="farm")
+    trial.tells("verify: not a node's folder", "verify", trial.folder, error="farm")
 
 
 def try_changed(trial):
@@ -352,7 +350,7 @@ def try_changed(trial):
     node = trial.nodes[2]
     tape, farm = node.tape, node.folder / "farm"
     tape.write_bytes(tape.read_bytes().replace(b"another title", b"Another title"))
-    trial.tells("verify: histories that differ", "verify", *(each.folder for each in trial.nodes), code=1,
+    trial.tells("verify: histories that differ", "verify", *(each.folder for each in trial.nodes),
                 error=f"the histories of {trial.nodes[0].tape} and {tape} differ from sequence 2 on")
     trial.start(trial.nodes[:2])
     trial.wait("two of three nodes", lambda: trial.all_at(7, trial.nodes[:2]))
@@ -377,11 +375,10 @@ def try_changed(trial):
 def try_words(trial):
     trial.see("a bad command line",
               trial.call("map", "x")[0] == trial.call("lend")[0] == trial.call()[0] == 2)
-    trial.tells("no file of nodes", "status", file=trial.folder / "nowhere", code=1, error="No such file")
+    trial.tells("no file of nodes", "status", file=trial.folder / "nowhere", error="No such file")
     (trial.folder / "short").write_text("127.0.0.1:1\n")
-    trial.tells("a line with one address", "status", file=trial.folder / "short",
-                code=1, error="not a line per node")
-    words = command(trial.program, trial.file, "history")
+    trial.tells("a line with one address", "status", file=trial.folder / "short", error="not a line per node")
+    words = ctl_words(trial.program, trial.file, "history")
     ended = subprocess.run(f"{shlex.join(words)} | true; echo ${{PIPESTATUS[0]}}", shell=True,
                            executable="/bin/bash", capture_output=True, text=True)
     trial.see("where nobody reads what it writes it ends in silence",

@@ -143,8 +143,7 @@ class Strangers:
 
 
 class Peers(Strangers):
-    """Greetings of nodes that aren't let in, and a node's own, which doesn't run, with what is no message
-    behind them."""
+    """Greetings of nodes that aren't let in, and those of one that is let in, with no message behind them."""
 
     def __init__(self, own: bytes) -> None:
         self.own, self.starts = own, itertools.count(int.from_bytes(own[60:64], "big") + 1)

@@ -15,6 +15,8 @@ FOLLOWED = ("open openat creat close lseek write fsync fdatasync rename renameat
 OTHERS = ("pwrite64 writev pwritev pwritev2 truncate ftruncate fallocate link linkat symlink symlinkat mkdir "
           "mkdirat rmdir sync syncfs sync_file_range sendfile splice copy_file_range io_uring_setup "
           "io_submit dup dup2 dup3 chdir fchdir")
+# those that may be the last of a program, done or not
+FINISHED = "write rename renameat renameat2 open openat unlink"
 MOST_BYTES = 1 << 24
 LINE = re.compile(r"(\d+) +(\w+)\((.*)\) += (-?\d+|\?)(?: .*)?")
 UNFINISHED = re.compile(r"(\d+) +(\w+)\((.*?),? *<unfinished \.\.\.>")
@@ -141,38 +143,34 @@ class Follower:
             self.open(call)
         elif call.name == "close":
             self.handles.pop(call.handle(), None)
-        elif call.name == "lseek":
-            if call.handle() in self.handles:
-                self.handles[call.handle()].at = call.result or 0
+        elif call.name == "lseek" and call.handle() in self.handles:
+            self.handles[call.handle()].at = call.result or 0
         elif call.name == "write":
             self.write(call)
         elif call.name in ("fsync", "fdatasync"):
             self.sync(call)
         elif call.name in ("rename", "renameat", "renameat2"):
             self.rename(call)
-        elif call.name in ("unlink", "unlinkat"):
-            if (name := self.name_of(call.texts[0])) is not None:
-                self.folder.remove(name)
+        elif call.name in ("unlink", "unlinkat") and (name := self.name_of(call.texts[0])) is not None:
+            self.folder.remove(name)
         elif call.name in ("sendto", "sendmsg"):
             self.watcher.sent(b"".join(call.texts)[:call.result])
 
     def open(self, call: Call) -> None:
-        name = self.name_of(call.texts[0])
+        name, file = self.name_of(call.texts[0]), None
         if name is None or call.result is None:
             return
-        if name == "":
-            self.handles[call.result] = Handle("", None)
-            return
-        if "O_APPEND" in call.words:
-            raise Unfollowed("a file that is opened to append")
-        self.last = "open"
-        file = self.folder.names.get(name)
-        self.watcher.opened(name, file)
-        if file is None:
-            file = self.folder.create(name)
-        elif "O_TRUNC" in call.words or call.name == "creat":
-            self.watcher.written(name, file)
-            file.truncate()
+        if name:
+            if "O_APPEND" in call.words:
+                raise Unfollowed("a file that is opened to append")
+            self.last = "open"
+            file = self.folder.names.get(name)
+            self.watcher.opened(name, file)
+            if file is None:
+                file = self.folder.create(name)
+            elif "O_TRUNC" in call.words or call.name == "creat":
+                self.watcher.written(name, file)
+                file.truncate()
         self.handles[call.result] = Handle(name, file)
 
     def write(self, call: Call) -> None:
@@ -212,27 +210,20 @@ class Follower:
 
     def end(self) -> None:
         """Compares the model with the folder; the call that the program ended in was done, or it wasn't."""
-        real = contents(self.path)
-        if self.folder.contents() != real and self.doubtful is not None:
-            self.finish(self.doubtful)
-        if self.folder.contents() != real:
-            ours = self.folder.contents()
-            differ = sorted(name for name in {*real, *ours} if real.get(name) != ours.get(name))
+        real, last = contents(self.path), self.doubtful
+        if self.folder.contents() != real and last is not None and last.name in FINISHED.split():
+            last.result = len(last.texts[0]) if last.name == "write" else 1 << 20
+            self.act(last)
+        ours = self.folder.contents()
+        if differ := sorted(name for name in {*real, *ours} if real.get(name) != ours.get(name)):
             raise Unfollowed(f"the calls don't lead to what is in the folder: {differ}")
-
-    def finish(self, call: Call) -> None:
-        if call.name in ("write", "rename", "renameat", "renameat2", "open", "openat", "unlink"):
-            call.result = len(call.texts[0]) if call.name == "write" else 1 << 20
-            self.act(call)
 
 
 def follow(trace: str | pathlib.Path, path: str, folder: Folder, watcher: Watcher,
            without: str | None = None) -> int:
     """Does the calls of a trace to a folder, whose files are at the path. How many calls."""
-    follower = Follower(path, folder, watcher, without)
-    count = 0
-    for call in calls(trace):
+    follower, count = Follower(path, folder, watcher, without), 0
+    for count, call in enumerate(calls(trace), 1):
         follower.follow(call)
-        count += 1
     follower.end()
     return count

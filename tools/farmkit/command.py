@@ -31,7 +31,6 @@ def add_program(to: argparse.ArgumentParser, default: pathlib.Path = PROGRAM,
 
 
 def program_parser(document: str | None) -> argparse.ArgumentParser:
-    """A parser with the option for the program."""
     made = parser(document)
     add_program(made)
     return made

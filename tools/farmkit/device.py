@@ -3,10 +3,12 @@ of our own, by FUSE."""
 
 import contextlib
 import ctypes
+import errno
 import os
 import pathlib
 import struct
 import subprocess
+import tempfile
 import threading
 from collections.abc import Callable
 
@@ -18,9 +20,15 @@ LOOKUP, FORGET, GETATTR, SETATTR, OPEN, READ, WRITE = 1, 2, 3, 4, 14, 15, 16
 STATFS, RELEASE, FSYNC, FLUSH, INIT, OPENDIR, RELEASEDIR = 17, 18, 20, 25, 26, 27, 29
 INTERRUPT, DESTROY, BATCH_FORGET = 36, 38, 42
 UNANSWERED = (FORGET, INTERRUPT, BATCH_FORGET)
-ENOENT, ENOSYS = 2, 38
 MOST_WRITE = 1 << 17
 DIRECT_IO = 1
+OPENED = struct.pack("<QII", 0, DIRECT_IO, 0)
+# the answers that are always the same
+CONSTANT = {
+    INIT: struct.pack("<IIIIHHIIHHI28x", 7, 31, MOST_WRITE, 0, 12, 10, MOST_WRITE, 1, 32, 0, 0),
+    OPEN: OPENED, OPENDIR: OPENED, FLUSH: b"", RELEASE: b"", RELEASEDIR: b"", DESTROY: b"",
+    STATFS: struct.pack("<QQQQQIIII24x", 1, 0, 0, 1, 0, 4096, 255, 4096, 0),
+}
 ROOT, DISK = 1, 2
 NAME = b"disk"
 LIBC = ctypes.CDLL(None, use_errno=True)
@@ -105,23 +113,19 @@ class Mounted:
             if kind in UNANSWERED:
                 continue
             error, given = self.answer(kind, node, asked[HEAD.size:])
-            try:
+            with contextlib.suppress(OSError):
                 os.write(self.channel, ANSWER.pack(ANSWER.size + len(given), -error, unique) + given)
-            except OSError:
-                pass
 
     def answer(self, kind: int, node: int, given: bytes) -> tuple[int, bytes]:
         """An error's number, or 0, and what is given back."""
-        if kind == INIT:
-            return 0, struct.pack("<IIIIHHIIHHI28x", 7, 31, MOST_WRITE, 0, 12, 10, MOST_WRITE, 1, 32, 0, 0)
+        if kind in CONSTANT:
+            return 0, CONSTANT[kind]
         if kind == LOOKUP:
             if given != NAME + b"\0":
-                return ENOENT, b""
+                return errno.ENOENT, b""
             return 0, struct.pack("<QQQQII", DISK, 0, 3600, 3600, 0, 0) + self.attributes(DISK)
         if kind in (GETATTR, SETATTR):
             return 0, struct.pack("<QII", 3600, 0, 0) + self.attributes(node)
-        if kind in (OPEN, OPENDIR):
-            return 0, struct.pack("<QII", 0, DIRECT_IO, 0)
         if kind == READ:
             at, size = struct.unpack_from("<8xQI", given)
             return 0, bytes(self.disk.content[at:at + size])
@@ -132,11 +136,7 @@ class Mounted:
         if kind == FSYNC:
             self.disk.flush()
             return 0, b""
-        if kind in (FLUSH, RELEASE, RELEASEDIR, DESTROY):
-            return 0, b""
-        if kind == STATFS:
-            return 0, struct.pack("<QQQQQIIII24x", 1, 0, 0, 1, 0, 4096, 255, 4096, 0)
-        return ENOSYS, b""
+        return errno.ENOSYS, b""
 
     def attributes(self, node: int) -> bytes:
         """The attributes of the folder or the disk."""
@@ -179,13 +179,10 @@ class Machine:
 
 
 def formatted(size: int, above: str | pathlib.Path) -> bytes:
-    path = pathlib.Path(above) / "empty"
-    with path.open("wb") as file:
+    with tempfile.NamedTemporaryFile(dir=above) as file:
         file.truncate(size)
-    run("mkfs.ext4", "-q", "-F", str(path))
-    content = path.read_bytes()
-    path.unlink()
-    return content
+        run("mkfs.ext4", "-q", "-F", file.name)
+        return file.read()
 
 
 def is_permitted(above: str | pathlib.Path) -> bool:

@@ -37,11 +37,7 @@ def paths(top: pathlib.Path = TOP) -> Iterator[str]:
 
 def ends_of(every: Iterator[str]) -> set[str]:
     """How paths end: `src/lib.rt` and `lib.rt` of `crates/wf_text/src/lib.rt`, and that path itself."""
-    found = set[str]()
-    for path in every:
-        parts = path.split("/")
-        found.update("/".join(parts[start:]) for start in range(len(parts)))
-    return found
+    return {path[at:] for path in every for at in (0, *(slash.end() for slash in re.finditer("/", path)))}
 
 
 def documents(top: pathlib.Path = TOP) -> list[pathlib.Path]:
@@ -94,9 +90,8 @@ class Document:
         """Each row of a table, with the heads of its columns behind the first one, which names the rows."""
         heads: tuple[str, ...] = ()
         for line in self.prose:
-            cells = [cell.strip()
-                     for cell in line.strip().strip("|").split("|")] if line.startswith("|") else []
-            if not cells:
+            cells = [cell.strip() for cell in line.strip().strip("|").split("|")]
+            if not line.startswith("|"):
                 heads = ()
             elif not heads:
                 heads = tuple(cells[1:])

@@ -57,7 +57,7 @@ class File:
                 content.clear()
                 count -= 1
             else:
-                content[at:at + len(data)] = data[:count] + content[at + len(data[:count]):at + len(data)]
+                content[at:at + len(data[:count])] = data[:count]
                 count -= len(data)
         return bytes(content)
 

@@ -67,12 +67,9 @@ class Host:
         run("ip", "netns", "add", self.name)
         run("ip", "link", "add", self.name, "type", "veth", "peer", "name", "eth0", "netns", self.name)
         run("ip", "link", "set", self.name, "master", f"wfarm{network}", "up")
-        self.inside("ip", "address", "add", f"{self.address}/24", "dev", "eth0")
-        self.inside("ip", "link", "set", "eth0", "up")
-        self.inside("ip", "link", "set", "lo", "up")
+        run(*self.entering, "ip", "address", "add", f"{self.address}/24", "dev", "eth0")
+        for link in ("eth0", "lo"):
+            run(*self.entering, "ip", "link", "set", link, "up")
 
     def at(self, port: int) -> str:
         return f"{self.address}:{port}"
-
-    def inside(self, *words: str) -> str:
-        return run(*self.entering, *words)

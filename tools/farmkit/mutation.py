@@ -12,12 +12,11 @@ NUMBERS = ("0", "-1", "1", "16", "17", "64", "65", "255", "256", "1.5", "1e8", "
 TEXTS = ('""', '"a"', "'T'", '"it\'s"', "END", '"END"', '"a,b"', "/re", '"/re"', "ITEMS=k", '"items=k,l"',
          "#", '"#ff00aa"', '"#ff00a"', "init=epsg:4326", '"INIT=epsg:3857"', "POINT", '"', "'", "/*", "*/",
          "\\", "[a]", "(1)", "{a,b}", "\ufffe", "é", "東京", "\x00", "\ufeff")
-WORDS = ("MAP", "NAME", "EXTENT", "PROJECTION", "WEB", "METADATA", "LAYER", "TYPE", "CLASSITEM", "LABELITEM",
-         "PROCESSING", "CLASS", "EXPRESSION", "STYLE", "COLOR", "OUTLINECOLOR", "WIDTH", "SIZE", "LABEL",
-         "POSITION", "PRIORITY", "FORCE", "BUFFER", "FEATURE", "POINTS", "ITEMS", "TEXT", "END", "STATUS",
-         "UNITS", "IMAGECOLOR", "INCLUDE", "SYMBOL", "DATA", "GROUP", "TEMPLATE")
-LISTED = ("", "a", " b", "k l", "'", '"', "#", "/*", "é", "x;y",
-          "[a]")  # what a list may hold, between commas
+WORDS = ("MAP NAME EXTENT PROJECTION WEB METADATA LAYER TYPE CLASSITEM LABELITEM PROCESSING CLASS EXPRESSION "
+         "STYLE COLOR OUTLINECOLOR WIDTH SIZE LABEL POSITION PRIORITY FORCE BUFFER FEATURE POINTS ITEMS TEXT "
+         "END STATUS UNITS IMAGECOLOR INCLUDE SYMBOL DATA GROUP TEMPLATE").split()
+# what a list may hold, between commas
+LISTED = ("", "a", " b", "k l", "'", '"', "#", "/*", "é", "x;y", "[a]")
 SOUND = ('"a"', '"b"', '"k"', '"a b"', '"x;y"', '"k,l"')
 # what each block may have: a block, or a keyword with its arguments, each a number from one to another, one
 # of some words, a text, or an expression

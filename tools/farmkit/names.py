@@ -20,6 +20,7 @@ NAME = re.compile(r"\w+(?:::\w+)*!?")
 PATH = re.compile(r"[\w./{},-]+\.(?:rt|antt|md|txt|py|conf|script)|[\w./{},*-]+/[\w./{},*-]*")
 EXPORT = re.compile(r"^pub use ((?:\w+::)*)(?:\{([^}]*)\}|(\w+(?: as \w+)?));", re.MULTILINE)
 OWNER = re.compile(r"^(?:impl\b.*?|pub trait )(\w+)(?:<[^{]*)? (?:where .*)?\{|^impl\b.* for (\w+)")
+PUBLIC = re.compile(r"^pub (?:fn|const|struct|enum|trait|type) (\w+)", re.MULTILINE)
 METHOD = re.compile(r"^    (?:pub )?fn (\w+)")
 DEFINED = (
     re.compile(r"(?:fn|struct|enum|trait|type|const|mod|macro_rules!|ensures|requires|ghost|let|record|data"
@@ -38,13 +39,10 @@ class Crate:
         self.name, self.folder = name, TOP / "crates" / name
         library = self.folder / "src" / "lib.rt"
         code = re.sub(r"//[^\n]*", "", library.read_text(encoding="utf-8")) if library.exists() else ""
-        self.roots: dict[str, str] = {}
-        for path, several, one in EXPORT.findall(code):
-            for it in (several or one).split(","):
-                if it.strip():
-                    self.roots[it.split(" as ")[-1].strip()] = path.partition("::")[0]
-        self.roots |= {it: "" for it in re.findall(r"^pub (?:fn|const|struct|enum|trait|type) (\w+)", code,
-                                                   re.MULTILINE)}
+        self.roots = {it.split(" as ")[-1].strip(): path.partition("::")[0]
+                      for path, several, one in EXPORT.findall(code)
+                      for it in (several or one).split(",") if it.strip()}
+        self.roots |= dict.fromkeys(PUBLIC.findall(code), "")
         self.methods: dict[str, set[str]] = {}
         self.words, self.theorems = set[str](), set[str]()
         self.aliases: dict[str, str] = {}
@@ -62,8 +60,7 @@ class Crate:
         """Notes the methods of each type and trait of a file, by the type's name."""
         owner = None
         for line in re.sub(r"<[^<>\n]*(?:<[^<>\n]*(?:<[^<>\n]*>[^<>\n]*)*>[^<>\n]*)*>", "", text).split("\n"):
-            found = OWNER.match(line)
-            if found:
+            if found := OWNER.match(line):
                 owner = found[2] or found[1]
             elif owner and (method := METHOD.match(line)):
                 self.methods.setdefault(owner, set()).add(method[1])

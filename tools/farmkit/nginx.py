@@ -11,7 +11,7 @@ from collections.abc import Iterable
 from email.message import Message
 from typing import Any
 
-from farmkit.processes import children, free_ports, listens
+from farmkit.processes import children, free_ports, listens, run
 from farmkit.repository import EXAMPLES
 from farmkit.wanted import seconds_until
 
@@ -20,11 +20,10 @@ TYPES = "types { text/html html; text/css css; text/javascript js; image/png png
 
 def certificate(folder: str | pathlib.Path) -> tuple[str, str]:
     """Makes a certificate of this machine: the paths of it and of its key."""
-    made = ["openssl", "req", "-x509", "-newkey", "rsa:2048", "-nodes", "-days", "2", "-subj",
-            "/CN=127.0.0.1"]
-    subprocess.run([*made, "-keyout", f"{folder}/key.pem", "-out", f"{folder}/cert.pem"], check=True,
-                   capture_output=True)
-    return f"{folder}/cert.pem", f"{folder}/key.pem"
+    cert, key = f"{folder}/cert.pem", f"{folder}/key.pem"
+    run("openssl", "req", "-x509", "-newkey", "rsa:2048", "-nodes", "-days", "2", "-subj", "/CN=127.0.0.1",
+        "-keyout", key, "-out", cert)
+    return cert, key
 
 
 def changed(example: str, changes: Iterable[tuple[str, str]]) -> str:
@@ -47,22 +46,22 @@ def whole(folder: str | pathlib.Path, site: str) -> str:
 class Nginx:
     def __init__(self, folder: str | pathlib.Path, scheme: str = "https") -> None:
         self.folder = pathlib.Path(folder)
+        self.file = self.folder / "nginx.conf"
         self.process: subprocess.Popen[Any] | None = None
         self.port, = free_ports(1)
         self.address = f"{scheme}://127.0.0.1:{self.port}/"
 
     def start(self, configuration: str) -> None:
         """Starts nginx with a whole configuration, and waits until it listens."""
-        file = self.folder / "nginx.conf"
-        file.write_text(configuration, encoding="utf-8")
-        words = ["nginx", "-e", f"{self.folder}/log", "-p", str(self.folder), "-c", str(file)]
-        self.process = subprocess.Popen(words)
+        self.file.write_text(configuration, encoding="utf-8")
+        self.process = subprocess.Popen(
+            ["nginx", "-e", f"{self.folder}/log", "-p", self.folder, "-c", self.file])
         seconds_until(lambda: listens(self.port), 10)
 
     def reload(self, configuration: str) -> None:
         """Gives it another configuration while it runs, and waits until it has new workers alone."""
         before = self.workers()
-        (self.folder / "nginx.conf").write_text(configuration, encoding="utf-8")
+        self.file.write_text(configuration, encoding="utf-8")
         self.running().send_signal(signal.SIGHUP)
         seconds_until(lambda: self.workers() and not before & self.workers(), 20)
 

@@ -73,14 +73,14 @@ class Nodes:
         except subprocess.TimeoutExpired as late:
             raise Wrong(f"{' '.join(command)}: not in time") from late
 
-    def start(self, i: int, *more: str) -> None:
-        self[i].start(logs=self.logs, more=more)
+    def start(self, *those: int, more: Sequence[str] = ()) -> None:
+        for i in those:
+            self[i].start(logs=self.logs, more=more)
 
     def start_all(self, those: Sequence[int] | None = None) -> None:
         """Starts all nodes or these, and waits until they answer."""
         numbers = range(self.count) if those is None else those
-        for i in numbers:
-            self.start(i)
+        self.start(*numbers)
         for i in numbers:
             self.wait(i)
 
@@ -88,8 +88,9 @@ class Nodes:
         self.init_all(*more).start_all()
         return self
 
-    def start_limitable(self, i: int) -> None:
-        """Starts a node whose files may be kept from growing (`limit`), with its log through a pipe."""
+    def restart_limitable(self, i: int) -> None:
+        """Restarts a node, its log through a pipe, so that its files may be kept from growing (`limit`)."""
+        self.kill(i)
         with self[i].log.open("a") as log:
             writer = subprocess.Popen(["cat"], stdin=subprocess.PIPE, stdout=log)
         assert writer.stdin is not None
@@ -173,11 +174,11 @@ class Nodes:
     def publish(self, i: int, text: bytes, port: int | None = None) -> int:
         return ask(loopback(port or self.http[i]), "/publish", text, PATIENCE).status
 
-    def publish_whole(self, i: int, text: bytes) -> None:
-        """Publishes a map, and waits until this node has it or another."""
+    def publish_whole(self, i: int, text: bytes, *others: int) -> None:
+        """Publishes a map, and waits until this node and these others have it or another."""
         before = self.published(i)
         until(lambda: self.publish(i, text) == 202)
-        until(lambda: before < self.published(i))
+        until(lambda: all(before < self.published(each) for each in (i, *others)))
 
     def publish_all(self, *texts: bytes) -> None:
         """Publishes maps at the first node, until all nodes have them."""

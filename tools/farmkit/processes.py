@@ -1,5 +1,5 @@
 """The built program on free ports of this machine: `wfarm serve`, or nodes and replicas in processes of their
-own."""
+own, and `wfarmctl` over these."""
 
 import contextlib
 import pathlib
@@ -9,11 +9,13 @@ import resource
 import signal
 import socket
 import subprocess
+import sys
 import threading
 import time
-from collections.abc import Callable, Sequence
+from collections.abc import Callable, Iterable, Sequence
 from typing import Any
 
+from farmkit.repository import TOP
 from farmkit.wanted import want
 from farmkit.web import Answer, ask, connect, loopback, received, request
 
@@ -64,12 +66,10 @@ def listens(port: int) -> bool:
 
 def children(number: int) -> list[int]:
     """The processes that a process of this number started, and that run; none where it has ended."""
-    found = []
+    found: list[int] = []
     for file in pathlib.Path(f"/proc/{number}/task").glob("*/children"):
-        try:
-            found += [int(word) for word in file.read_text().split()]
-        except OSError:
-            continue
+        with contextlib.suppress(OSError):
+            found += map(int, file.read_text().split())
     return found
 
 
@@ -89,11 +89,10 @@ def serve_words(program: str | pathlib.Path, requests: int, folder: str | pathli
                 log: bool = False) -> list[str]:
     """The command line of a farm in one process."""
     words = [str(program), "serve", "--nodes", str(nodes), "--port", "0", "--requests", str(requests)]
-    words += ["--log"] if log else []
-    return words if folder is None else words + ["--state", str(folder)]
+    return words + ["--log"] * log + ([] if folder is None else ["--state", str(folder)])
 
 
-class Farm:
+class Farm(contextlib.AbstractContextManager["Farm"]):
     """`wfarm serve` in one process, for n connections. `before` are words before the program's."""
 
     def __init__(self, program: str | pathlib.Path, requests: int, folder: str | pathlib.Path | None,
@@ -106,6 +105,9 @@ class Farm:
         assert port, told
         self.port = int(port[1])
         self.address = loopback(self.port)
+
+    def __exit__(self, *_: object) -> None:
+        self.kill()
 
     def ask(self, path: str, body: bytes | None = None) -> Answer:
         return ask(self.address, path, body, 20)
@@ -128,7 +130,7 @@ class Farm:
 
 # ---- wfarm node, wfarm replica
 
-class Process:
+class Process(contextlib.AbstractContextManager["Process"]):
     """A node or a replica in a process of its own. `before` are words that enter a host, say."""
 
     def __init__(self, program: str | pathlib.Path, folder: str | pathlib.Path, clients: str, operator: str,
@@ -142,6 +144,9 @@ class Process:
         # the file of its standard error, and when it was started, and answered last
         self.log = self.folder.parent / f"log-{self.folder.name}"
         self.started = self.answered = 0.0
+
+    def __exit__(self, *_: object) -> None:
+        self.kill()
 
     @property
     def name(self) -> str:
@@ -161,11 +166,10 @@ class Process:
     def start(self, before: Sequence[str] = (), logs: bool = True, more: Sequence[str] = (),
               **settings: Any) -> None:
         """Starts it, with words before the program's and more behind; `settings` are those of Popen."""
-        words = [*self.before, *before, *self.command(), *(["--log"] if logs else []), *more]
+        words = [*self.before, *before, *self.command(), *["--log"] * logs, *more]
         with self.lock, self.log.open("ab") as log:
-            usual: dict[str, Any] = {"stdin": subprocess.DEVNULL, "stdout": log, "stderr": log}
-            self.process = subprocess.Popen(words, start_new_session=bool(self.before),
-                                            **{**usual, **settings})
+            settings = {"stdin": subprocess.DEVNULL, "stdout": log, "stderr": log, **settings}
+            self.process = subprocess.Popen(words, start_new_session=bool(self.before), **settings)
         self.started = time.monotonic()
 
     def kill(self) -> None:
@@ -243,7 +247,7 @@ class Node(Process):
         return self.folder / f"node-{self.number}.tape"
 
 
-class Service:
+class Service(contextlib.AbstractContextManager["Service"]):
     """Starts each process again that ended with status 0, as the service of a machine does."""
 
     def __init__(self, processes: Sequence[Process]) -> None:
@@ -259,9 +263,6 @@ class Service:
                         process.start()
                         self.restarts += 1
 
-    def __enter__(self) -> "Service":
-        return self
-
     def __exit__(self, *_: object) -> None:
         self.over.set()
         self.thread.join()
@@ -276,3 +277,26 @@ class Replica(Process):
         words = ["replica", "--farm", farm, "--peers", readers, "--readers", self.readers]
         super().__init__(program, folder, clients, operator, words)
         self.folder.mkdir(parents=True)
+
+
+# ---- wfarmctl
+
+def write_nodes(file: pathlib.Path, processes: Iterable[Process]) -> None:
+    """Writes the file of a farm's nodes and replicas."""
+    lines = (f"{'' if isinstance(each, Node) else 'replica '}{each.clients} {each.operator}\n"
+             for each in processes)
+    file.write_text("# clients operator\n" + "".join(lines))
+
+
+def ctl_words(program: str | pathlib.Path, file: pathlib.Path, *words: object,
+              seconds: float = 30) -> list[str]:
+    """The command line of `wfarmctl` for the farm of a file."""
+    options = ["--farm", str(file), "--program", str(program), "--seconds", str(seconds)]
+    return [sys.executable, str(TOP / "tools" / "wfarmctl"), *options, *map(str, words)]
+
+
+def wfarmctl(program: str | pathlib.Path, file: pathlib.Path, *words: object,
+             seconds: float = 30) -> tuple[int, str, str]:
+    """What it does: its status, what it writes, and what it writes on standard error."""
+    ended = subprocess.run(ctl_words(program, file, *words, seconds=seconds), capture_output=True, text=True)
+    return ended.returncode, ended.stdout, ended.stderr

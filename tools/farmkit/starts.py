@@ -17,7 +17,7 @@ from farmkit.folder import Files, Folder, contents, drawn, extremes, put
 from farmkit.ledger import MOST_VIOLATIONS
 from farmkit.mapfiles import map_of
 from farmkit.nodes import NODES, Nodes
-from farmkit.processes import end, free_ports
+from farmkit.processes import Node, end, free_ports
 from farmkit.tapes import PUBLISHED, records, tape_of
 from farmkit.wanted import until
 from farmkit.web import loopback
@@ -100,6 +100,9 @@ class Alone:
 
     where, starts_by, tape = "alone", "node", "node-0.tape"
     wanted = [OPENED.pattern]
+    # nodes: those of the trial, and of them those that run beside what is cut
+    every: Sequence[Node] = ()
+    others: Sequence[Node] = ()
 
     def __init__(self, given: Namespace, above: str) -> None:
         self.given, self.path = given, new_folder(above)
@@ -124,8 +127,7 @@ class Alone:
         return Start(self.words(self.starts_by), self.wanted)
 
     def run(self, command: str, cut: tuple[str, int] | None = None) -> tuple[Folder, Counter[str]]:
-        """Runs a command under strace up to its end, the cut, or as far as is wanted: the folder as it left
-        it, and how often it made each call."""
+        """Runs a command under strace, up to the cut or as far as is wanted: its folder, and its calls."""
         folder = Folder(contents(self.path))
         Start(traced(self.words(command), self.trace, cut), self.wanted)
         follower = StartFollower(self.path, folder, Watcher(), self.given.without)
@@ -137,14 +139,21 @@ class Alone:
         return folder, counts
 
     def begin_others(self, folders: list[Files]) -> None:
-        """Starts whoever runs beside it, each on a folder of its own."""
+        """Starts whoever runs beside it, each on what its folder has to have."""
+        for node, files in zip(self.others, folders):
+            put(node.folder, files)
+            node.start()
 
     def end_others(self) -> list[Files]:
         """Ends them: what their folders have then."""
-        return []
+        for node in self.others:
+            node.kill()
+        return [contents(node.folder) for node in self.others]
 
     def end(self) -> None:
         """Ends whoever still runs."""
+        for node in self.every:
+            node.kill()
 
     def judge(self, command: str, before: int | None, left: Files, said: Start, published: int) -> str | None:
         """What is wrong with what the node said on a folder that a cut left; None if nothing is."""
@@ -171,6 +180,7 @@ class AmongPeers(Alone):
     def __init__(self, given: Namespace, above: str) -> None:
         super().__init__(given, above)
         self.nodes = Nodes(given.program, pathlib.Path(above), NODES)
+        self.every, self.others = self.nodes.each, self.nodes.each[1:]
         self.path = str(self.nodes[0].folder)
 
     def words(self, command: str) -> list[str]:
@@ -184,22 +194,9 @@ class AmongPeers(Alone):
         self.end()
         return [("node", contents(self.path))]
 
-    def begin_others(self, folders: list[Files]) -> None:
-        for node, files in zip(self.nodes.each[1:], folders):
-            put(node.folder, files)
-            node.start()
-
-    def end_others(self) -> list[Files]:
-        self.end()
-        return [contents(node.folder) for node in self.nodes.each[1:]]
-
-    def end(self) -> None:
-        self.nodes.kill_all()
-
 
 class Following(Alone):
-    """The folder of a replica that asks a node, which isn't cut: `replica` is cut, on a new folder, on one
-    with some of the maps and on one with all."""
+    """The folder of a replica that asks a node: `replica` is cut, on a new one, on some maps and on all."""
 
     where, starts_by, tape = "of a node", "replica", "replica.tape"
     wanted = [rf"(?:opened|learned) published={MAPS}\b"]
@@ -207,7 +204,7 @@ class Following(Alone):
     def __init__(self, given: Namespace, above: str) -> None:
         super().__init__(given, above)
         nodes = Nodes(given.program, pathlib.Path(above), 1, has_readers=True)
-        self.node, self.readers = nodes[0], nodes.readers[0]
+        self.every, self.readers = nodes.each, nodes.readers[0]
 
     def words(self, command: str) -> list[str]:
         return [self.given.program, "replica", "--state", self.path, "--farm", "tried", "--peers",
@@ -216,16 +213,13 @@ class Following(Alone):
     def begin(self) -> list[tuple[str, Files]]:
         tape = pathlib.Path(f"{self.path}.tape")
         length = tape_of(self.given.program, tape, MAPS)
-        self.node.init("tried", "--from", str(tape))
-        self.node.start()
+        self.every[0].init("tried", "--from", str(tape))
+        self.every[0].start()
         self.start()
         used = contents(self.path)
         # (the second record is torn)
         part = {**used, self.tape: used[self.tape][:length * 3 // 2]}
         return [("replica", {}), ("replica", part), ("replica", used)]
-
-    def end(self) -> None:
-        self.node.kill()
 
     def judge(self, command: str, before: int | None, left: Files, said: Start, published: int) -> str | None:
         whole = published_in(left.get(self.tape, b""))

@@ -1,5 +1,6 @@
 """The records of a node's tape, as its file has them."""
 
+import functools
 import hashlib
 import pathlib
 from collections.abc import Iterable
@@ -31,10 +32,7 @@ def publications(texts: Iterable[bytes]) -> bytes:
 def records(tape: bytes) -> tuple[list[tuple[int, bytes]], bool]:
     """The whole records of a tape: kind and body of each, and whether a torn one follows them."""
     found, at = [], 0
-    while at + HEAD <= len(tape):
-        end = at + HEAD + int.from_bytes(tape[at + 2:at + HEAD], "big")
-        if end > len(tape):
-            break
+    while (end := at + HEAD + int.from_bytes(tape[at + 2:at + HEAD], "big")) <= len(tape):
         found.append((tape[at + 1], tape[at + HEAD:end]))
         at = end
     return found, at < len(tape)
@@ -42,10 +40,7 @@ def records(tape: bytes) -> tuple[list[tuple[int, bytes]], bool]:
 
 def digest_of(texts: Iterable[bytes]) -> bytes:
     """The digest of a history of these canonical texts."""
-    digest = bytes(32)
-    for text in texts:
-        digest = hashlib.sha256(digest + text).digest()
-    return digest
+    return functools.reduce(lambda digest, text: hashlib.sha256(digest + text).digest(), texts, bytes(32))
 
 
 def tape_of(program: str | pathlib.Path, path: pathlib.Path, count: int, length: int = 2_000) -> int:

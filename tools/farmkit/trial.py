@@ -35,8 +35,7 @@ class Trial:
 
 def go_through(every: Iterable[Callable[..., Any]], names: Sequence[str],
                attempt: Callable[[Callable[..., Any], pathlib.Path], str | None]) -> int:
-    """Tries the cases of these names, or all, each in a folder of its own: prints what it saw or what was
-    wrong. The status."""
+    """Tries the cases of these names, or all, each in its own folder, and prints what it saw. The status."""
     failed, cases = 0, [case for case in every if not names or case.__name__ in names]
     for case in cases:
         with tempfile.TemporaryDirectory(prefix="wfarm-case-") as folder:

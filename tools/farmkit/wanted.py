@@ -25,6 +25,11 @@ def unless(is_so: object, what: str) -> list[str]:
     return [] if is_so else [what]
 
 
+def named(name: str, wrong: Sequence[str]) -> list[str]:
+    """What is wrong, each behind the name of what was tried or seen."""
+    return [f"{name}: {what}" for what in wrong]
+
+
 def seconds_until(is_so: Callable[[], object], seconds: float = PATIENCE,
                   pause: float = 0.01) -> float | None:
     """The seconds until it is so; None where it isn't in that time."""

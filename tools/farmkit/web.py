@@ -70,28 +70,21 @@ def request(path: str, body: bytes | None = None, host: str = "127.0.0.1") -> by
 def received(client: socket.socket) -> bytes:
     """What comes on a connection until the other end closes or breaks it."""
     pieces = []
-    try:
+    with contextlib.suppress(OSError):
         while piece := client.recv(PIECE):
             pieces.append(piece)
-    except OSError:
-        pass
     return b"".join(pieces)
 
 
 def read_answer(client: socket.socket) -> Answer:
     """The answer that comes on a connection, which is closed behind it."""
-    pieces, count, end = [], 0, None
+    came, end = bytearray(), None
     with client:
-        while end is None or count < end:
-            piece = client.recv(PIECE)
-            if not piece:
-                break
-            pieces.append(piece)
-            count += len(piece)
-            if end is None:
-                end = end_of(b"".join(pieces))
-    head, gap, body = b"".join(pieces).partition(b"\r\n\r\n")
-    if not gap or end is not None and count < end:
+        while (end is None or len(came) < end) and (piece := client.recv(PIECE)):
+            came += piece
+            end = end or end_of(came)
+    head, gap, body = bytes(came).partition(b"\r\n\r\n")
+    if not gap or end is not None and len(came) < end:
         raise Unanswered("the connection ended before a whole answer")
     return Answer(int(head[9:12]), body)
 

@@ -39,8 +39,7 @@ class Teller:
     """Tells of one layer, or of the map. Its `add` and `lost` are those of Notes."""
 
     def __init__(self, notes, name):
-        self.notes, self.name = notes, name
-        self.told = set()
+        self.notes, self.name, self.told = notes, name, set()
 
     def add(self, what, place="", count=1, fate="changed"):
         self.notes.changes += count
@@ -66,9 +65,8 @@ class Teller:
 
 def mark(keywords, fate):
     """Says what became of the keywords, unless worse was said of them."""
-    for keyword in keywords:
-        if keyword is not None:
-            keyword.fate = max(keyword.fate, fate)
+    for keyword in filter(None, keywords):
+        keyword.fate = max(keyword.fate, fate)
 
 
 def has(table, block, name):

@@ -100,8 +100,7 @@ class Borders:
         if part[0] == part[-1]:
             ring = part[:-1]
             meeting = (i for i, point in enumerate(ring) if self.neighbours[point] is None)
-            start = next(meeting, None)
-            start = ring.index(min(ring)) if start is None else start
+            start = next(meeting, ring.index(min(ring)))
             part = ring[start:] + ring[: start + 1]
         places = [0] + [i for i in range(1, len(part) - 1) if self.neighbours[part[i]] is None] + [len(part) - 1]
         if len(places) == 2 and part[0] == part[-1] and self.neighbours[part[0]] is None:
@@ -159,7 +158,6 @@ class Borders:
         """The part that its arcs make at this distance."""
         points = []
         for arc, backwards in self.cuts[id(part)]:
-            kept = arc.kept(tolerance)
-            kept = kept[::-1] if backwards else kept
+            kept = arc.kept(tolerance)[:: -1 if backwards else 1]
             points += kept[1:] if points else kept
         return points

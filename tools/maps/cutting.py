@@ -24,8 +24,7 @@ def cut(the_map, notes):
         reach = (number(side, the_map.digits) for side in bounds(the_map.parts() or [[(0, 0)]]))
         raise MapError(f"--extent holds none of the data: they reach over {','.join(reach)}")
     for before, layer in zip(the_map.layers, layers):
-        outside = len(before.features) - len(layer.features)
-        if outside:
+        if outside := len(before.features) - len(layer.features):
             some = f"{outside} features" if layer.features else f"all {outside} features,"
             notes.lost(f"layer {layer.name}: {some} outside of --extent")
     return replace(the_map, layers=layers)

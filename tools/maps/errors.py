@@ -38,10 +38,8 @@ class Notes:
 
     def lines(self):
         for what, (count, place) in self.told.items():
-            if count > 1:
-                yield f"{what} ({count} times{', first in ' + place if place else ''})"
-            else:
-                yield f"{what}{' (' + place + ')' if place else ''}"
+            where = f"{count} times{', first in ' + place if place else ''}" if count > 1 else place
+            yield f"{what} ({where})" if where else what
 
 
 def library(name, package):

@@ -56,8 +56,6 @@ FUNCTIONS = {
     "initcap": lambda text: written(text).title(),
     "firstcap": lambda text: written(text)[:1].upper() + written(text)[1:],
 }
-
-
 OPERATORS = {
     ast.Add: lambda one, other: one + other if isinstance(one, float) and isinstance(other, float) else written(one) + written(other),
     ast.Sub: lambda one, other: number(one) - number(other),

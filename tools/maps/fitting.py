@@ -53,7 +53,11 @@ class Fitting:
     """A map whose lines and rings are arcs. Its features are joined where no picture can tell."""
 
     def __init__(self, the_map, options):
-        layers = [replace(layer, features=features_of(layer, options)) for layer in the_map.layers]
+        layers = []
+        for layer in the_map.layers:
+            if options.by_class:
+                layer = replace(layer, features=sorted(layer.features, key=lambda feature: feature.group))
+            layers.append(layer if options.apart else replace(layer, features=merged(layer)))
         self.map = replace(the_map, layers=layers)
         self.unit = 10**the_map.digits
         self.extent = [side / 10**EXTENT_DIGITS for side in the_map.extent]
@@ -70,13 +74,14 @@ class Fitting:
 
     def map_at(self, tolerance):
         """The map at the distance, and the features of each layer that are too small to draw."""
-        return reshaped(self.map, lambda kind, feature: self.parts_at(kind, feature, tolerance))
+        def parts_at(kind, feature):
+            if kind == "POINT" or tolerance is None:
+                return feature.parts
+            parts = [self.borders.simplified(part, tolerance) for part in feature.parts]
+            return [part for part in parts if len(part) >= LEAST_POINTS[kind]
+                    and not (kind == "LINE" and len(part) == 2 and part[0] == part[1])]
 
-    def parts_at(self, kind, feature, tolerance):
-        if kind == "POINT" or tolerance is None:
-            return feature.parts
-        parts = [self.borders.simplified(part, tolerance) for part in feature.parts]
-        return [part for part in parts if len(part) >= LEAST_POINTS[kind] and not (kind == "LINE" and len(part) == 2 and part[0] == part[1])]
+        return reshaped(self.map, parts_at)
 
     def simplified(self, tolerance):
         """The map at the distance, with borders that don't cross."""
@@ -115,13 +120,6 @@ class Fitting:
         place = point and tuple(side * 10**EXTENT_DIGITS // self.unit for side in point)
         whole = distance + ROUNDING
         return Largest(whole / self.unit * self.metres, self.pixels(whole), place)
-
-
-def features_of(layer, options):
-    """The layer's features in the order of --by-class, those as one that can be, unless --apart."""
-    if options.by_class:
-        layer = replace(layer, features=sorted(layer.features, key=lambda feature: feature.group))
-    return layer.features if options.apart else merged(layer)
 
 
 def rounded(the_map, digits, notes):

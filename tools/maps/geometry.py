@@ -16,16 +16,14 @@ ROUNDING = 1e-9  # of the world's half, by which a point at its edge may lie out
 def checked(points, crs, kind, place):
     """The points, or an error if one isn't in the system's world or a side leaps over its edge."""
     half_width, half_height = WORLD[crs]
-    for point in points:
-        x, y = point[0], point[1]
+    for x, y, *_ in points:
         if not (math.isfinite(x) and math.isfinite(y)):
             raise MapError(f"{place}: a point without a place in EPSG:{crs} ({x:g} {y:g}): {cure(crs)}")
         if abs(x) > half_width * (1 + ROUNDING) or abs(y) > half_height * (1 + ROUNDING):
             raise MapError(f"{place}: the point {x:g} {y:g} lies outside of EPSG:{crs}: {cure(crs)}")
     if kind != "POINT":
         for (x, *_), (then, *_) in zip(points, points[1:]):
-            leap = abs(then - x)
-            if half_width < leap < 2 * half_width * (1 - ROUNDING):
+            if half_width < abs(then - x) < 2 * half_width * (1 - ROUNDING):
                 raise MapError(f"{place}: it crosses 180 degrees ({x:g} to {then:g}): cut it there (ogr2ogr -wrapdateline)")
     return points
 
@@ -77,7 +75,6 @@ def on_grid(parts, kind, digits):
 
 
 def greatest_first(parts, kind):
-    """The parts, the greatest first."""
     if kind == "POINT" or len(parts) < 2:
         return parts
     greatest = max(parts, key=ring_area if kind == "POLYGON" else lambda line: sum(map(math.dist, line, line[1:])))

@@ -13,8 +13,7 @@ TOKEN = re.compile(
     r"""(?P<space>[ \t\r\n]+|(?:\#|//)[^\n]*|/\*.*?\*/)
     |"(?P<double>(?:[^"\\]|\\.)*)"i?|'(?P<single>(?:[^'\\]|\\.)*)'i?
     |(?P<list>\[[^\]]*\]|\([^\n]*\)|\{[^\n]*\}|/[^*/][^/]*/i?(?![\w./=-]))|(?P<word>[^\s"'\#]+)""",
-    re.DOTALL | re.VERBOSE,
-)
+    re.DOTALL | re.VERBOSE)
 INNER = {
     "MAP": "LAYER WEB LEGEND SCALEBAR QUERYMAP REFERENCE OUTPUTFORMAT SYMBOL",
     "LAYER": "CLASS FEATURE METADATA VALIDATION GRID JOIN CLUSTER COMPOSITE SCALETOKEN CONNECTIONOPTIONS",
@@ -77,19 +76,14 @@ class Block:
                 yield from block.whole()
 
 
-def decoded(data):
-    """The text, read as ISO-8859-1 if it isn't UTF-8."""
-    try:
-        return data.decode("utf-8-sig")
-    except UnicodeDecodeError:
-        return data.decode("iso-8859-1")
-
-
 def tokens(path, folder, depth=0):
     """(text, the same in capitals if it is a bare word, place) of each token, those of INCLUDE in its stead."""
     if depth > DEEPEST:
         raise MapError(f"{path}: files include one another too deeply")
-    text = decoded(path.read_bytes())
+    try:
+        text = path.read_bytes().decode("utf-8-sig")
+    except UnicodeDecodeError:
+        text = path.read_bytes().decode("iso-8859-1")
     place, line, is_name = 0, 1, False
     while place < len(text):
         found = TOKEN.match(text, place)

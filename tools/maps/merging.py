@@ -8,6 +8,7 @@ apart; and none that is filled and outlined, or drawn by several styles. A borde
 that is there twice counts for nothing where a shape is filled (even-odd).
 """
 
+from collections import defaultdict
 from itertools import groupby, repeat
 
 from .errors import library
@@ -46,10 +47,7 @@ def joined(run, numbers=repeat(0)):
     shapes = {}
     for feature, number in zip(run, numbers):
         key = (tuple(feature.values), number)
-        if key in shapes:
-            shapes[key].parts += feature.parts
-        else:
-            shapes[key] = Feature(list(feature.parts), feature.group, feature.values)
+        shapes.setdefault(key, Feature([], feature.group, feature.values)).parts += feature.parts
     return list(shapes.values())
 
 
@@ -65,7 +63,7 @@ def turns(run):
     numbers = []
     for others in before:
         taken = {numbers[i] for i in others}
-        numbers.append(next(number for number in range(len(taken) + 1) if number not in taken))
+        numbers.append(min({*range(len(taken) + 1)} - taken))
     return numbers
 
 
@@ -85,22 +83,17 @@ def dissolved(rings, may_go=lambda side: True):
             left[key] = side
     if len(left) == len(sides):
         return rings
-    ends = {}
+    ends = defaultdict(list)
     for one, other in left.values():
-        ends.setdefault(one, []).append(other)
-        ends.setdefault(other, []).append(one)
+        ends[one].append(other)
+        ends[other].append(one)
     result = []
     for start in list(ends):
         while ends[start]:
-            result.append(ring_from(start, ends))
+            ring = [start]
+            while len(ring) == 1 or ring[-1] != start:  # each point has an even number of sides
+                after = ends[ring[-1]].pop()
+                ends[after].remove(ring[-1])
+                ring.append(after)
+            result.append(ring)
     return result
-
-
-def ring_from(start, ends):
-    """A ring along sides that are taken from the ends. It is back at its start since each point has an even number."""
-    ring = [start]
-    while len(ring) == 1 or ring[-1] != start:
-        after = ends[ring[-1]].pop()
-        ends[after].remove(ring[-1])
-        ring.append(after)
-    return ring

@@ -1,5 +1,6 @@
 """A map as plain values, its canonical text, and the limits of both (docs/MAPFILES.md)."""
 
+from collections import Counter
 from dataclasses import dataclass, field
 
 from .errors import MapError
@@ -96,29 +97,23 @@ class Map:
         return [part for layer in self.layers for part in layer.parts()]
 
 
-# ---- the canonical text
-
-
-def style_lines(style):
-    colors = [" ".join(map(str, (keyword, *color)))
-              for keyword, color in (("COLOR", style.color), ("OUTLINECOLOR", style.outline)) if color is not None]
-    return ["STYLE", *colors, f"WIDTH {style.width}", f"SIZE {style.size}", "END"]
-
-
-def label_lines(label):
-    return ["LABEL", "COLOR {} {} {}".format(*label.color), f"SIZE {label.size}", f"POSITION {label.position}",
-            f"PRIORITY {label.priority}", f"FORCE {str(label.force).upper()}", f"BUFFER {label.buffer}", "END"]
-
-
 def class_lines(layer, index):
     """A class; where a layer has several, each is chosen by its number."""
     group = layer.classes[index]
     what = f"layer {layer.name}: class {group.name}"
     if len(group.styles) > MOST_STYLES:
         raise MapError(f"{what}: {len(group.styles)} styles, over the limit of {MOST_STYLES}: draw it with fewer")
-    expression = [f'EXPRESSION "{index + 1}"'] if len(layer.classes) > 1 else []
-    inside = [line for style in group.styles for line in style_lines(style)] + (label_lines(group.label) if group.label else [])
-    return ["CLASS", f"NAME {quoted(group.name, what)}", *expression, *inside, "END"]
+    lines = ["CLASS", f"NAME {quoted(group.name, what)}"]
+    lines += [f'EXPRESSION "{index + 1}"'] if len(layer.classes) > 1 else []
+    for style in group.styles:
+        colors = {"COLOR": style.color, "OUTLINECOLOR": style.outline}
+        spelled = ["{} {} {} {}".format(word, *color) for word, color in colors.items() if color is not None]
+        lines += ["STYLE", *spelled, f"WIDTH {style.width}", f"SIZE {style.size}", "END"]
+    if label := group.label:
+        lines += ["LABEL", "COLOR {} {} {}".format(*label.color), f"SIZE {label.size}",
+                  f"POSITION {label.position}", f"PRIORITY {label.priority}",
+                  f"FORCE {str(label.force).upper()}", f"BUFFER {label.buffer}", "END"]
+    return lines + ["END"]
 
 
 def feature_lines(layer, place, feature, digits):
@@ -126,9 +121,7 @@ def feature_lines(layer, place, feature, digits):
     values = feature.values + ([str(feature.group + 1)] if len(layer.classes) > 1 else [])
     lines = ["FEATURE", f"ITEMS {quoted(';'.join(values), what)}", f"TEXT {quoted(feature.text, what)}"]
     for part in feature.parts:
-        lines.append("POINTS")
-        lines += [f"{number(x, digits)} {number(y, digits)}" for x, y in part]
-        lines.append("END")
+        lines += ["POINTS", *(f"{number(x, digits)} {number(y, digits)}" for x, y in part), "END"]
     return lines + ["END"]
 
 
@@ -157,9 +150,8 @@ def canonical_text(the_map):
     """The map's canonical text, as `wfarm canon` writes it, of any length."""
     if len(the_map.layers) > MOST_LAYERS:
         raise MapError(f"{len(the_map.layers)} layers, over the limit of {MOST_LAYERS}: make two maps")
-    names = [layer.name for layer in the_map.layers]
-    for name in names:
-        if names.count(name) > 1:
+    for name, count in Counter(layer.name for layer in the_map.layers).items():
+        if count > 1:
             raise MapError(f"two layers have the name {name}: rename one")
     minx, miny, maxx, maxy = the_map.extent
     extent = " ".join(number(side, EXTENT_DIGITS) for side in the_map.extent)

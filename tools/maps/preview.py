@@ -71,7 +71,6 @@ class Painter:
         return self.pixels(done.stdout)
 
     def pixels(self, pixmap):
-        """The pixels of a P6 pixmap."""
         head = re.match(rb"P6\s+(?:#[^\n]*\s+)?(\d+) (\d+)\s+255\n", pixmap)
         pixels = self.numpy.frombuffer(pixmap, "uint8", offset=head.end())
         return pixels.reshape(int(head[2]), int(head[1]), 3).copy()
@@ -133,18 +132,17 @@ def pieces(the_map, extent):
     unit = 10 ** (EXTENT_DIGITS - the_map.digits)
     for layer in the_map.layers:
         plain = replace(layer, items=[], classes=[replace(group, label=None) for group in layer.classes])
-        some, points = [], 0
+        runs, points = [], 0
         for feature in layer.features:
             if not meet([side * unit for side in bounds(feature.parts)], near):
                 continue
             count = sum(map(len, feature.parts))
-            if some and (points + count > MOST_PIECE or len(some) == MOST_FEATURES):
-                yield replace(the_map, layers=[replace(plain, features=some)])
-                some, points = [], 0
-            some.append(replace(feature, values=[], text=""))
+            if not runs or points + count > MOST_PIECE or len(runs[-1]) == MOST_FEATURES:
+                runs.append([])
+                points = 0
+            runs[-1].append(replace(feature, values=[], text=""))
             points += count
-        if some:
-            yield replace(the_map, layers=[replace(plain, features=some)])
+        yield from (replace(the_map, layers=[replace(plain, features=some)]) for some in runs)
 
 
 def labels(the_map):
@@ -175,7 +173,11 @@ class MapServer:
         try:
             the_map = script.mapObj(str(self.path))
             the_map.applyDefaultSubstitutions()
-            self.set_layers(the_map)
+            for layer in map(the_map.getLayer, range(the_map.numlayers)):
+                is_on = self.names is None or layer.name in self.names
+                layer.status = script.MS_ON if is_on else script.MS_OFF
+                if not layer.getProjection():
+                    layer.setProjection(the_map.getProjection())
             the_map.setProjection(f"init=epsg:{self.crs}")
             the_map.units = script.projectionObj(f"init=epsg:{self.crs}").getUnits()
             half, half_up = (extent[2] - extent[0]) / width / 2, (extent[3] - extent[1]) / height / 2  # its extent ends in a pixel's middle
@@ -188,13 +190,6 @@ class MapServer:
         except (OSError, script.MapServerError, script.MapServerChildError) as error:
             raise MapError(f"{self.path}: MapServer can't draw it for --preview: {error}") from error
 
-    def set_layers(self, the_map):
-        own = the_map.getProjection()
-        for layer in map(the_map.getLayer, range(the_map.numlayers)):
-            layer.status = self.script.MS_ON if self.names is None or layer.name in self.names else self.script.MS_OFF
-            if not layer.getProjection():
-                layer.setProjection(own)
-
 
 def pixmap_of(script, the_map):
     image = script.outputFormatObj("GDAL/PNM", "pixmap")
@@ -204,9 +199,6 @@ def pixmap_of(script, the_map):
     with tempfile.NamedTemporaryFile(suffix=".ppm") as file:
         the_map.draw().save(file.name)
         return Path(file.name).read_bytes()
-
-
-# ---- the whole picture
 
 
 def write(path, painter, the_map, written, source):
@@ -235,11 +227,12 @@ def write(path, painter, the_map, written, source):
 def surroundings(extent, place):
     """The part of the extent around the place, in its proportions."""
     sides = []
-    for low, high, at in ((extent[0], extent[2], place[0]), (extent[1], extent[3], place[1])):
+    for low, high, at in zip(extent[:2], extent[2:], place):
         width = (high - low) // CLOSER
         start = min(max(at - width // 2, low), high - width)
         sides.append((start, start + width))
-    return sides[0][0], sides[1][0], sides[0][1], sides[1][1]
+    (left, right), (bottom, top) = sides
+    return left, bottom, right, top
 
 
 def frame(picture, extent, near):

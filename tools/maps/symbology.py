@@ -10,6 +10,8 @@ from .model import (LABEL_SIZES, MOST_BUFFER, MOST_PRIORITY, MOST_SIZE, MOST_WID
 
 LETTER = 0.55  # the width of a letter of most fonts, in heights
 BITMAP_SIZES = (5, 7, 10, 13, 16)  # of MapServer's own font, TINY to GIANT, in pixels
+INCHES = {"INCHES": 1, "FEET": 12, "MILES": 63_360, "METERS": 39.3701, "KILOMETERS": 39_370.1,
+          "DD": 4_374_754, "NAUTICALMILES": 72_913.3858}  # of a unit
 # what styles and labels can take from an item
 STYLE_WORDS = ("COLOR", "OUTLINECOLOR", "WIDTH", "SIZE")
 LABEL_WORDS = ("COLOR", "SIZE", "PRIORITY")
@@ -27,8 +29,6 @@ class Symbology:
         self.items = {layer.getItem(i): i for i in range(layer.numitems) if layer.getItem(i) in items}
         self.known = {}  # classes as drawn, by their index and the values that they are bound to
         self.bound = [self.bound_items(layer.getClass(i)) for i in range(layer.numclasses)]
-
-    # ---- bound values
 
     def item(self, thing, word):
         """The name of the item that a style or label takes a value from, if any."""
@@ -48,18 +48,17 @@ class Symbology:
 
     def drawn(self, index, shape):
         """The shape's class as it is drawn."""
-        values = tuple(self.value(shape, item) for item in self.bound[index])
-        if (index, values) not in self.known:
-            self.known[index, values] = self.made(self.layer.getClass(index), self.blocks[index], dict(zip(self.bound[index], values)))
-        return self.known[index, values]
+        values = {item: self.value(shape, item) for item in self.bound[index]}
+        key = index, *values.values()
+        if key not in self.known:
+            self.known[key] = self.made(self.layer.getClass(index), self.blocks[index], values)
+        return self.known[key]
 
     def made(self, group, block, values):
-        styles = [(style, inner) for style, inner in zip(styles_of(group), block.all("STYLE")) if self.is_drawn(style, inner)]
+        styles = [pair for pair in zip(styles_of(group), block.all("STYLE")) if self.is_drawn(*pair)]
         has_fill = any(style.symbol == 0 and is_color(style.color) for style, _ in styles)
         drawn = [one for style, block in styles for one in self.style(style, block, values, has_fill)]
         return Class(group.name or "", drawn, self.label(group, block, values))
-
-    # ---- styles
 
     def is_drawn(self, style, block):
         """Whether something of the style can be drawn at this scale."""
@@ -97,8 +96,7 @@ class Symbology:
 
     def line(self, style, block, color, outline, width, size):
         """A line, and below it the line of its outline, if any."""
-        result = []
-        keyword = block.keyword("WIDTH")
+        result, keyword = [], block.keyword("WIDTH")
         if style.symbol != 0:
             self.teller.change(block.keyword("SYMBOL"), ": it is a line of one colour")
             keyword, width = (block.keyword("SIZE"), size) if size > width else (keyword, width)
@@ -174,8 +172,6 @@ class Symbology:
             self.teller.change(keyword, f"{scaled} became {whole}" if keyword else f"a size of {size:g} became {whole}")
         return whole
 
-    # ---- labels
-
     def is_label_drawn(self, label):
         return has_scale(self.layer, self.scale, "label") and has_scale(label, self.scale)
 
@@ -192,7 +188,6 @@ class Symbology:
         return self.label_as(*drawn[0], values) if drawn else None
 
     def label_as(self, label, block, values):
-        """The label as it is drawn."""
         size, position, force = map(block.keyword, ("SIZE", "POSITION", "FORCE"))
         color = self.color(label, "COLOR", values, block) or (0, 0, 0)
         named = label_size(self.pixels(label, "SIZE", values), label.font)
@@ -265,11 +260,8 @@ def label_size(pixels, font):
 
 def size_factor(mapscript, layer, scale):
     """By how much sizes grow at this scale (SIZEUNITS, SYMBOLSCALEDENOM)."""
-    inches = {
-        mapscript.MS_INCHES: 1, mapscript.MS_FEET: 12, mapscript.MS_MILES: 63_360, mapscript.MS_METERS: 39.3701,
-        mapscript.MS_KILOMETERS: 39_370.1, mapscript.MS_DD: 4_374_754, mapscript.MS_NAUTICALMILES: 72_913.3858,
-    }  # fmt: skip
-    if layer.sizeunits in inches and layer.sizeunits != mapscript.MS_PIXELS:
+    inches = {getattr(mapscript, f"MS_{unit}"): length for unit, length in INCHES.items()}
+    if layer.sizeunits in inches:
         return inches[layer.sizeunits] * layer.map.resolution / scale
     dots = layer.map.resolution / layer.map.defresolution
     return dots * layer.symbolscaledenom / scale if layer.symbolscaledenom > 0 else dots

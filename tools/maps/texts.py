@@ -14,32 +14,24 @@ REPLACED = (
     (r"\r\n|[\r\n\t]", " ", "line feeds and tabs of a text became spaces"),
     (r"\\", "/", "a backslash became a slash"),
     ('"', "'", "double quotes became apostrophes"),
-    (UNHELD, "", "characters that no text holds were left out"),
-)
+    (UNHELD, "", "characters that no text holds were left out"))
 
 # What NFKD leaves as it is. Labels draw small letters as capitals, so the case is kept.
-ASCII = {
+ASCII = str.maketrans({
     "ß": "ss", "ẞ": "SS", "ø": "o", "Ø": "O", "æ": "ae", "Æ": "AE", "œ": "oe", "Œ": "OE", "ł": "l", "Ł": "L", "đ": "d",
     "Đ": "D", "ð": "d", "Ð": "D", "þ": "th", "Þ": "TH", "ı": "i", "ħ": "h", "Ħ": "H", "ŋ": "ng", "Ŋ": "NG", "ŧ": "t",
     "Ŧ": "T", "'": " ", "’": " ", "‘": " ", "/": "-", "_": "-", "–": "-", "—": "-", "‐": "-", "‑": "-", "−": "-",
-    ",": " ", ";": " ", "(": " ", ")": " ", "·": ".", "\t": " ",
-}  # fmt: skip
+    ",": " ", ";": " ", "(": " ", ")": " ", "·": ".", "\t": " "})
 DRAWN = {*string.ascii_letters, *string.digits, *"-. "}  # other characters of a label are filled boxes
-
-
-def decoded(text, notes, place):
-    """The text, read as ISO-8859-1 if it isn't UTF-8: bytes that aren't are lone surrogates in it."""
-    try:
-        text.encode()
-        return text
-    except UnicodeEncodeError:
-        notes.add("a text that isn't UTF-8 was read as ISO-8859-1", place)
-        return text.encode("utf-8", "surrogateescape").decode("iso-8859-1")
 
 
 def plain(text, notes, place):
     """The text with what no text of a mapfile holds replaced, and each kind of replacement noted."""
-    text = decoded(text, notes, place)
+    try:
+        text.encode()
+    except UnicodeEncodeError:  # bytes that aren't UTF-8 are lone surrogates in it
+        notes.add("a text that isn't UTF-8 was read as ISO-8859-1", place)
+        text = text.encode("utf-8", "surrogateescape").decode("iso-8859-1")
     for pattern, new, what in REPLACED:
         if re.search(pattern, text):
             notes.add(what, place)
@@ -81,8 +73,7 @@ def number(units, digits):
 
 def ascii_letters(text):
     """The text in letters that labels draw, as far as there are any (é as e, ß as ss)."""
-    replaced = "".join(ASCII.get(character, character) for character in text)
-    letters = unicodedata.normalize("NFKD", replaced)
+    letters = unicodedata.normalize("NFKD", text.translate(ASCII))
     return " ".join("".join(character for character in letters if not unicodedata.combining(character)).split())
 
 

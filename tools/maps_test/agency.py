@@ -2,7 +2,7 @@
 
 import math
 import random
-from itertools import repeat
+from itertools import product, repeat
 from pathlib import Path
 
 from osgeo import gdal, ogr, osr
@@ -11,13 +11,6 @@ gdal.UseExceptions()
 
 WEST, SOUTH, WIDTH, HEIGHT = 2_600_000, 1_200_000, 100_000, 50_000  # metres of EPSG:2056
 USES = ("Wald", "Wiese", "Stadt", "Fels")
-
-
-def system(epsg):
-    result = osr.SpatialReference()
-    result.ImportFromEPSG(epsg)
-    result.SetAxisMappingStrategy(osr.OAMS_TRADITIONAL_GIS_ORDER)
-    return result
 
 
 def crooked(first, last, depth, random_source):
@@ -45,12 +38,11 @@ def coverage(columns, rows, depth):
     across = {(c, r): crooked(corners[c, r], corners[c + 1, r], depth, source) for c in range(columns) for r in range(rows + 1)}
     upward = {(c, r): crooked(corners[c, r], corners[c, r + 1], depth, source) for c in range(columns + 1) for r in range(rows)}
     rings = []
-    for row in range(rows):
-        for column in range(columns):
-            top = [*across[column, row + 1], corners[column + 1, row + 1]]
-            left = [*upward[column, row], corners[column, row + 1]]
-            ring = across[column, row] + upward[column + 1, row] + top[:0:-1] + left[:0:-1]
-            rings.append(ring + ring[:1])
+    for row, column in product(range(rows), range(columns)):
+        top = [*across[column, row + 1], corners[column + 1, row + 1]]
+        left = [*upward[column, row], corners[column, row + 1]]
+        ring = across[column, row] + upward[column + 1, row] + top[:0:-1] + left[:0:-1]
+        rings.append(ring + ring[:1])
     return rings
 
 
@@ -74,7 +66,10 @@ def write_table(path, kind, fields, rows, table=None, epsg=2056, options=()):
     else:
         driver = "GPKG" if path.suffix == ".gpkg" else "ESRI Shapefile"
         data = ogr.GetDriverByName(driver).CreateDataSource(str(path))
-    layer = data.CreateLayer(table or path.stem, system(epsg), kind, options=list(options))
+    system = osr.SpatialReference()
+    system.ImportFromEPSG(epsg)
+    system.SetAxisMappingStrategy(osr.OAMS_TRADITIONAL_GIS_ORDER)
+    layer = data.CreateLayer(table or path.stem, system, kind, options=list(options))
     for name, value in zip(fields, rows[0][1]):
         layer.CreateField(ogr.FieldDefn(name, ogr.OFTString if isinstance(value, str) else ogr.OFTInteger))
     layer.StartTransaction()

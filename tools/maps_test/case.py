@@ -48,16 +48,12 @@ def picture(program, query, text):
     return subprocess.run([program, "draw", query], input=text, capture_output=True).stdout
 
 
-def prepare(case, folder):
-    for name, content in case.files.items():
-        (folder / name).write_bytes(content if isinstance(content, bytes) else content.encode("utf-8", "surrogateescape"))
-    if case.make is not None:
-        case.make(folder)
-
-
 def fault(tool, case, folder, program, keep):
     """The first that is wrong with the run, or None."""
-    prepare(case, folder)
+    for name, content in case.files.items():
+        (folder / name).write_bytes(content.encode("utf-8", "surrogateescape"))
+    if case.make is not None:
+        case.make(folder)
     return next(faults(case, run(tool, case.words, folder), program), None)
 
 
@@ -66,10 +62,7 @@ def faults(case, done, program):
     lines = said.strip().splitlines()
     if "Traceback" in said:
         yield f"a traceback: {lines[-1]}"
-    if case.error is not None:
-        yield from wrong_error(case, done, lines)
-    else:
-        yield from wrong_map(case, done, lines, program)
+    yield from wrong_map(case, done, lines, program) if case.error is None else wrong_error(case, done, lines)
     for notes, is_wanted in ((case.notes, True), (case.silent, False)):
         for note in notes:
             if is_wanted != any(re.match(f"note: .*{note}", line) for line in lines):

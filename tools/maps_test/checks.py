@@ -3,13 +3,13 @@
 import json
 import re
 import subprocess
-import time
 from pathlib import Path
 
 import numpy
 from shapely.geometry import Polygon
 from shapely.ops import unary_union
 
+from farmkit.measure import timed
 from maps.borders import weights
 from maps.preview import CAPTION, GAP
 from maps.texts import number
@@ -33,7 +33,6 @@ def polygons_of(text):
 
 
 # ---- borders
-
 
 def borders_stay_shared(folder, program, keep):
     """Communes in labelled polygons, simplified until they fit: no overlap, no gap between them, in square metres."""
@@ -78,14 +77,12 @@ def numbers_as_written(folder, program, keep):
 
 # ---- features as one shape
 
-
 SHAPED = {
     "paths": ["--layer", "paths.geojson", "--class-by", "kind", "--class", "road=200,0,0", "--width", "9"],
     "woods": ["--layer", "woods.geojson", "--color", "0,120,0"],
     "fences": ["--layer", "woods.geojson", "--outline", "0,120,0", "--width", "9"],
     "fields": ["--layer", "woods.geojson", "--color", "200,200,0", "--outline", "0,120,0", "--width", "9"],
-    "wards": ["--layer", "wards.geojson", "--class-by", "party", "--outline", "0,0,0", "--label", "ward"],
-}
+    "wards": ["--layer", "wards.geojson", "--class-by", "party", "--outline", "0,0,0", "--label", "ward"]}
 
 
 def unlike(folder, program, words, width, share=1.0):
@@ -110,7 +107,6 @@ def neighbours_as_one_look_alike(folder, program, keep):
 
 
 # ---- beside MapServer
-
 
 def own_maps_stay(folder, program, keep):
     """Maps of wfarm go through MapServer's library and back with every pixel."""
@@ -156,7 +152,6 @@ def whole_map_beside_mapserver(folder, program, keep):
 
 # ---- parts and previews
 
-
 PART = "--extent=880000,5960000,930000,5985000"  # a ninth of the agency's area
 
 
@@ -196,9 +191,9 @@ def preview_of_many_points(folder, program, keep):
     """50,000 points: the map's side is its picture but for the frame, the source's nearly."""
     agency.write_polygons(folder / "a.gpkg", agency.coverage(20, 10, 6), ("name", "use"), [(f"Ö{i}", i % 7) for i in range(200)])
     words = ["--fit", "--preview", "p.png", "--program", program, *TABLE, "--class-by", "use"]
-    took, (text, said) = seconds_of("make_map.py", words, folder)
+    (text, said), took = timed(made, "make_map.py", words, folder)
     source, ours = sides_of_preview(folder, program, text)
-    print(f"preview of 51,200 points: {took:.1f} seconds, {source:.2%} of the source's pixels are the map's; {said.splitlines()[-1]}")
+    print(f"preview of 51,200 points: {took / 1000:.1f} seconds, {source:.2%} of the source's pixels are the map's; {said.splitlines()[-1]}")
     size, tall = pictures.pixels_of_png(folder / "p.png").shape[:2], pictures.height_of(text, 400)
     is_whole = size == (2 * tall + 2 * CAPTION, 2 * 400 + GAP)
     return None if is_whole and ours > 0.995 and 0.95 < source < ours else f"{size}, {source}, {ours}"
@@ -228,21 +223,15 @@ def own_map_of_mapserver(folder, program, keep):
 
 # ---- speed, and the whole way
 
-
-def seconds_of(tool, words, folder):
-    start = time.monotonic()
-    done = made(tool, words, folder)
-    return time.monotonic() - start, done
-
-
 def fast_enough(folder, program, keep):
     """200 communes, 300 roads and 60 towns by --fit in 15 seconds; 100,000 points of a GeoPackage in a minute."""
     agency.write(folder, depth=4)
-    took, _ = seconds_of("import_mapfile.py", ["--crs", "3857", "--fit", "--ascii", "agency.map"], folder)
+    _, took = timed(made, "import_mapfile.py", ["--crs", "3857", "--fit", "--ascii", "agency.map"], folder)
     agency.write_polygons(folder / "big.gpkg", agency.coverage(20, 10, 7), ("name",), [(f"C{i}",) for i in range(200)])
-    long, _ = seconds_of("make_map.py", ["--name", "a", "--fit", "--layer", "big.gpkg", "--label", "name"], folder)
-    print(f"speed: the agency's map in {took:.1f} seconds, 102,400 points in {long:.1f}")
-    return None if took < 15 and long < 60 else "too slow"
+    words = ["--name", "a", "--fit", "--layer", "big.gpkg", "--label", "name"]
+    _, long = timed(made, "make_map.py", words, folder)
+    print(f"speed: the agency's map in {took / 1000:.1f} seconds, 102,400 points in {long / 1000:.1f}")
+    return None if took < 15_000 and long < 60_000 else "too slow"
 
 
 def query_of_the_map(folder, program, keep):
@@ -261,7 +250,6 @@ def report_of_what_is_lost(folder, program, keep):
 
 
 # ---- the report of `wfarm check` as JSON
-
 
 def wrong_json(program, text):
     """What `check --format json` says that `check` doesn't, or a place that isn't the offset's."""
@@ -291,11 +279,8 @@ def check_as_json(folder, program, keep):
 
 
 CHECKS = {
-    check.__name__.replace("_", " "): check
-    for check in (
+    check.__name__.replace("_", " "): check for check in (
         borders_stay_shared, borders_do_not_cross, weights_of_a_line, numbers_as_written, one_shape_looks_alike,
         neighbours_as_one_look_alike, own_maps_stay, polygons_beside_mapserver, whole_map_beside_mapserver, fast_enough,
         cut_borders_stay_shared, a_part_has_more_detail, preview_of_data, preview_of_many_points, preview_of_a_mapfile, own_map_of_mapserver,
-        query_of_the_map, report_of_what_is_lost, table_of_the_page, keywords_of_the_page, a_map_of_each_keyword, check_as_json,
-    )
-}  # fmt: skip
+        query_of_the_map, report_of_what_is_lost, table_of_the_page, keywords_of_the_page, a_map_of_each_keyword, check_as_json)}

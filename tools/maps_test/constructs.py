@@ -32,14 +32,10 @@ PLACES = {
     "class": lambda text, kind, more: layer(f"CLASS {text} {FILL} END"),
     "style": lambda text, kind, more: layer(f"CLASS STYLE {text} END {more} END", kind),
     "label": lambda text, kind, more: layer(f"CLASS {FILL} LABEL {text} END END"),
-    "grid": lambda text, kind, more: layer(f"{text} CLASS {FILL} END", kind, "", ""),
-}  # fmt: skip
-
-
+    "grid": lambda text, kind, more: layer(f"{text} CLASS {FILL} END", kind, "", "")}
 DATA = (
     '{"type": "FeatureCollection", "features": [{"type": "Feature", "properties": {"use": "a", "n": 4}, "geometry": '
-    '{"type": "Polygon", "coordinates": [[[1, 1], [5, 1], [5, 5], [1, 1]]]}}]}'
-)
+    '{"type": "Polygon", "coordinates": [[[1, 1], [5, 1], [5, 5], [1, 1]]]}}]}')
 LINE = re.compile(r"(.*?): (\w+)/?(\w*) ?(.*?)( =>.*?)?(?: \| (.*))?")  # name, place, kind, text, => instead, more
 
 
@@ -59,15 +55,12 @@ def made():
 MADE = made()
 
 
-def keyword(name):
-    """What the notes call a construct: its first word in capitals or with an underscore."""
-    found = re.search(r"[A-Z]{3,}|wms_\w+", name)
-    return found[0] if found else "WIDTH"
-
-
 def construct(block, fate, name, text):
     files = {"a.map": text, "a.geojson": DATA, "b.map": "# nothing\n", "a.csv": "1\na\n"}
-    word = keyword({"other METADATA": "METADATA", "a hatch over a fill": "SYMBOL", "no SYMBOL": "COLOR"}.get(name, name))
+    # the notes call it by its first word in capitals or with an underscore
+    spelled = {"a hatch over a fill": "SYMBOL", "no SYMBOL": "COLOR"}.get(name, name)
+    found = re.search(r"[A-Z]{3,}|wms_\w+", spelled)
+    word = found[0] if found else "WIDTH"
     told = {CARRIED: "(changed|left out): [^(]*", IDLE: "without effect on a farm's answers: .*"}
     said = (rf"{told.get(fate, f'{fate}: [^(]*')}\b{word}\b",)
     notes, silent = ((), said) if fate == CARRIED else (said, ())

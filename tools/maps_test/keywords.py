@@ -10,8 +10,7 @@ PAGE = TOP / "docs" / "MAPFILES.md"
 # Each block with the keywords that lead into it, and a map that has each keyword of each.
 BEFORE = {
     "MAP": "MAP", "WEB": "MAP WEB", "LAYER": "MAP LAYER", "CLASS": "MAP LAYER CLASS", "STYLE": "MAP LAYER CLASS STYLE",
-    "LABEL": "MAP LAYER CLASS LABEL", "FEATURE": "MAP LAYER FEATURE",
-}  # fmt: skip
+    "LABEL": "MAP LAYER CLASS LABEL", "FEATURE": "MAP LAYER FEATURE"}
 WHOLE = """
 MAP NAME "a" EXTENT 0 0 4 4 PROJECTION "init=epsg:4326" END
   SIZE 400 400 IMAGECOLOR 1 2 3 UNITS dd STATUS on IMAGETYPE png SHAPEPATH "."
@@ -47,8 +46,7 @@ def keywords_of_the_page(folder, program, keep):
     """The page's table has the keywords that the program names in each block, and no other."""
     page = written()
     for block, before in BEFORE.items():
-        apart = page.get(block, set()) ^ named(program, before)
-        if apart:
+        if apart := page.get(block, set()) ^ named(program, before):
             return f"{block}: {', '.join(sorted(apart))} are written or named alone"
     return None
 

@@ -74,8 +74,7 @@ GEOMETRY = [
     made("a line east to west at 180", [feature("LineString", [[170, 0], [180, 5]])], lines=("180 5",)),
     made("one point", TWO[:1], error=r"the extent 1 1 1 1 is empty: give one by --extent"),
     made("one point with an extent", TWO[:1], ["--extent=0,0,2,2"], lines=("EXTENT 0 0 2 2",)),
-    made("many parts", [feature("MultiPolygon", [[SQUARE], [[[5, 5], [9, 5], [9, 9], [5, 5]]]])], lines=("EXTENT 0 0 9 9",)),
-]  # fmt: skip
+    made("many parts", [feature("MultiPolygon", [[SQUARE], [[[5, 5], [9, 5], [9, 9], [5, 5]]]])], lines=("EXTENT 0 0 9 9",))]
 
 FILES = [
     *(made(name, [], text=text, error=r"made.geojson: GDAL can't read it") for name, text in (
@@ -91,8 +90,7 @@ FILES = [
     Case("a layer without a comma in its name", ["--name", "a", "--layer", "a,b.geojson"], {"a,b.geojson": collection(*TWO)}, lines=('NAME "a_b"',)),
     Case("two layers of one name", [*WORDS, "--layer", "made.geojson"], {"made.geojson": collection(*TWO)}, error=r"two layers have the name made: rename"),
     Case("a table without places", ["--name", "a", "--layer", "a.csv"], {"a.csv": "name,age\nx,3\n"}, error=r"a.csv: (feature 1: it has no geometry|the data name no system)"),
-    Case("an option before any layer", ["--name", "a", "--label", "name", *WORDS], error="--label stands before the first --layer", status=2),
-]
+    Case("an option before any layer", ["--name", "a", "--label", "name", *WORDS], error="--label stands before the first --layer", status=2)]
 
 TEXTS = [
     made("both quotes in a label", named("5\" of 'x'"), ["--label", "name"], notes=("double quotes became apostrophes .*feature 1",), lines=("TEXT \"5' of 'x'\"",)),
@@ -116,8 +114,7 @@ TEXTS = [
     made("a condition that isn't SQL", TWO, ["--where", "name ="], error=r"--where 'name =' isn't understood"),
     made("a condition that nothing meets", TWO, ["--where", "name = 'x'"], error=r"made.geojson: table made: no feature meets --where \"name = 'x'\""),
     made("an unknown system", TWO, ["--source", "here"], error=r"here is no system: write --source EPSG:"),
-    made("a system without a number", TWO, ["--source", "EPSG:99999"], error=r"EPSG:99999 is no system"),
-]  # fmt: skip
+    made("a system without a number", TWO, ["--source", "EPSG:99999"], error=r"EPSG:99999 is no system")]
 
 USES = [feature("Point", [i, i], use=f"use {i % 3}", pop=i * 100) for i in range(9)]
 CLASSES = [
@@ -130,8 +127,7 @@ CLASSES = [
     made("ranges of nothing", USES, ["--ranges", "100"], error=r"need --class-by"),
     made("too many values", [feature("Point", [i, i], n=i) for i in range(20)], ["--class-by", "n"], error=r"attribute n has 20 values, and a layer at most 15 classes"),
     made("a value with quotes", named('a"b'), ["--class-by", "name", "--class", 'a"b=1,2,3'], lines=("NAME \"a'b\"", "COLOR 1 2 3")),
-    made("no colour", USES, ["--color", "red"], error="is no color", status=2),
-]  # fmt: skip
+    made("no colour", USES, ["--color", "red"], error="is no color", status=2)]
 
 
 def wavy(points):
@@ -151,8 +147,7 @@ EXTENTS = [
     made("some features outside", [*TWO, feature("Point", [20, 20])], ["--extent=0,0,4,4"], notes=("left out: layer made: 1 features outside of --extent",), absent=("20 20",)),
     made("a line that leaves and comes back", [feature("LineString", [[1, 1], [9, 2], [1, 3]])], ["--extent=0,0,4,4"], lines=("4.023438 1.37793", "4.023438 2.62207"), absent=("9 2",)),
     made("a comb in two pieces", [COMB], ["--extent=4,-1,7,4"], lines=("3.970703 0", "3.970703 2", "3.970703 3"), absent=("2 1", "8 0")),
-    made("a preview without a program", TWO, ["--preview", "p.png", "--program", "./nix"], error=r"--program ./nix: .*No such file"),
-]  # fmt: skip
+    made("a preview without a program", TWO, ["--preview", "p.png", "--program", "./nix"], error=r"--program ./nix: .*No such file")]
 
 
 LIMITS = [
@@ -164,11 +159,7 @@ LIMITS = [
     made("points that can't fit", [feature("Point", [i % 50, i // 50], n=f"n{i}") for i in range(2001)], ["--label", "n", "--fit"],
          error=r"even with the simplest shapes the map has 2,001 features"),
     Case("too many layers", ["--name", "a", *(word for i in range(65) for word in ("--layer", f"{i}.geojson"))],
-         {f"{i}.geojson": collection(*TWO) for i in range(65)}, error=r"65 layers, over the limit of 64"),
-]  # fmt: skip
-
-
-# ---- other formats
+         {f"{i}.geojson": collection(*TWO) for i in range(65)}, error=r"65 layers, over the limit of 64")]
 
 
 def two_tables(folder):
@@ -196,8 +187,7 @@ def invalid_polygon(folder):
 
 def cut_shapefile(folder):
     shapefile(folder)
-    whole = (folder / "a.shp").read_bytes()
-    (folder / "a.shp").write_bytes(whole[:110])
+    (folder / "a.shp").write_bytes((folder / "a.shp").read_bytes()[:110])
 
 
 HOLED = ogr.CreateGeometryFromWkt("POLYGON Z ((0 0 7,9 0 7,9 9 7,0 9 7,0 0 7),(3 3 7,3 6 7,6 6 7,6 3 7,3 3 7))")
@@ -236,8 +226,7 @@ FORMATS = [
          lines=('TEXT "Ring"', "7.2 47.1")),
     Case("a curve", GPKG, make=curve, notes=("curves became straight lines",)),
     Case("a polygon that crosses itself", GPKG, make=invalid_polygon, lines=("EXTENT 0 0 2 2",)),
-    Case("a polygon that crosses itself, simplified", [*GPKG, "--simplify", "1000"], make=invalid_polygon),
-]  # fmt: skip
+    Case("a polygon that crosses itself, simplified", [*GPKG, "--simplify", "1000"], make=invalid_polygon)]
 
 gdal.UseExceptions()
 CASES = GEOMETRY + FILES + TEXTS + CLASSES + EXTENTS + LIMITS + FORMATS

@@ -30,8 +30,7 @@ FILES = [
     mapped("data that aren't there", layer(f'DATA "nix.shp" {FILL}'), error=r"layer p: MapServer can't open its data: .*nix.*--layers"),
     mapped("a table that isn't there", layer(f'CONNECTIONTYPE OGR CONNECTION "nix.gpkg" DATA "t" {FILL}'), error=r"layer p: MapServer can't"),
     mapped("no layers", "", error=r"a.map: nothing is drawn"),
-    mapped("a layer that isn't there", inline(FILL, "a"), ["--layers", "q"], error=r"a.map: it has no layer 'q': it has p"),
-]
+    mapped("a layer that isn't there", inline(FILL, "a"), ["--layers", "q"], error=r"a.map: it has no layer 'q': it has p")]
 
 SYSTEMS = [
     mapped("no system", inline(FILL, "a"), ["--crs", "4326"], head="MAP NAME a EXTENT 0 0 10 10\n", error=r"it has no PROJECTION, and the map has none: write --source"),
@@ -43,8 +42,7 @@ SYSTEMS = [
     mapped("degrees as metres", inline(FILL, "a"), ["--crs", "3857"], lines=("556597.5 557305.3",)),
     mapped("an extent that isn't on earth", inline(FILL, "a"), head='MAP NAME a EXTENT 0 0 9999 9999 PROJECTION "init=epsg:4326" END\n', error=r"a.map: EXTENT: the point"),
     mapped("data that aren't on earth", layer(f"FEATURE POINTS 1 1 900 1 9 9 1 1 END END {FILL}"), error=r"layer p: shape 1: the point 900 1 lies outside"),
-    mapped("a shape across 180 degrees", layer(f"FEATURE POINTS 170 1 -170 1 -170 9 170 1 END END {FILL}"), head=HEAD.replace("0 0 10 10", "-180 0 180 10"), error=r"layer p: shape 1: it crosses 180"),
-]
+    mapped("a shape across 180 degrees", layer(f"FEATURE POINTS 170 1 -170 1 -170 9 170 1 END END {FILL}"), head=HEAD.replace("0 0 10 10", "-180 0 180 10"), error=r"layer p: shape 1: it crosses 180")]
 
 CLASSES = [
     mapped("regular expressions", inline('CLASSITEM kind CLASS NAME f EXPRESSION /^wo/ STYLE COLOR 1 2 3 END END CLASS NAME g EXPRESSION /x/i STYLE COLOR 4 5 6 END END', "wood", "aXb", "c"),
@@ -61,8 +59,7 @@ CLASSES = [
     mapped("a layer of another scale", inline(FILL, "a", others="MAXSCALEDENOM 1000") + inline(FILL, "a", name="q"), notes=("layer p: left out: all of it: it isn't drawn at 1:",)),
     mapped("a scale", inline(FILL, "a", others="MAXSCALEDENOM 1000"), ["--scale", "500"], lines=('NAME "p"',)),
     mapped("a class of another scale", inline("CLASS MAXSCALEDENOM 1000 STYLE COLOR 1 2 3 END END CLASS STYLE COLOR 4 5 6 END END", "a"), lines=("COLOR 4 5 6",), absent=("COLOR 1 2 3",)),
-    mapped("a class that is substituted", inline('VALIDATION "default_use" "b" "use" "." END CLASSITEM kind CLASS EXPRESSION "%use%" STYLE COLOR 1 2 3 END END', "a", "b"), ["--keep", "kind"], lines=('ITEMS "b"',), absent=('ITEMS "a"',)),
-]  # fmt: skip
+    mapped("a class that is substituted", inline('VALIDATION "default_use" "b" "use" "." END CLASSITEM kind CLASS EXPRESSION "%use%" STYLE COLOR 1 2 3 END END', "a", "b"), ["--keep", "kind"], lines=('ITEMS "b"',), absent=('ITEMS "a"',))]
 
 LABELS = [
     mapped("a label by an item", inline("LABELITEM kind CLASS STYLE COLOR 1 2 3 END LABEL SIZE TINY END END", "a"), lines=('TEXT "a"', "SIZE TINY")),
@@ -74,8 +71,7 @@ LABELS = [
     mapped("letters that are boxes", inline("LABELITEM kind CLASS LABEL END END", "Genève"), notes=("drawn as boxes; --ascii .*Genève",)),
     mapped("two labels", inline('LABELITEM kind CLASS LABEL END LABEL TEXT "b" END END', "a"), notes=("left out: LABEL, since a class has one",), lines=('TEXT "a"',)),
     mapped("a mapfile in Latin-1", inline("CLASS NAME \"For\udceat\" STYLE COLOR 1 2 3 END END", "a"), lines=('NAME "Forêt"',), notes=("read as ISO-8859-1",)),
-    mapped("quotes in titles", inline("METADATA \"wms_title\" 'a \"b\" c' END " + FILL, "a"), lines=("\"wms_title\" \"a 'b' c\"",), notes=("double quotes became",)),
-]  # fmt: skip
+    mapped("quotes in titles", inline("METADATA \"wms_title\" 'a \"b\" c' END " + FILL, "a"), lines=("\"wms_title\" \"a 'b' c\"",), notes=("double quotes became",))]
 
 THIN = layer("FEATURE POINTS 1 1 5 5 END END CLASS STYLE COLOR 1 2 3 WIDTH 1.5 END END", kind="LINE")
 ADDRESS = 'WEB METADATA "wms_onlineresource" "http://old/?" END END '
@@ -111,8 +107,7 @@ LOST = [
     mapped("a part with nothing", inline(FILL, "a"), ["--extent=8,8,9,9"], error=r"a.map: nothing is drawn: layer p: left out: shapes outside of the extent"),
     Case("a comment and an included file", ["a.map"], {"b.inc": "\nANGLE 30\n", "a.map": HEAD + "/* LAYER\n OPACITY */ # OPACITY\n" + 'INCLUDE "b.inc"\n' + inline(FILL, "a") + "END"}, notes=("map: left out: ANGLE 30 .b.inc, line 2",), silent=("OPACITY",)),
     mapped("nine styles", inline("CLASS " + "STYLE COLOR 1 2 3 END " * 9 + "END", "a"), error=r"layer p: class : 9 styles, over the limit of 8: draw it with fewer"),
-    mapped("a null shape", layer("FEATURE END " + SQUARE.format("a") + " " + FILL), lines=("5 5",)),
-]  # fmt: skip
+    mapped("a null shape", layer("FEATURE END " + SQUARE.format("a") + " " + FILL), lines=("5 5",))]
 
 
 def small(folder):
@@ -124,9 +119,7 @@ NET = 'MAP NAME a EXTENT 2600000 1200000 2640000 1230000 PROJECTION "init=epsg:2
     f"LAYER NAME {name} TYPE LINE {data} CLASS STYLE COLOR 1 2 3 END END END "
     for name, data in (
         ("t", "CONNECTIONTYPE OGR CONNECTION 'net.gpkg' DATA 'roads'"), ("s", "CONNECTIONTYPE OGR CONNECTION 'net.gpkg' DATA \"SELECT * FROM roads WHERE class = 'A'\""),
-        ("u", "CONNECTIONTYPE UNION CONNECTION 't,s'"),
-    )
-) + "END"  # fmt: skip
+        ("u", "CONNECTIONTYPE UNION CONNECTION 't,s'"))) + "END"
 AGENCY = [
     Case("an agency's map", ["--crs", "3857", "--fit", "--ascii", "agency.map"], make=small, lines=('"wms_title" "Die Gemeinden"', 'TEXT "Geneve 0"', 'NAME "Autobahn"')),
     Case("an agency's map, one layer", ["--crs", "4326", "--layers", "towns", "agency.map"], make=small, lines=('NAME "towns"',), absent=('NAME "roads"',)),
@@ -141,7 +134,6 @@ AGENCY = [
     Case("shapes outside of the extent", ["--crs", "4326", "a.map"], {"a.map": NO_DATUM.replace("2700000 1250000", "2620000 1220000") + "CLASS STYLE COLOR 1 2 3 END END END END"}, make=small,
          notes=("layer c: left out: shapes outside of the extent .7 times", "of 8 shapes 1 were carried, 7 left out")),
     Case("shapes outside of the extent, of other kinds", ["--crs", "4326", "a.map"], {"a.map": NET}, make=small,
-         notes=("layer t: left out: shapes outside of the extent .6 times", "layer s: left out: shapes outside of the extent .2 times", "layer u: left out: shapes outside of the extent .8 times")),
-]  # fmt: skip
+         notes=("layer t: left out: shapes outside of the extent .6 times", "layer s: left out: shapes outside of the extent .2 times", "layer u: left out: shapes outside of the extent .8 times"))]
 
 CASES = FILES + SYSTEMS + CLASSES + LABELS + LOST + AGENCY

@@ -32,11 +32,9 @@ def drawn_by_wfarm(program, text, width):
     """The pixmap of all layers."""
     crs = "CRS:84" if crs_of(text) == "4326" else "EPSG:3857"
     names = re.findall(r'^LAYER\nNAME "(.*)"$', text, re.MULTILINE)
-    query = (
-        f"VERSION=1.3.0&REQUEST=GetMap&LAYERS={','.join(names)}&CRS={crs}"
-        f"&BBOX={','.join(f'{side:.6f}' for side in extent_of(text))}"
-        f"&WIDTH={width}&HEIGHT={height_of(text, width)}&FORMAT=image/x-portable-pixmap"
-    )
+    box = ",".join(f"{side:.6f}" for side in extent_of(text))
+    query = (f"VERSION=1.3.0&REQUEST=GetMap&LAYERS={','.join(names)}&CRS={crs}&BBOX={box}"
+             f"&WIDTH={width}&HEIGHT={height_of(text, width)}&FORMAT=image/x-portable-pixmap")
     return picture(program, query, text.encode())
 
 
@@ -57,7 +55,6 @@ def pixels_of_png(path):
 
 
 def share_equal(one, other):
-    """The share of the pixels that are equal."""
     return (one == other).all(axis=2).mean() if one.shape == other.shape else 0.0
 
 

@@ -54,8 +54,7 @@ class Http(unittest.TestCase):
         self.assertTrue(web.request("/x", b"ab").endswith(b"\r\nContent-Length: 2\r\n\r\nab"))
 
     def test_a_port_is_given_once(self) -> None:
-        given = [*processes.free_ports(40), *processes.free_ports(40)]
-        self.assertEqual(len(set(given)), 80)
+        self.assertEqual(len({*processes.free_ports(40), *processes.free_ports(40)}), 80)
 
     def test_the_sequence_of_capabilities(self) -> None:
         self.assertEqual(web.sequence_of(b'<WMS version="1.3.0" updateSequence="41" x="2">'), 41)
@@ -102,35 +101,24 @@ class Cuts(unittest.TestCase):
         self.assertTrue(all(drawn(folder, draw) == {"a": b"new"} for _ in range(20)))
 
     def test_a_trace_is_followed(self) -> None:
-        with tempfile.TemporaryDirectory() as above:
-            path = pathlib.Path(above) / "state"
-            path.mkdir()
-            (path / "tape").write_bytes(b"ab")
-            spelled = "".join(f"\\x{byte:02x}" for byte in str(path / "tape").encode())
-            trace = pathlib.Path(above) / "trace"
-            trace.write_text(f'7 openat(AT_FDCWD, "{spelled}", O_RDWR|O_CREAT, 0666) = 3\n7 write(3, '
-                             f'"\\x61\\x62", 2) = 2\n' "7 fsync(3) = 0\n"
-                             '7 sendmsg(5, {msg_iov=[{iov_base="\\x61\\x62", iov_len=2}, '
-                             '{iov_base="\\x63", iov_len=1}]}, 0) = 2\n7 +++ exited with 0 +++\n')
-            sent: list[bytes] = []
-
-            class Notes(calls.Watcher):
-                def sent(self, data: bytes) -> None:
-                    sent.append(data)
-
-            folder = Folder({})
-            self.assertEqual(calls.follow(trace, str(path), folder, Notes()), 4)
-            self.assertEqual(sent, [b"ab"])
-            self.assertEqual(folder.names["tape"].left(0), b"ab")
+        above = pathlib.Path(self.enterContext(tempfile.TemporaryDirectory()))
+        path, trace, folder = above / "state", above / "trace", Folder({})
+        path.mkdir()
+        (path / "tape").write_bytes(b"ab")
+        spelled = "".join(f"\\x{byte:02x}" for byte in str(path / "tape").encode())
+        trace.write_text(f'7 openat(AT_FDCWD, "{spelled}", O_RDWR|O_CREAT, 0666) = 3\n'
+                         '7 write(3, "\\x61\\x62", 2) = 2\n7 fsync(3) = 0\n'
+                         '7 sendmsg(5, {msg_iov=[{iov_base="\\x61\\x62", iov_len=2}, '
+                         '{iov_base="\\x63", iov_len=1}]}, 0) = 2\n7 +++ exited with 0 +++\n')
+        watcher = unittest.mock.create_autospec(calls.Watcher, instance=True)
+        self.assertEqual(calls.follow(trace, str(path), folder, watcher), 4)
+        watcher.sent.assert_called_once_with(b"ab")
+        self.assertEqual(folder.names["tape"].left(0), b"ab")
 
 
 class Documents(unittest.TestCase):
     def setUp(self) -> None:
-        self.folder = tempfile.TemporaryDirectory()
-        self.top = pathlib.Path(self.folder.name)
-
-    def tearDown(self) -> None:
-        self.folder.cleanup()
+        self.top = pathlib.Path(self.enterContext(tempfile.TemporaryDirectory()))
 
     def document(self, name: str, text: str) -> documents.Document:
         (self.top / name).write_text(text, encoding="utf-8")
@@ -209,23 +197,22 @@ class Others(unittest.TestCase):
             self.assertEqual([one.next() for _ in range(50)], [other.next() for _ in range(50)])
 
     def test_crates(self) -> None:
-        with tempfile.TemporaryDirectory() as folder:
-            top = pathlib.Path(folder)
-            (top / "crates.txt").write_text("# crates\na: std\nb: a  # a comment\nc staticlib: b std\n")
-            self.assertEqual(repository.dependencies(top), {"a": ["std"], "b": ["a"], "c": ["b", "std"]})
-            self.assertEqual(repository.below("c", top), {"a", "b", "c"})
+        top = pathlib.Path(self.enterContext(tempfile.TemporaryDirectory()))
+        (top / "crates.txt").write_text("# crates\na: std\nb: a  # a comment\nc staticlib: b std\n")
+        self.assertEqual(repository.dependencies(top), {"a": ["std"], "b": ["a"], "c": ["b", "std"]})
+        self.assertEqual(repository.below("c", top), {"a", "b", "c"})
 
     def test_a_kit_that_takes_names_and_one_that_does_not(self) -> None:
         usage = "echo usage: rt new FOLDER >&2; exit 2"
         stopped = "echo rt: rt ci runs at the top of the repository >&2; echo 0 passed, 1 failed; exit 2"
-        with tempfile.TemporaryDirectory() as folder:
-            program = pathlib.Path(folder) / "rt"
-            path = f"{folder}{os.pathsep}{os.environ['PATH']}"
-            for text, takes in ((usage, False), (stopped, True)):
-                program.write_text(f"#!/bin/sh\n{text}\n")
-                program.chmod(0o755)
-                with self.subTest(text), unittest.mock.patch.dict(os.environ, PATH=path):
-                    self.assertIs(kit.ci_takes("wf_text"), takes)
+        folder = self.enterContext(tempfile.TemporaryDirectory())
+        self.enterContext(unittest.mock.patch.dict(os.environ, PATH=f"{folder}:{os.environ['PATH']}"))
+        program = pathlib.Path(folder) / "rt"
+        for text, takes in ((usage, False), (stopped, True)):
+            program.write_text(f"#!/bin/sh\n{text}\n")
+            program.chmod(0o755)
+            with self.subTest(text):
+                self.assertIs(kit.ci_takes("wf_text"), takes)
 
 
 if __name__ == "__main__":

@@ -10,7 +10,6 @@ import pathlib
 import re
 import subprocess
 import sys
-import tempfile
 import types
 import unittest
 from concurrent.futures import ThreadPoolExecutor
@@ -18,6 +17,7 @@ from concurrent.futures import ThreadPoolExecutor
 import check_python
 import ci
 import definitions
+import make_deb
 from farmkit import tapes
 from farmkit.processes import PUBLISHED
 
@@ -26,9 +26,7 @@ TOP = pathlib.Path(__file__).resolve().parents[2]
 
 def scripts() -> list[pathlib.Path]:
     """The scripts of tools/ and bench/, and the demo."""
-    every = [*(TOP / "tools").glob("*.py"), *(TOP / "bench").glob("*.py"), TOP / "demo",
-             TOP / "tools" / "wfarmctl"]
-    return sorted(every)
+    return sorted([*TOP.glob("tools/*.py"), *TOP.glob("bench/*.py"), TOP / "demo", TOP / "tools/wfarmctl"])
 
 
 class Help(unittest.TestCase):
@@ -54,20 +52,23 @@ class Help(unittest.TestCase):
                     self.assertIn(path.name, pages[path.parent.name].read_text(encoding="utf-8"))
 
 
+class Planted(unittest.TestCase):
+    def test_each_bug_applies(self) -> None:
+        for path in sorted((TOP / "tools" / "planted").glob("*.diff")):
+            with self.subTest(path.stem):
+                ran = subprocess.run(["git", "apply", "--check", path], cwd=TOP, capture_output=True,
+                                     text=True)
+                self.assertEqual(ran.stderr, "")
+
+
 class Gate(unittest.TestCase):
     def run_with(self, *programs: str) -> tuple[int, str]:
         """The status and the last line of the gate over programs that these texts are."""
-        with tempfile.TemporaryDirectory() as folder:
-            commands = []
-            for number, text in enumerate(programs):
-                path = pathlib.Path(folder) / f"{number}.py"
-                path.write_text(text)
-                commands.append([sys.executable, str(path)])
-            code = (f"import ci; ci.COMMANDS = {commands!r}; import sys; sys.argv[1:] = []; "
-                    f"sys.exit(ci.main())")
-            ran = subprocess.run([sys.executable, "-B", "-c", code], cwd=TOP / "tools", capture_output=True,
-                                 text=True)
-            return ran.returncode, ran.stdout.splitlines()[-1]
+        commands = [[sys.executable, "-c", text] for text in programs]
+        code = f"import ci; ci.COMMANDS = {commands!r}; import sys; sys.argv[1:] = []; sys.exit(ci.main())"
+        ran = subprocess.run([sys.executable, "-B", "-c", code], cwd=TOP / "tools", capture_output=True,
+                             text=True)
+        return ran.returncode, ran.stdout.splitlines()[-1]
 
     def test_the_last_line_is_over_both(self) -> None:
         well = "print('a line'); print('7 passed, 0 failed')"
@@ -110,8 +111,7 @@ class Definitions(unittest.TestCase):
 
 def wfarmctl() -> types.ModuleType:
     """The tool that is shipped alone, as a module."""
-    path = str(TOP / "tools" / "wfarmctl")
-    loader = importlib.machinery.SourceFileLoader("wfarmctl", path)
+    loader = importlib.machinery.SourceFileLoader("wfarmctl", str(TOP / "tools" / "wfarmctl"))
     spec = importlib.util.spec_from_loader("wfarmctl", loader)
     assert spec is not None
     module = importlib.util.module_from_spec(spec)
@@ -127,10 +127,7 @@ class Wfarmctl(unittest.TestCase):
         self.assertNotIn("farmkit", (TOP / "tools" / "wfarmctl").read_text(encoding="utf-8"))
 
     def test_the_tools_of_the_package_stand_alone(self) -> None:
-        text = (TOP / "tools" / "make_deb.py").read_text(encoding="utf-8")
-        names = re.search(r"(?m)^MAP_TOOLS = \(([^)]*)\)", text)
-        assert names is not None
-        for name in re.findall(r'"([^"]+)"', names[1]):
+        for name in make_deb.MAP_TOOLS:
             path = TOP / "tools" / name
             for file in [path] if path.is_file() else path.glob("**/*.py"):
                 self.assertNotIn("farmkit", file.read_text(encoding="utf-8"), str(file))

@@ -12,12 +12,11 @@ What a program says is left open where it may choose its words: a line is looked
 import re
 import time
 
-from farmkit.control import wfarmctl, write_nodes
 from farmkit.mapfiles import a_map, canonical, map_of
 from farmkit.nodes import KEPT, NO_MAJORITY, VOTES
-from farmkit.processes import free_ports
+from farmkit.processes import free_ports, wfarmctl, write_nodes
 from farmkit.tapes import digest_of, publications
-from farmkit.wanted import is_so_within, unless, until, want, want_none
+from farmkit.wanted import is_so_within, named, unless, until, want, want_none
 from trials_of_nodes.returned_folders import answers, put_back_copy, suspension
 
 # sequences, and those at which two histories differ: more are between them than an answer has
@@ -44,8 +43,7 @@ def begin_with(nodes, histories, starting=()):
         nodes.put(i)
         nodes.init(i)
         nodes[i].tape.write_bytes(publications(texts))
-    for i in starting:
-        nodes.start(i)
+    nodes.start(*starting)
 
 
 def change(nodes, i, old, new):
@@ -65,8 +63,8 @@ def change(nodes, i, old, new):
 # ---- what is asked of nodes
 
 def endings(nodes, those):
-    found = [i for i in those if nodes[i].ended() is not None]
-    return [f"node {i} has ended, status {nodes[i].ended()}: {nodes[i].last_line()}" for i in found]
+    return [f"node {i} has ended, status {nodes[i].ended()}: {nodes[i].last_line()}"
+            for i in those if nodes[i].ended() is not None]
 
 
 def names_one(nodes, others, text):
@@ -102,7 +100,7 @@ def agreement(nodes, those, wrong, done):
     took = round(time.time() - begun, 1)
     lacks = [f"node {i} doesn't serve: /votez {nodes.votes(i)}, /healthz {nodes.health(i)}, "
              f"published {nodes.published(i)}" for i in those if not serves(i)]
-    wrong += [f"{done}: {what}" for what in endings(nodes, those) + lacks]
+    wrong += named(done, endings(nodes, those) + lacks)
     return took
 
 
@@ -155,28 +153,25 @@ def changed(nodes):
     nodes.kill(2)
     change(nodes, 2, x, y)
     nodes.start(2)
-    wrong = [f"first: {what}" for what in difference(nodes, 2, {0, 1})]
-    took = []
+    wrong, took = named("first", difference(nodes, 2, {0, 1})), []
     for k in range(RESTARTS):
         for i in (0, 1) if k % 2 else (1, 0):
             nodes.restart(i)
         if nodes[2].ended() is not None:
             nodes.start(2)
         took.append(agreement(nodes, [0, 1], wrong, f"restart {k}"))
-        wrong += [f"restart {k}: {what}" for what in difference(nodes, 2, {0, 1}) + endings(nodes, [0, 1])]
-        for i in range(3):
-            if nodes[i].ended() is not None:
-                nodes.start(i)
+        wrong += named(f"restart {k}", difference(nodes, 2, {0, 1}) + endings(nodes, [0, 1]))
+        nodes.start(*(i for i in range(3) if nodes[i].ended() is not None))
         if len(wrong) > 6:
             break
     want_none(wrong)
     wrong += publication(nodes, [0, 1], "with a changed one")
     states = rows(nodes, wrong)
     nodes.kill(1)
-    wrong += [f"node 1 is down: {what}" for what in difference(nodes, 0, {2})]
+    wrong += named("node 1 is down", difference(nodes, 0, {2}))
     nodes[2].pause()
     time.sleep(SOON)
-    wrong += [f"and node 2 is silent: {what}" for what in difference(nodes, 0, {2})]
+    wrong += named("and node 2 is silent", difference(nodes, 0, {2}))
     nodes.start(1)
     seconds = agreement(nodes, [0, 1], wrong, "node 1 is back")
     nodes[2].go_on()
@@ -195,20 +190,19 @@ def split(nodes):
     x, y = histories(nodes)
     begin_with(nodes, [x, y, x])
     readers = free_ports(1)[0]
-    nodes.start(0, "--readers", f"127.0.0.1:{readers}")
+    nodes.start(0, more=("--readers", f"127.0.0.1:{readers}"))
     nodes.start(1)
     wrong = difference(nodes, 0, {1}) + difference(nodes, 1, {0})
     wrong += unless(not answers(readers), "a reader's connection stays open")
     states = rows(nodes, wrong)
     nodes.kill(1)
     time.sleep(SOON)
-    wrong += [f"node 1 is down too: {what}" for what in difference(nodes, 0, {1})]
+    wrong += named("node 1 is down too", difference(nodes, 0, {1}))
     want_none(wrong)
-    nodes.start(1)
-    nodes.start(2)
+    nodes.start(1, 2)
     took = agreement(nodes, [0, 2], wrong, "node 2 came")
-    wrong += [f"node 2 came: {what}" for what in difference(nodes, 1, {0, 2})
-              + publication(nodes, [0, 2], "by two of three")]
+    wrong += named("node 2 came", difference(nodes, 1, {0, 2})
+                   + publication(nodes, [0, 2], "by two of three"))
     return end(wrong + endings(nodes, range(3)),
                f"nobody serves; then two, {took} s after the third was started", shown(states))
 
@@ -220,8 +214,7 @@ def behind(nodes):
     begin_with(nodes, [x, y, x[:1]], range(3))
     begun, both = time.time(), 0
     while not (serve := serving(nodes, range(3), LENGTH)) and time.time() < begun + CAUGHT_UP:
-        told = [i for i in (0, 1) if (answers(nodes.http[i]) or b"").startswith(b"HTTP")]
-        both += len(told) == 2
+        both += all((answers(nodes.http[i]) or b"").startswith(b"HTTP") for i in (0, 1))
         time.sleep(0.2)
     took = round(time.time() - begun, 1)
     wrong = unless(not both, f"both node 0 and node 1 answered clients, {both} times")
@@ -268,15 +261,13 @@ def halves(nodes):
     """two nodes of one history, two of another, and the fifth is down: nobody is answered; then it comes"""
     x, y = histories(nodes)
     begin_with(nodes, [x, x, y, y, x], range(4))
-    wrong = []
-    for i in range(4):
-        wrong += difference(nodes, i, {2, 3} if i < 2 else {0, 1})
+    wrong = [what for i in range(4) for what in difference(nodes, i, {2, 3} if i < 2 else {0, 1})]
     states = rows(nodes, wrong)
     want_none(wrong)
     nodes.start(4)
     took = agreement(nodes, [0, 1, 4], wrong, "node 4 came")
     for i in (2, 3):
-        wrong += [f"node 4 came: {what}" for what in difference(nodes, i, {0, 1, 4})]
+        wrong += named("node 4 came", difference(nodes, i, {0, 1, 4}))
     wrong += publication(nodes, [0, 1, 4], "by three of five")
     return end(wrong + endings(nodes, range(5)),
                f"nobody serves; then three, {took} s after the fifth was started", shown(states))
@@ -299,8 +290,7 @@ def alone(nodes):
     changed_first = first.replace(b"first", b"First")
     change(nodes, 2, [first], [changed_first])
     nodes.start(2)
-    wrong += [f"node 2 came with another history: {what}"
-              for what in difference(nodes, 0, {2}) + difference(nodes, 2, {0})]
+    wrong += named("node 2 came with another history", difference(nodes, 0, {2}) + difference(nodes, 2, {0}))
     differ = rows(nodes, wrong)
     nodes.kill(2)
     change(nodes, 2, [changed_first], [first])

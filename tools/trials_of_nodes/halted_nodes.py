@@ -15,6 +15,7 @@ import time
 from farmkit.device import fill, make_room
 from farmkit.mapfiles import PICTURE, a_map, canonical, map_of
 from farmkit.nodes import KEPT, NODES
+from farmkit.processes import run
 from farmkit.tapes import ACCEPTED, PROMISED, PUBLISHED, TRIED, record, records
 from farmkit.wanted import is_so_within, unless, until, want, want_none
 from farmkit.web import CAPABILITIES
@@ -73,10 +74,9 @@ def compare_answers(nodes):
 def removed(nodes):
     """a tape that failed, and whose file is removed: its node stays halted, and serves what it had, until it
     is restarted and doesn't start"""
-    nodes.kill(2, 1)
-    nodes.start_limitable(1)
-    nodes.publish_whole(0, a_map("x"))
-    until(lambda: nodes.published(1) == 1)
+    nodes.kill(2)
+    nodes.restart_limitable(1)
+    nodes.publish_whole(0, a_map("x"), 1)
     nodes.kill(0)
     fail_tape(nodes, 1)
     nodes[1].tape.unlink()
@@ -104,7 +104,7 @@ def may_mount(folder):
     folder.mkdir()
     words = ["mount", "-t", "tmpfs", "tmpfs", folder]
     if is_mounted := subprocess.run(words, capture_output=True).returncode == 0:
-        subprocess.run(["umount", folder], check=True)
+        run("umount", str(folder))
     folder.rmdir()
     return is_mounted
 
@@ -112,35 +112,23 @@ def may_mount(folder):
 LEFT_OUT = "left out: wants root, and that file systems may be mounted"
 
 
-class Disk:
-    """A disk of a megabyte in memory, with what a node's folder has; it is kept mounted elsewhere too."""
-
-    def __init__(self, nodes, i):
-        self.place, self.kept = nodes[i].folder, nodes.folder / "disk"
-        self.kept.mkdir()
-        subprocess.run(["mount", "-t", "tmpfs", "-o", "size=1m", "tmpfs", self.kept], check=True)
-        shutil.copytree(self.place, self.kept, dirs_exist_ok=True)
-        shutil.rmtree(self.place)
-        self.place.mkdir()
-
-    def mount(self):
-        subprocess.run(["mount", "--bind", self.kept, self.place], check=True)
-
-    def unmount(self):
-        subprocess.run(["umount", "-l", self.place], check=True)
-
-
 @contextlib.contextmanager
 def disk_of(nodes, i):
-    """A disk of its own for a node, which doesn't run yet; all nodes have ended when it goes."""
-    made = Disk(nodes, i)
+    """A disk of a megabyte in memory with what the folder of a node has, which doesn't run yet: it is mounted
+    in its place, and at the path that is given. All nodes have ended when it goes."""
+    place, kept = nodes[i].folder, nodes.folder / "disk"
+    kept.mkdir()
+    run("mount", "-t", "tmpfs", "-o", "size=1m", "tmpfs", str(kept))
+    shutil.copytree(place, kept, dirs_exist_ok=True)
+    shutil.rmtree(place)
+    place.mkdir()
     try:
-        made.mount()
-        yield made
+        run("mount", "--bind", str(kept), str(place))
+        yield kept
     finally:
         nodes.end()
-        for place in (made.place, made.kept):
-            subprocess.run(["umount", "-l", place], capture_output=True)
+        for each in (place, kept):
+            run("umount", "-l", str(each), check=False)
 
 
 def unmounted(nodes):
@@ -149,16 +137,15 @@ def unmounted(nodes):
     if not may_mount(nodes.folder / "tried"):
         return LEFT_OUT
     nodes.kill(2, 1)
-    with disk_of(nodes, 1) as its:
+    with disk_of(nodes, 1) as disk:
         nodes.start_all([1])
-        nodes.publish_whole(0, a_map("x"))
-        until(lambda: nodes.published(1) == 1)
+        nodes.publish_whole(0, a_map("x"), 1)
         time.sleep(KEPT)
-        fill(its.kept)
+        fill(disk)
         want("no publish", nodes.publish(0, LONG_MAP) == 202)
         until(lambda: nodes.health(1)[0] == 503)
         nodes.kill(0)
-        its.unmount()
+        run("umount", "-l", str(nodes[1].folder))
         nodes.start_all([2])
         nodes.publish(2, a_map("y"))
         files = rf"{nodes[1].folder}|\bfarm\b|node-1\.tape"
@@ -168,11 +155,10 @@ def unmounted(nodes):
         want_none(wrong)
         made = [path.name for path in nodes[1].folder.iterdir()]
         want(f"made where the disk was: {made}", not made)
-        shutil.copytree(its.kept, nodes[1].folder, dirs_exist_ok=True,
-                        ignore=shutil.ignore_patterns("filling"))
+        shutil.copytree(disk, nodes[1].folder, dirs_exist_ok=True, ignore=shutil.ignore_patterns("filling"))
         want_none(changes_while_halted(nodes, 1, 1, files))
-        make_room(its.kept)
-        its.mount()
+        make_room(disk)
+        run("mount", "--bind", str(disk), str(nodes[1].folder))
         # (whether it goes on by itself, or an operator starts it, is left open)
         is_back = is_so_within(lambda: nodes.health(1)[0] == 200 or nodes.published(1) < 1, 10)
         want(f"node 1 says published {nodes.published(1)}", nodes.published(1) >= 1)
@@ -193,12 +179,12 @@ def room(nodes):
     if not may_mount(nodes.folder / "tried"):
         return LEFT_OUT
     nodes.kill(2)
-    with disk_of(nodes, 2) as its:
+    with disk_of(nodes, 2) as disk:
         nodes.start_all([2])
         nodes.publish_all(a_map("first"))
         starts = nodes.starts(2)
         time.sleep(KEPT)
-        fill(its.kept)
+        fill(disk)
         nodes.publish_whole(0, LONG_MAP)
         until(lambda: nodes.health(2)[0] == 503)
         want("a halted node took a publish", nodes.publish(2, a_map("refused")) == 503)
@@ -208,7 +194,7 @@ def room(nodes):
         want("no publish", nodes.publish(0, a_map("third")) == 202)
         time.sleep(1)
         want("published without a majority", nodes.published(0) == 2)
-        make_room(its.kept)
+        make_room(disk)
         seconds = until(lambda: nodes.published(0) == nodes.published(2) == 3)
         counted = nodes.starts(2) - starts
         rejected = [line for line in nodes.lines(0, "dropped") + nodes.lines(2, "lost") if "refused" in line]
@@ -235,10 +221,10 @@ def check_each(nodes, file, changes):
             path.write_bytes(content)
         nodes.limit(1, None)
         found = changes_while_halted(nodes, 1, published, file)
-        wrong += [f"{name}: {', '.join(found)}"] if found else []
+        wrong += unless(not found, f"{name}: {', '.join(found)}")
         nodes.kill(1)
         path.write_bytes(sound)
-        nodes.start_limitable(1)
+        nodes.restart_limitable(1)
     want_none(wrong)
     nodes.publish_whole(1, a_map("after"))
     compare_answers(nodes)
@@ -255,14 +241,12 @@ def exchanged(nodes):
     nodes.kill(2, 0)
     nodes.start_all([0])
     # node 2 has no part in node 0's second round, and then equally much
-    nodes.publish_whole(0, a_map("second"))
-    until(lambda: nodes.published(1) == nodes.published(0))
+    nodes.publish_whole(0, a_map("second"), 1)
     nodes.start_all([2])
     nodes.level()
-    for i in (1, 2):
-        nodes.kill(i)
-        (nodes.start_limitable if i == 1 else nodes.start)(i)
-        nodes.wait(i)
+    nodes.restart_limitable(1)
+    nodes.restart(2)
+    nodes.wait(2)
     tape, other = nodes[1].tape.read_bytes(), nodes[2].tape.read_bytes()
     want(f"the tapes of nodes 1 and 2 have {len(tape)} and {len(other)} bytes", len(tape) == len(other)
          and tape != other)
@@ -275,8 +259,7 @@ def exchanged(nodes):
 def rewritten(nodes):
     """a tape that failed, and another file `farm` beside it, or none: its node stays halted"""
     nodes.publish_all(a_map("first"))
-    nodes.kill(1)
-    nodes.start_limitable(1)
+    nodes.restart_limitable(1)
 
     def with_line(word, change):
         return lambda own: re.sub(rf"(?m)^{word} (\w+)$", lambda line: f"{word} {change(line[1])}",
@@ -294,8 +277,7 @@ def completed(nodes):
     goes on with it, and has counted one start more"""
     # a tape that is longer than the other files of the folder, which stay as long as they are
     nodes.publish_all(a_map("first", "x" * 900))
-    nodes.kill(1)
-    nodes.start_limitable(1)
+    nodes.restart_limitable(1)
     nodes.level()
     time.sleep(KEPT)
     text = canonical(nodes.program, a_map("second"))

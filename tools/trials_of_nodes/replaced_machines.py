@@ -4,9 +4,8 @@ import subprocess
 import time
 
 from farmkit.command import lacks
-from farmkit.control import command, write_nodes
 from farmkit.mapfiles import a_map
-from farmkit.processes import Service
+from farmkit.processes import Service, ctl_words, write_nodes
 from farmkit.wanted import PATIENCE, is_so_within, until, want
 from farmkit.web import ask
 
@@ -47,7 +46,7 @@ def give_vote(nodes, i):
 
 def begun_replacement(nodes, i):
     """A `wfarmctl replace` that runs, with what it writes in a pipe."""
-    words = command(nodes.program, nodes.folder / "nodes", "replace", i, "--yes", "--force", "--publish")
+    words = ctl_words(nodes.program, nodes.folder / "nodes", "replace", i, "--yes", "--force", "--publish")
     return subprocess.Popen(words, stdout=subprocess.PIPE, stderr=subprocess.STDOUT, text=True)
 
 
@@ -161,7 +160,7 @@ def rivals(nodes):
     other.start()
     until(lambda: health(other).startswith("joins"))
     with Service([*nodes.each, other]):
-        try:
+        with other:
             agree_at_once(1, ((nodes[0], nodes[1]), (nodes[2], other)))
             nodes.publish_whole(0, a_map("meanwhile"))
             # the one at the listed address may hear of the other one first, and then counts no agreement
@@ -173,8 +172,6 @@ def rivals(nodes):
             want(f"the folder that was left behind: {left}", left.startswith("joins"))
             want(f"what they know: {known}",
                  all([each[:2] for each in told] == [["1", "2"]] for told in known))
-        finally:
-            other.kill()
         retired = retired_beside(nodes, 1, old)
     want(f"with an agreement each at most: {first}", not votes)
     return f"{first}, then count 2 in {seconds} s; the one left behind: {left}; {retired}"
@@ -182,16 +179,13 @@ def rivals(nodes):
 
 def retired_beside(nodes, i, folder):
     """What an old folder is told that is started beside the one that took its place."""
-    old = nodes.beside(i, folder, ALLOWED)
-    old.start()
-    try:
+    with nodes.beside(i, folder, ALLOWED) as old:
+        old.start()
         until(lambda: health(old).startswith("suspended"))
         want(f"it isn't told that it is retired: {old.last_line()}", RETIRED in old.log.read_text())
         publish_at_each(nodes, "beside")
         want("it answers a client", old.published(2) is None)
         return health(old)
-    finally:
-        old.kill()
 
 
 def stopped(nodes):

@@ -10,8 +10,8 @@ from farmkit.folder import contents, put
 from farmkit.mapfiles import a_map
 from farmkit.nodes import KEPT, NODES, Nodes
 from farmkit.processes import Farm, free_ports
-from farmkit.tapes import ACCEPTED, PUBLISHED, records
-from farmkit.wanted import is_so_within, unless, until, want, want_none
+from farmkit.tapes import ACCEPTED, HEAD, PUBLISHED, records
+from farmkit.wanted import is_so_within, named, unless, until, want, want_none
 from farmkit.web import connect, loopback
 
 # seconds for which a node is watched
@@ -63,17 +63,12 @@ def emptied(nodes):
     time.sleep(KEPT)
     nodes.kill_all()
     line = BACK + "it had published 3, now 0"
-    wrong = [f"of three: {what}" for what in with_tape(nodes, 1, b"", line)]
-    return all_start(nodes, wrong + [f"alone: {what}" for what in emptied_alone(nodes, line)])
-
-
-def emptied_alone(nodes, line):
-    """What is wrong with a start of the one node of a farm, whose tape is emptied."""
+    wrong = named("of three", with_tape(nodes, 1, b"", line))
     with Nodes(nodes.program, nodes.folder / "alone", 1) as alone:
         alone.publish_all(*(a_map(f"alone{k}") for k in range(3)))
         time.sleep(KEPT)
     alone[0].tape.write_bytes(b"")
-    return rejection(alone, 0, line)
+    return all_start(nodes, wrong + named("alone", rejection(alone, 0, line)))
 
 
 def older(nodes):
@@ -86,19 +81,9 @@ def older(nodes):
     return all_start(nodes, with_tape(nodes, 1, copy, BACK + "it had published 4, now 2"))
 
 
-def begins(tape):
-    """Where each record of a tape begins, and its kind."""
-    found, at = [], 0
-    for kind, body in records(tape)[0]:
-        found.append((at, kind))
-        at += 6 + len(body)
-    return found
-
-
 def zeroed(nodes):
     """a start on a tape with zeros where a vote, or a publication, was that was synced over a second ago"""
-    nodes.kill(0)
-    nodes.start_limitable(0)
+    nodes.restart_limitable(0)
     nodes.publish_all(a_map("first"))
     nodes.kill(2)
     # the leader's own vote fails, once it has asked for node 1's, and no other file of its folder has to be
@@ -106,15 +91,16 @@ def zeroed(nodes):
     time.sleep(KEPT)
     nodes.limit(0, 0)
     nodes.publish(0, a_map("second"))
-    until(lambda: begins(nodes[1].tape.read_bytes())[-1][1] == ACCEPTED)
+    until(lambda: records(nodes[1].tape.read_bytes())[0][-1][0] == ACCEPTED)
     time.sleep(KEPT)
     nodes.kill(0, 1)
-    tape, wrong = nodes[1].tape.read_bytes(), []
-    last = {kind: at for at, kind in begins(tape)}
+    tape, wrong, last, at = nodes[1].tape.read_bytes(), [], {}, 0
+    for kind, body in records(tape)[0]:
+        last[kind], at = at, at + HEAD + len(body)
     for name, kind, line in (("a vote", ACCEPTED, BACK + "it had voted for ("),
                              ("a publication", PUBLISHED, BACK + "it had published 1, now 0")):
-        found = with_tape(nodes, 1, tape[:last[kind]] + bytes(len(tape) - last[kind]), line)
-        wrong += [f"{name}: {what}" for what in found]
+        zeros = tape[:last[kind]] + bytes(len(tape) - last[kind])
+        wrong += named(name, with_tape(nodes, 1, zeros, line))
     want_none(wrong)
     nodes.start_all()
     nodes.publish_whole(1, a_map("after"))
@@ -123,29 +109,22 @@ def zeroed(nodes):
 
 # ---- a folder that went back, found by peers
 
-def accuser(nodes, i):
-    """The peer that remembers more of a suspended node than it has, by its health; else None."""
+def is_suspended(nodes, i):
+    """Whether a node says that it is suspended, and which peer remembers more of it than it has."""
     status, said = nodes.health(i)
     found = re.fullmatch(r"suspended: node (\d) at 127\.0\.0\.1:(\d+) remembers \w.*", said)
-    if status != 503 or not found:
-        return None
-    peer, port = map(int, found.groups())
-    return peer if peer != i and peer < NODES and nodes.peer[peer] == port else None
-
-
-def is_suspended(nodes, i):
-    return accuser(nodes, i) is not None
+    peer, port = map(int, found.groups()) if found else (i, 0)
+    return status == 503 and peer != i and peer < NODES and nodes.peer[peer] == port
 
 
 def answers(port):
     """What a port of a node answers to a client; None where nothing can be sent to it."""
-    with contextlib.suppress(OSError):
-        with connect(loopback(port), 2) as client:
-            client.sendall(b"GET /status HTTP/1.1\r\nHost: it\r\n\r\n")
-            try:
-                return client.recv(100)
-            except TimeoutError:
-                return b"(silence)"
+    with contextlib.suppress(OSError), connect(loopback(port), 2) as client:
+        client.sendall(b"GET /status HTTP/1.1\r\nHost: it\r\n\r\n")
+        try:
+            return client.recv(100)
+        except TimeoutError:
+            return b"(silence)"
     return None
 
 
@@ -161,8 +140,7 @@ def suspension(nodes, i, seconds=2 * WATCHED):
     for path in ("/readyz", "/votez"):
         told = nodes.get(i, path, nodes.admin[i])
         wrong += unless(told[0] == 503 and told[1].startswith(b"suspended: node "), f"{path}: {told}")
-    has_metrics = nodes.get(i, "/metrics", nodes.admin[i])[0] == 200
-    wrong += unless(has_metrics, "its operator's port has no metrics")
+    wrong += unless(nodes.operator(i, "/metrics")[0] == 200, "its operator's port has no metrics")
     return wrong + unless(not (said := answers(nodes.http[i])), f"a client is answered: {said}")
 
 
@@ -170,8 +148,7 @@ def restored(nodes):
     """a folder is copied between two publishes of one leadership, and put back: the node that published the
     second map doesn't let it in, and no other map takes its place"""
     nodes.kill(2)
-    nodes.publish_whole(0, a_map("first"))
-    until(lambda: nodes.published(1) == 1)
+    nodes.publish_whole(0, a_map("first"), 1)
     copy = copy_of(nodes, 1)
     nodes.publish_whole(0, a_map("second"))
     # it has voted; what it says later would tell that it published
@@ -213,8 +190,7 @@ def promised(nodes):
     nodes.publish_whole(2, a_map("second"))
     nodes.kill_all()
     nodes.put(1, copy)
-    for i in range(NODES):
-        nodes.start(i)
+    nodes.start(*range(NODES))
     want_none(suspension(nodes, 1))
     until(lambda: nodes.published(0) == nodes.published(2) == 2)
     return "suspended"
@@ -239,9 +215,9 @@ def suspended(nodes):
     wrong, readers = [], free_ports(1)[0]
     for which in ("first", "second", "third"):
         nodes.kill(1)
-        nodes.start(1, "--readers", f"127.0.0.1:{readers}")
-        wrong += [f"{which} start: {what}" for what in suspension(nodes, 1)
-                  + unless(not answers(readers), "a reader's connection stays open")]
+        nodes.start(1, more=("--readers", f"127.0.0.1:{readers}"))
+        wrong += named(f"{which} start", suspension(nodes, 1)
+                       + unless(not answers(readers), "a reader's connection stays open"))
     line = r"(?m)^suspended by ([0-9a-f]{8}) at 0{20}ffff7f000001 port ([0-9a-f]{8}) cause 00000006$"
     found = re.search(line, (nodes[1].folder / "farm").read_text())
     wrong += unless(found and nodes.peer[int(found[1], 16)] == int(found[2], 16),
@@ -251,16 +227,14 @@ def suspended(nodes):
     farm = nodes[1].folder / "farm"
     farm.write_text(re.sub("(?m)^starts .*$", "starts 00000009", farm.read_text()))
     nodes.start(1)
-    wrong += [f"the copy once more, with more starts than were heard of: {what}"
-              for what in suspension(nodes, 1)]
+    wrong += named("the copy once more, with more starts than were heard of", suspension(nodes, 1))
     nodes.kill(0)
     wrong += counted_vote(nodes, 2)
     nodes.kill(2)
     nodes.restart(1)
-    wrong += [f"without peers: {what}" for what in suspension(nodes, 1)]
+    wrong += named("without peers", suspension(nodes, 1))
     want_none(wrong)
-    nodes.start(0)
-    nodes.start(2)
+    nodes.start(0, 2)
     until(lambda: nodes.published(0) == nodes.published(2) >= 1)
     return "suspended at each of five starts"
 
@@ -284,8 +258,7 @@ def cleared(nodes):
     nodes.kill(0, 2)
     for i in range(NODES):
         nodes[i].clear()
-    for i in range(NODES):
-        nodes.start(i)
+    nodes.start(*range(NODES))
     are_well = is_so_within(lambda: all(nodes.health(i)[0] == 200 for i in range(NODES)), WATCHED)
     want_none(wrong + unless(are_well, f"after it: {[nodes.health(i) for i in range(NODES)]}"))
     nodes.publish_whole(1, a_map("after"))
@@ -328,12 +301,9 @@ def taken(nodes):
     nodes.publish_all(a_map("first"), a_map("second"))
     serve, renamed, bare = (nodes.folder / name for name in ("serve", "renamed", "bare"))
     serve.mkdir()
-    farm = Farm(nodes.program, 100, serve)
-    try:
+    with Farm(nodes.program, 100, serve) as farm:
         for k in range(6):
             want("no publish", farm.ask("/publish", a_map(f"serve{k}"))[0] in (202, 409))
-    finally:
-        farm.kill()
     shutil.copytree(serve, renamed)
     bare.mkdir()
     # node 1 has voted for what node 0 proposed, and node 0 tried no round on this tape
