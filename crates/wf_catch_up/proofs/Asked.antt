@@ -1,4 +1,4 @@
--- Questions, and their answers to the requester alone, are events of the model that lead the nodes on.
+-- Questions, and their answers to who asked alone, are events of the model that lead the nodes on.
 use Rattle.std.proofs.Common.{◌≡◌, ◌<◌, ◌≤◌, ◌+◌, ◌||◌, ℕ, zero, suc, Bool, true, false, List, [], ◌∷◌, ◌++◌, map, length, slice_get, slice_set, Some, refl, sym, ap, subst, ◌∙◌, inl, inr, arith, append_assoc, slice_index_or, take, drop, ◌-◌}
 use Rattle.wf_catch_up.proofs.Common.{lt-ltb, append-nil, take_all, none-some, last_sequence, Message, Definition, definition_eq, DurableState, next_sequence, published, most_reports, on_ask, on_catch_up, on_message, step_rejection, transition, only_sends, store, reports_from, World, steps, Node, volatile_of, IsTransition, transition_of, bytes_of, Asks, CatchUpIsReachable, HasReceived, HaveAsked, IsOneQuestion, IsDeliveryTaken, LevelRests, Rests, StandLevel, AnyPart, IsOne, Refines, StandFor, StandInTurn, TakeOne, halted_twice, keeps_turn_twice, IsSturdy, Takes, AreReachableFrom, AreReachableSending, IsReachableWith, ReachSending, set_same, set_there, KeepsEntry, Running, set_twice}
 use Rattle.std.proofs.Math.Bool.{or_assoc}
