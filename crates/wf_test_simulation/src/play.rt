@@ -436,13 +436,7 @@ impl<'a, R: Eprint> Play<'a, R> {
             Fault::OneWay => self.block(stroke.host, stroke.other, stroke.until),
             Fault::Stop => self.stop(stroke),
             Fault::Strangers => return self.let_come(stroke),
-            Fault::Kill
-            | Fault::Cut
-            | Fault::Disk
-            | Fault::Jump
-            | Fault::SlowSync
-            | Fault::CutCall
-            | Fault::FullDisk => return self.fail_process(stroke),
+            _ => return self.fail_process(stroke),
         }
         true
     }
