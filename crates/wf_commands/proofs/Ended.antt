@@ -26,7 +26,8 @@ use Rattle.wf_commands.specs.ServeRun.{IsLineServed, IsMachineServing, IsServeRu
 use Rattle.wf_commands.specs.declared.program.Ending.{Ending}
 use Rattle.wf_commands.specs.declared.fault.RunFault.{RunFault}
 use Rattle.wf_commands.specs.declared.fault.RunFault.TheVariants as faults
-use Rattle.wf_line.specs.Program.{IsLineRejection, program}
+use Rattle.wf_line.specs.Program.{program}
+use Rattle.wf_line.specs.Rejection.{IsLineRejection}
 use Rattle.wf_line.specs.declared.command_line.Line.{Line}
 use Rattle.wf_line.specs.declared.command_line.Line.TheVariants as lines
 use Rattle.clap.specs.Simple.{subcommand_of}

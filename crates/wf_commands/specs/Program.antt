@@ -9,7 +9,8 @@ use Rattle.wf_serve.specs.declared.fault.ServeFault.{ServeFault}
 use Rattle.wf_service.specs.declared.service.Service.{Service}
 use Rattle.wf_stream.specs.Effects.{TakesUpTo}
 use Rattle.wf_line.specs.CommandLine.{Asks}
-use Rattle.wf_line.specs.Program.{IsLineRejection, program}
+use Rattle.wf_line.specs.Program.{program}
+use Rattle.wf_line.specs.Rejection.{IsLineRejection}
 use Rattle.wf_commands.specs.FailureCount.{CountsReads, CountsWrites}
 use Rattle.wf_commands.specs.ProgramEnd.{left_to_report, rejection_status, reported, run_status, unreadable_status}
 use Rattle.wf_commands.specs.Contents.{Contents}

@@ -3,7 +3,7 @@ ghost use Rattle.std.specs.Prelude.{◌≡◌, ◌≤◌, Bool, true, IfErr, IfO
 ghost use Rattle.std.specs.IoError.{error_kind};
 ghost use Rattle.clap.specs.Values.{kind_of};
 ghost use Rattle.std.specs.Process.{exit_status};
-ghost use Rattle.wf_line.specs.Program.{IsLineRejection, IsWhyLineRejected};
+ghost use Rattle.wf_line.specs.Rejection.{IsLineRejection, IsWhyLineRejected};
 ghost use Rattle.wf_line.specs.Line.{IsInRange};
 ghost use Rattle.wf_commands.specs.FailureCount.{CountsWrites, FailsLast};
 ghost use Rattle.wf_commands.specs.Contents.{nothing_known};

@@ -20,7 +20,8 @@ use Rattle.clap.specs.declared.parser.matches.ArgMatches.{ArgMatches}
 use Rattle.clap.specs.declared.parser.matches.Found.{Found}
 use Rattle.clap.specs.declared.parser.matches.SubCommand.{SubCommand}
 use Rattle.wf_line.specs.CommandLine.{Asks, IsCacheBy, IsCapsOf, IsCheckAsked, IsDrawOf, IsMapBy, IsServeOf, IsServiceOf, IsTapeOption}
-use Rattle.wf_line.specs.Program.{IsLineRejection, program, rejections}
+use Rattle.wf_line.specs.Program.{program}
+use Rattle.wf_line.specs.Rejection.{IsLineRejection, rejections}
 use Rattle.wf_ballot.specs.Sequence.{last_sequence}
 use Rattle.wf_line.specs.Line.{IsInRange}
 use Rattle.wf_line.specs.declared.command_line.Line.{Line}

@@ -16,7 +16,8 @@ use Rattle.clap.specs.ValueTests.{accepts}
 use Rattle.clap.specs.declared.builder.value_parser.ValueParser.TheVariants.{Signed}
 use Rattle.clap.specs.Walk.{Held, Row, finished, nothing_held, pushed, settled, walk, Rule, Text, Walk, after_step, arg_by_index, first_of, idle, long_or_other, short_or_plain, trailing, to_positional, value, walk_from, walked, word_met}
 use Rattle.wf_line.specs.CommandLine.{IsMapBy, caps_shape, draw_shape, tape_shape}
-use Rattle.wf_line.specs.Program.{JsonCheckIsAsked, PlainCanonIsAsked, PlainCapsIsAsked, PlainCheckIsAsked, PlainDrawIsAsked, PlainRunIsAsked, PlainTapeIsAsked, PlainWireIsAsked, is_plain, program}
+use Rattle.wf_line.specs.Program.{program}
+use Rattle.wf_line.specs.Rejection.{JsonCheckIsAsked, PlainCanonIsAsked, PlainCapsIsAsked, PlainCheckIsAsked, PlainDrawIsAsked, PlainRunIsAsked, PlainTapeIsAsked, PlainWireIsAsked, is_plain}
 use Rattle.wf_line.specs.Line.{SpellsSequence}
 use Rattle.wf_line.specs.declared.command_line.Line.TheVariants as lines
 

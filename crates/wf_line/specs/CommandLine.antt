@@ -3,7 +3,6 @@ use Rattle.std.specs.Prelude.{◌≡◌, ℕ, ℤ, if◌then◌else◌, option_m
 use Rattle.clap.specs.Matches.{found_of}
 use Rattle.clap.specs.Walk.{Row, Rule, Text, first_of, rows_of}
 use Rattle.clap.specs.Simple.{Shape, new_rule, new_shape, shape_of}
-use Rattle.clap.specs.Takes.{takes}
 use Rattle.clap.specs.declared.builder.command.Command.{Command}
 use Rattle.clap.specs.declared.builder.command.Command.TheViews.{out-Command}
 use Rattle.clap.specs.declared.parser.matches.ArgMatches.{ArgMatches}
@@ -30,9 +29,13 @@ sequence_rule = record (new_rule (codes "SEQ")) {
   required = true;
 }
 
+-- NAME: a required text
+abbrev pub word_rule : Text → Rule
+word_rule name = record (new_rule name) { required = true }
+
 -- QUERY: a required text
 abbrev pub query_rule : Rule
-query_rule = record (new_rule (codes "QUERY")) { required = true }
+query_rule = word_rule (codes "QUERY")
 
 -- `--NAME VALUE`: a number from `least` to `most`
 abbrev pub number_rule : Text → (least most : ℤ) → Bool → Rule
@@ -48,7 +51,7 @@ draw_shape = record (new_shape (codes "draw")) { rules = query_rule ∷ [] }
 
 -- FILE: a required text
 abbrev pub file_rule : Rule
-file_rule = record (new_rule (codes "FILE")) { required = true }
+file_rule = word_rule (codes "FILE")
 
 -- `--map S`: a number from 1 to the last update sequence
 abbrev pub map_rule : Rule
@@ -114,6 +117,10 @@ state_rule = record (new_rule (codes "state")) { long = Some (codes "state"); va
 -- `--log`: a flag
 abbrev pub log_rule : Rule
 log_rule = record (new_rule (codes "log")) { long = Some (codes "log"); action = Some SetTrue }
+
+-- `serve`, with the number of its nodes
+abbrev pub serve_shape_start : Shape
+serve_shape_start = record (new_shape (codes "serve")) { rules = nodes_rule ∷ [] }
 
 -- `serve`, without its optional arguments
 abbrev pub required_serve_shape : Shape

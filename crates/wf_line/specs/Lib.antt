@@ -5,4 +5,5 @@ pub mod NodeLine
 pub mod ProcessCommandLine
 pub mod ProcessLine
 pub mod Program
+pub mod Rejection
 pub mod ReplicaCommandLine

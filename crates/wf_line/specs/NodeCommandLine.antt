@@ -12,6 +12,10 @@ use Rattle.wf_line.specs.declared.node_line.InitLine.{InitLine}
 use Rattle.wf_line.specs.declared.node_line.NodeLine.{NodeLine}
 use Rattle.wf_service.specs.Service.{most_cached, most_nodes}
 
+-- `--NAME`, before anything else is said of it
+abbrev pub long_rule : Text → Rule
+long_rule name = record (new_rule name) { long = Some name }
+
 -- `--NAME VALUE`: a text
 abbrev pub text_rule : Text → Bool → Rule
 text_rule name is_required = record (new_rule name) { long = Some name; value_names = 1; required = is_required }
@@ -33,6 +37,10 @@ flag_rule name = record (new_rule name) { long = Some name; action = Some SetTru
 -- a command with these arguments
 abbrev pub command_shape : Text → List Rule → Shape
 command_shape name rules = record (new_shape name) { rules = rules }
+
+-- a command about a process of its own, with the process's folder
+abbrev pub folder_shape : Text → Shape
+folder_shape name = command_shape name (text_rule (codes "state") true ∷ [])
 
 -- `init`, with the node's folder and the farm's name, with all that it wants, and whole
 abbrev pub init_shape_start : Shape

@@ -1,19 +1,22 @@
 //! Parses the command line.
 ghost use Rattle.std.specs.Prelude.{◌≡◌, ℕ, IfErr, IfNone, IfOk, IfSome, Option, false, map, option_map};
-ghost use Rattle.clap.specs.Simple.{shape_of, subcommand_of, subcommand_rows_of};
+ghost use Rattle.clap.specs.Simple.{new_shape, shape_of, subcommand_of, subcommand_rows_of};
 ghost use Rattle.clap.specs.Values.{kind_of};
 ghost use Rattle.clap.specs.Walk.{first_of, rule_of};
 ghost use Rattle.clap.specs.declared.builder.command.Command.TheViews.{out-Command};
-ghost use Rattle.wf_line.specs.CommandLine.{Asks, IsCacheBy, IsCapsOf, IsDrawOf, IsNumberOf, IsOfShape, IsServeOf, IsServiceOf, IsTapeOption, caps_shape, draw_shape, canon_shape, run_shape, wire_shape, tape_shape, required_serve_shape, serve_shape, rows_in, is_set, IsMapBy, map_rule, log_rule, sequence_rule, query_rule, file_rule, number_rule, nodes_rule, port_rule, requests_rule, cache_rule, state_rule, check_shape, format_rule, IsCheckAsked, format_by};
-ghost use Rattle.wf_line.specs.Program.{IsLineRejection, IsWhyLineRejected, JsonCheckIsAsked, PlainCanonIsAsked, PlainCapsIsAsked, PlainCheckIsAsked, PlainDrawIsAsked, PlainRunIsAsked, PlainTapeIsAsked, PlainWireIsAsked, program};
+ghost use Rattle.wf_ballot.specs.Sequence.{last_sequence};
+ghost use Rattle.wf_line.specs.CommandLine.{Asks, IsCacheBy, IsCapsOf, IsDrawOf, IsNumberOf, IsOfShape, IsServeOf, IsServiceOf, IsTapeOption, caps_shape, draw_shape, canon_shape, run_shape, wire_shape, tape_shape, required_serve_shape, serve_shape, serve_shape_start, rows_in, is_set, IsMapBy, map_rule, log_rule, sequence_rule, query_rule, word_rule, file_rule, number_rule, nodes_rule, port_rule, requests_rule, cache_rule, state_rule, check_shape, format_rule, IsCheckAsked, format_by};
+ghost use Rattle.wf_line.specs.Program.{program};
+ghost use Rattle.wf_line.specs.Rejection.{IsLineRejection, IsWhyLineRejected, JsonCheckIsAsked, PlainCanonIsAsked, PlainCapsIsAsked, PlainCheckIsAsked, PlainDrawIsAsked, PlainRunIsAsked, PlainTapeIsAsked, PlainWireIsAsked};
 ghost use Rattle.wf_line.specs.Line.{IsInRange, IsNumber, SpellsSequence};
 ghost use Rattle.wf_line.specs.declared.command_line.Line.{Line};
 ghost use Rattle.wf_service.specs.declared.service.Service.{Service};
 
 use crate::command_line::{Format, Line};
+use crate::node_arguments::{flag, option};
 use crate::program::{program, rejection};
 use clap::builder::ValueParser;
-use clap::{Arg, ArgAction, ArgMatches, Command, Error};
+use clap::{Arg, ArgMatches, Command, Error};
 use std::alloc::{AllocError, Global};
 use std::convert::AsStr;
 use wf_ballot::SEQUENCES;
@@ -101,15 +104,37 @@ With --log a line on standard error tells each event: TIME LEVEL EVENT KEY=VALUE
 Errors (status 1): serve fault";
 
 // One function for each part, called one after another: only clap drops what is built.
+
+// A command without arguments. Of a chain of calls each field of the shape is a term of all of
+// them, so chains are short.
+pub(crate) fn bare_command<'a>(
+    alloc: Global,
+    name: &'a str,
+    about: &'a str,
+    help: &'a str,
+) -> Command<'a>
+    ensures shape { shape_of result ≡ new_shape name.now }
+    ensures local { (out-Command result).has_globals ≡ false }
+{
+    Command::new(alloc, name).about(about).after_help(help)
+}
+
+// NAME, a text that is required.
+fn required_argument<'a>(alloc: Global, name: &'a str, help: &'a str) -> Arg<'a>
+    ensures rule { rule_of result ≡ word_rule name.now }
+    ensures local { result.global ≡ false }
+{
+    Arg::new(alloc, name).required(true).help(help)
+}
+
+// SEQ.
 fn seq_argument<'a>(alloc: Global) -> Arg<'a>
     ensures rule { rule_of result ≡ sequence_rule }
     ensures local { result.global ≡ false }
 {
-    Arg::new(alloc, "SEQ")
+    required_argument(alloc, "SEQ", "The update sequence of the map, 0 to 4096")
         .value_name("SEQ")
-        .required(true)
         .value_parser(ValueParser::signed(0, 4_096))
-        .help("The update sequence of the map, 0 to 4096")
 }
 
 // `--NAME VALUE`, a number in least..=most.
@@ -125,19 +150,16 @@ pub(crate) fn number_argument<'a>(
     ensures rule { rule_of result ≡ number_rule name.now least most is_required }
     ensures local { result.global ≡ false }
 {
-    Arg::new(alloc, name)
-        .long(name)
-        .value_name(value)
-        .required(is_required)
-        .value_parser(ValueParser::signed(least, most))
-        .help(help)
+    option(alloc, name, value, is_required, help).value_parser(ValueParser::signed(least, most))
 }
 
 fn query_argument<'a>(alloc: Global) -> Arg<'a>
     ensures rule { rule_of result ≡ query_rule }
     ensures local { result.global ≡ false }
 {
-    Arg::new(alloc, "QUERY").required(true).help(
+    required_argument(
+        alloc,
+        "QUERY",
         "The query string of a WMS request, such as SERVICE=WMS&REQUEST=GetCapabilities",
     )
 }
@@ -146,7 +168,9 @@ fn file_argument<'a>(alloc: Global) -> Arg<'a>
     ensures rule { rule_of result ≡ file_rule }
     ensures local { result.global ≡ false }
 {
-    Arg::new(alloc, "FILE").required(true).help(
+    required_argument(
+        alloc,
+        "FILE",
         "The file of the tape, such as node-0.tape, or the folder of a farm",
     )
 }
@@ -155,21 +179,27 @@ fn file_argument<'a>(alloc: Global) -> Arg<'a>
 pub(crate) fn caps_command<'a>(alloc: Global) -> Result<Command<'a>, AllocError>
     ensures { IfOk result (IsOfShape caps_shape) }
 {
-    Command::new(alloc, "caps")
-        .about("Answers a WMS request about the mapfile on standard input")
-        .after_help(CAPS_HELP)
-        .arg(seq_argument(alloc))?
-        .arg(query_argument(alloc))
+    bare_command(
+        alloc,
+        "caps",
+        "Answers a WMS request about the mapfile on standard input",
+        CAPS_HELP,
+    )
+    .arg(seq_argument(alloc))?
+    .arg(query_argument(alloc))
 }
 
 // `draw QUERY`.
 pub(crate) fn draw_command<'a>(alloc: Global) -> Result<Command<'a>, AllocError>
     ensures { IfOk result (IsOfShape draw_shape) }
 {
-    Command::new(alloc, "draw")
-        .about("Previews the mapfile on standard input: answers a WMS request, GetMap included")
-        .after_help(DRAW_HELP)
-        .arg(query_argument(alloc))
+    bare_command(
+        alloc,
+        "draw",
+        "Previews the mapfile on standard input: answers a WMS request, GetMap included",
+        DRAW_HELP,
+    )
+    .arg(query_argument(alloc))
 }
 
 // `canon`.
@@ -177,9 +207,12 @@ pub(crate) fn canon_command<'a>(alloc: Global) -> Command<'a>
     ensures shape { shape_of result ≡ canon_shape }
     ensures local { (out-Command result).has_globals ≡ false }
 {
-    Command::new(alloc, "canon")
-        .about("Writes the canonical text of the mapfile on standard input")
-        .after_help(CANON_HELP)
+    bare_command(
+        alloc,
+        "canon",
+        "Writes the canonical text of the mapfile on standard input",
+        CANON_HELP,
+    )
 }
 
 // `--format FORMAT`.
@@ -187,20 +220,26 @@ fn format_argument<'a>(alloc: Global) -> Arg<'a>
     ensures rule { rule_of result ≡ format_rule }
     ensures local { result.global ≡ false }
 {
-    Arg::new(alloc, "format")
-        .long("format")
-        .value_name("FORMAT")
-        .help("The format of the report, text or json; text where it is absent")
+    option(
+        alloc,
+        "format",
+        "FORMAT",
+        false,
+        "The format of the report, text or json; text where it is absent",
+    )
 }
 
 // `check --format FORMAT`.
 pub(crate) fn check_command<'a>(alloc: Global) -> Result<Command<'a>, AllocError>
     ensures { IfOk result (IsOfShape check_shape) }
 {
-    Command::new(alloc, "check")
-        .about("Checks the mapfile on standard input, and shows its first error with the line")
-        .after_help(CHECK_HELP)
-        .arg(format_argument(alloc))
+    bare_command(
+        alloc,
+        "check",
+        "Checks the mapfile on standard input, and shows its first error with the line",
+        CHECK_HELP,
+    )
+    .arg(format_argument(alloc))
 }
 
 // `run`.
@@ -208,9 +247,12 @@ pub(crate) fn run_command<'a>(alloc: Global) -> Command<'a>
     ensures shape { shape_of result ≡ run_shape }
     ensures local { (out-Command result).has_globals ≡ false }
 {
-    Command::new(alloc, "run")
-        .about("Plays the script on standard input on a farm in memory")
-        .after_help(RUN_HELP)
+    bare_command(
+        alloc,
+        "run",
+        "Plays the script on standard input on a farm in memory",
+        RUN_HELP,
+    )
 }
 
 // `wire`.
@@ -218,9 +260,12 @@ pub(crate) fn wire_command<'a>(alloc: Global) -> Command<'a>
     ensures shape { shape_of result ≡ wire_shape }
     ensures local { (out-Command result).has_globals ≡ false }
 {
-    Command::new(alloc, "wire")
-        .about("Plays the script on standard input, its messages crossing a connection")
-        .after_help(WIRE_HELP)
+    bare_command(
+        alloc,
+        "wire",
+        "Plays the script on standard input, its messages crossing a connection",
+        WIRE_HELP,
+    )
 }
 
 // `--map S`.
@@ -243,13 +288,14 @@ fn map_argument<'a>(alloc: Global) -> Arg<'a>
 pub(crate) fn tape_command<'a>(alloc: Global) -> Result<Command<'a>, AllocError>
     ensures { IfOk result (IsOfShape tape_shape) }
 {
-    Command::new(alloc, "tape")
-        .about(
-            "Lists the records of a node's tape or of a farm's folder, and where a tape is torn or bad",
-        )
-        .after_help(TAPE_HELP)
-        .arg(file_argument(alloc))?
-        .arg(map_argument(alloc))
+    bare_command(
+        alloc,
+        "tape",
+        "Lists the records of a node's tape or of a farm's folder, and where a tape is torn or bad",
+        TAPE_HELP,
+    )
+    .arg(file_argument(alloc))?
+    .arg(map_argument(alloc))
 }
 
 // `--nodes N`.
@@ -321,10 +367,13 @@ pub(crate) fn state_argument<'a>(alloc: Global) -> Arg<'a>
     ensures rule { rule_of result ≡ state_rule }
     ensures local { result.global ≡ false }
 {
-    Arg::new(alloc, "state")
-        .long("state")
-        .value_name("DIR")
-        .help("The folder of the nodes' tapes")
+    option(
+        alloc,
+        "state",
+        "DIR",
+        false,
+        "The folder of the nodes' tapes",
+    )
 }
 
 // `--log`.
@@ -332,20 +381,31 @@ pub(crate) fn log_argument<'a>(alloc: Global) -> Arg<'a>
     ensures rule { rule_of result ≡ log_rule }
     ensures local { result.global ≡ false }
 {
-    Arg::new(alloc, "log")
-        .long("log")
-        .action(ArgAction::SetTrue)
-        .help("Writes a line about each event on standard error")
+    flag(
+        alloc,
+        "log",
+        "Writes a line about each event on standard error",
+    )
+}
+
+// `serve`, with the number of its nodes.
+fn serve_start<'a>(alloc: Global) -> Result<Command<'a>, AllocError>
+    ensures { IfOk result (IsOfShape serve_shape_start) }
+{
+    bare_command(
+        alloc,
+        "serve",
+        "Serves a farm over HTTP, one connection after the other",
+        SERVE_HELP,
+    )
+    .arg(nodes_argument(alloc))
 }
 
 // `serve`, without its optional arguments.
 fn farm_command<'a>(alloc: Global) -> Result<Command<'a>, AllocError>
     ensures { IfOk result (IsOfShape required_serve_shape) }
 {
-    Command::new(alloc, "serve")
-        .about("Serves a farm over HTTP, one connection after the other")
-        .after_help(SERVE_HELP)
-        .arg(nodes_argument(alloc))?
+    serve_start(alloc)?
         .arg(port_argument(alloc))?
         .arg(requests_argument(alloc))
 }
@@ -391,6 +451,17 @@ fn draw<'a>(found: &ArgMatches<'a>) -> Option<Line<'a>>
     Some(Line::Draw { query: word })
 }
 
+// The sequence of the map that `tape` is to write.
+fn map_number(word: &str) -> Option<u16>
+    ensures some { IfSome result (IsNumber word.now 1 last_sequence) }
+    ensures none { IfNone result ((seq : ℕ) → ¬ (IsNumber word.now 1 last_sequence seq)) }
+{
+    match number(word, 1, 4_096) {
+        Some(seq) => Some(seq as u16),
+        None => None,
+    }
+}
+
 // The sequence of the map that `tape` is to write, by the argument if there is one.
 fn map_by(word: Option<&str>) -> Option<Option<u16>>
     ensures some { IfSome result (IsMapBy (option_map (λ s. s.now) word.entry)) }
@@ -398,10 +469,10 @@ fn map_by(word: Option<&str>) -> Option<Option<u16>>
         ((map : Option ℕ) → ¬ (IsMapBy (option_map (λ s. s.now) word.entry) map)) }
 {
     match word {
-        Some(word) => {
-            let number = number(word, 1, 4_096)?;
-            Some(Some(number as u16))
-        }
+        Some(word) => match map_number(word) {
+            Some(seq) => Some(Some(seq)),
+            None => None,
+        },
         None => Some(None),
     }
 }

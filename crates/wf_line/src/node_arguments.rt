@@ -2,13 +2,13 @@
 ghost use Rattle.std.specs.Prelude.{◌≡◌, ℕ, IfNone, IfOk, IfSome, codes, false, option_map};
 ghost use Rattle.clap.specs.Walk.{rule_of};
 ghost use Rattle.wf_line.specs.CommandLine.{IsOfShape, rows_in};
-ghost use Rattle.wf_line.specs.NodeCommandLine.{IsClearLineOf, IsInitLineOf, IsNodeLineOf, IsNumberBy, IsNumberOr, clear_shape, clients_rule, flag_rule, id_rule, init_shape, init_shape_start, init_shape_wanted, node_shape, node_shape_addresses, node_shape_numbers, node_shape_ports, node_shape_start, nodes_rule, text_rule};
+ghost use Rattle.wf_line.specs.NodeCommandLine.{IsClearLineOf, IsInitLineOf, IsNodeLineOf, IsNumberBy, IsNumberOr, clear_shape, clients_rule, flag_rule, folder_shape, id_rule, init_shape, init_shape_start, init_shape_wanted, long_rule, node_shape, node_shape_addresses, node_shape_numbers, node_shape_ports, node_shape_start, nodes_rule, text_rule};
 ghost use Rattle.wf_line.specs.declared.node_line.ClearLine.{ClearLine};
 ghost use Rattle.wf_line.specs.declared.node_line.InitLine.{InitLine};
 ghost use Rattle.wf_line.specs.declared.node_line.NodeLine.{NodeLine};
 
 use crate::arguments::{
-    cache_argument, is_set, log_argument, number, number_argument, number_of, word_of,
+    bare_command, cache_argument, is_set, log_argument, number, number_argument, number_of, word_of,
 };
 use crate::node_line::{ClearLine, InitLine, NodeLine};
 use clap::{Arg, ArgAction, ArgMatches, Command};
@@ -47,6 +47,23 @@ back to an older copy it breaks what the farm promises: two maps may be publishe
 
 Errors: status 2 for a bad command line, else 1, with a line that names the cause";
 
+// `--NAME`. Of a chain of calls each field of the rule is a term of all of them, so chains are
+// short.
+fn long_argument<'a>(alloc: Global, name: &'a str) -> Arg<'a>
+    ensures rule { rule_of result ≡ long_rule name.now }
+    ensures local { result.global ≡ false }
+{
+    Arg::new(alloc, name).long(name)
+}
+
+// `--NAME VALUE`, which may be absent.
+fn named_argument<'a>(alloc: Global, name: &'a str, value: &'a str, help: &'a str) -> Arg<'a>
+    ensures rule { rule_of result ≡ text_rule name.now false }
+    ensures local { result.global ≡ false }
+{
+    long_argument(alloc, name).value_name(value).help(help)
+}
+
 // `--NAME VALUE`.
 pub(crate) fn option<'a>(
     alloc: Global,
@@ -58,20 +75,15 @@ pub(crate) fn option<'a>(
     ensures rule { rule_of result ≡ text_rule name.now is_required }
     ensures local { result.global ≡ false }
 {
-    Arg::new(alloc, name)
-        .long(name)
-        .value_name(value)
-        .required(is_required)
-        .help(help)
+    named_argument(alloc, name, value, help).required(is_required)
 }
 
-// `--NAME`.
-fn flag<'a>(alloc: Global, name: &'a str, help: &'a str) -> Arg<'a>
+// `--NAME`, a flag.
+pub(crate) fn flag<'a>(alloc: Global, name: &'a str, help: &'a str) -> Arg<'a>
     ensures rule { rule_of result ≡ flag_rule name.now }
     ensures local { result.global ≡ false }
 {
-    Arg::new(alloc, name)
-        .long(name)
+    long_argument(alloc, name)
         .action(ArgAction::SetTrue)
         .help(help)
 }
@@ -130,15 +142,31 @@ pub(crate) fn readers_argument<'a>(alloc: Global) -> Arg<'a>
     )
 }
 
+// A command about a process of its own, with the process's folder.
+pub(crate) fn folder_command<'a>(
+    alloc: Global,
+    name: &'a str,
+    about: &'a str,
+    help: &'a str,
+    folder: &'a str,
+) -> Result<Command<'a>, AllocError>
+    ensures { IfOk result (IsOfShape (folder_shape name.now)) }
+{
+    bare_command(alloc, name, about, help).arg(option(alloc, "state", "DIR", true, folder))
+}
+
 // `init`, with the node's folder and the farm's name.
 fn init_start<'a>(alloc: Global) -> Result<Command<'a>, AllocError>
     ensures { IfOk result (IsOfShape init_shape_start) }
 {
-    Command::new(alloc, "init")
-        .about("Makes the folder of a node in a process of its own")
-        .after_help(INIT_HELP)
-        .arg(option(alloc, "state", "DIR", true, "The node's folder"))?
-        .arg(option(alloc, "farm", "NAME", true, "The farm's name"))
+    folder_command(
+        alloc,
+        "init",
+        "Makes the folder of a node in a process of its own",
+        INIT_HELP,
+        "The node's folder",
+    )?
+    .arg(option(alloc, "farm", "NAME", true, "The farm's name"))
 }
 
 // `init`, with all arguments that it wants.
@@ -167,23 +195,20 @@ pub(crate) fn init_command<'a>(alloc: Global) -> Result<Command<'a>, AllocError>
 fn node_start<'a>(alloc: Global) -> Result<Command<'a>, AllocError>
     ensures { IfOk result (IsOfShape node_shape_start) }
 {
-    Command::new(alloc, "node")
-        .about("Serves one node of a farm, whose other nodes are other processes")
-        .after_help(NODE_HELP)
-        .arg(option(
-            alloc,
-            "state",
-            "DIR",
-            true,
-            "The node's folder, made by wfarm init",
-        ))?
-        .arg(option(
-            alloc,
-            "peers",
-            "A0:P,A1:P,..",
-            true,
-            "The addresses of all nodes for their peers",
-        ))
+    folder_command(
+        alloc,
+        "node",
+        "Serves one node of a farm, whose other nodes are other processes",
+        NODE_HELP,
+        "The node's folder, made by wfarm init",
+    )?
+    .arg(option(
+        alloc,
+        "peers",
+        "A0:P,A1:P,..",
+        true,
+        "The addresses of all nodes for their peers",
+    ))
 }
 
 // `node`, with where its clients and peers come.
@@ -240,16 +265,13 @@ pub(crate) fn node_arguments<'a>(alloc: Global) -> Result<Command<'a>, AllocErro
 pub(crate) fn clear_command<'a>(alloc: Global) -> Result<Command<'a>, AllocError>
     ensures { IfOk result (IsOfShape clear_shape) }
 {
-    Command::new(alloc, "clear")
-        .about("Ends a suspension, and forgets what the node accused its peers of")
-        .after_help(CLEAR_HELP)
-        .arg(option(
-            alloc,
-            "state",
-            "DIR",
-            true,
-            "The folder of a node that is stopped",
-        ))
+    folder_command(
+        alloc,
+        "clear",
+        "Ends a suspension, and forgets what the node accused its peers of",
+        CLEAR_HELP,
+        "The folder of a node that is stopped",
+    )
 }
 
 // The number parsed for an option, or the one where it is absent.

@@ -4,7 +4,8 @@ ghost use Rattle.clap.specs.Simple.{subcommand_of, subcommand_rows_of};
 ghost use Rattle.clap.specs.Values.{kind_of};
 ghost use Rattle.wf_line.specs.CommandLine.{rows_in};
 ghost use Rattle.wf_line.specs.ProcessCommandLine.{AsksProcess, IsClearOf, IsInitOf, IsNodeOf, IsReplicaOf, begins_with_process_command, is_process_command, names_process_command};
-ghost use Rattle.wf_line.specs.Program.{IsLineRejection, IsWhyProcessRejected, program};
+ghost use Rattle.wf_line.specs.Program.{program};
+ghost use Rattle.wf_line.specs.Rejection.{IsLineRejection, IsWhyProcessRejected};
 ghost use Rattle.wf_line.specs.ProcessLine.{IsProcessInRange};
 ghost use Rattle.wf_line.specs.declared.process_line.ProcessCommand.{ProcessCommand};
 

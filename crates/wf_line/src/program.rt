@@ -4,7 +4,7 @@ ghost use Rattle.clap.specs.Simple.{app_of};
 ghost use Rattle.clap.specs.Values.{kind_of};
 ghost use Rattle.wf_line.specs.CommandLine.{canon_shape, caps_shape, check_shape, draw_shape, run_shape, serve_shape, tape_shape, wire_shape};
 ghost use Rattle.wf_line.specs.NodeCommandLine.{clear_shape, init_shape, node_shape};
-ghost use Rattle.wf_line.specs.Program.{HasSubcommands, program};
+ghost use Rattle.wf_line.specs.Program.{HasSubcommands, bare_program, named_program, program};
 
 use crate::arguments::{
     canon_command, caps_command, check_command, draw_command, run_command, serve_command,
@@ -21,17 +21,29 @@ static NO_WORDS: [&str; 0] = [];
 
 // One function for each part, called one after another: only clap drops what is built.
 
+// The program with its name and its version only.
+fn named_program<'a>(alloc: Global) -> Command<'a>
+    ensures { app_of result ≡ named_program }
+{
+    Command::new(alloc, "wfarm").version(BUILD)
+}
+
+// The program without commands.
+fn bare_program<'a>(alloc: Global) -> Command<'a>
+    ensures { app_of result ≡ bare_program }
+{
+    named_program(alloc)
+        .about("Runs a farm of Web Map Service servers that publish one history of maps")
+        .no_binary_name(true)
+        .subcommand_required(true)
+}
+
 // The program with its first command only.
 fn first_command<'a>(alloc: Global) -> Result<Command<'a>, AllocError>
     ensures { IfOk result (HasSubcommands (caps_shape ∷ [])) }
 {
     let caps = caps_command(alloc)?;
-    Command::new(alloc, "wfarm")
-        .version(BUILD)
-        .about("Runs a farm of Web Map Service servers that publish one history of maps")
-        .no_binary_name(true)
-        .subcommand_required(true)
-        .subcommand(caps)
+    bare_program(alloc).subcommand(caps)
 }
 
 // The commands that answer a request about a mapfile.

@@ -5,7 +5,7 @@ ghost use Rattle.wf_line.specs.ReplicaCommandLine.{IsReplicaLineOf, replica_shap
 ghost use Rattle.wf_line.specs.declared.replica_line.ReplicaLine.{ReplicaLine};
 
 use crate::arguments::{cache_argument, is_set, log_argument, word_of};
-use crate::node_arguments::{DEFAULT_CACHE, number_or, option, readers_argument};
+use crate::node_arguments::{DEFAULT_CACHE, folder_command, number_or, option, readers_argument};
 use crate::replica_line::ReplicaLine;
 use clap::{ArgMatches, Command};
 use std::alloc::{AllocError, Global};
@@ -22,11 +22,14 @@ Errors: status 2 for a bad command line, else 1, with a line that names the caus
 fn replica_start<'a>(alloc: Global) -> Result<Command<'a>, AllocError>
     ensures { IfOk result (IsOfShape replica_shape_start) }
 {
-    Command::new(alloc, "replica")
-        .about("Serves what a farm publishes, without a vote")
-        .after_help(REPLICA_HELP)
-        .arg(option(alloc, "state", "DIR", true, "The replica's folder"))?
-        .arg(option(alloc, "farm", "NAME", true, "The farm's name"))
+    folder_command(
+        alloc,
+        "replica",
+        "Serves what a farm publishes, without a vote",
+        REPLICA_HELP,
+        "The replica's folder",
+    )?
+    .arg(option(alloc, "farm", "NAME", true, "The farm's name"))
 }
 
 // `replica`, with all arguments that it wants.
