@@ -13,11 +13,13 @@ import sys
 import types
 import unittest
 from concurrent.futures import ThreadPoolExecutor
+from unittest import mock
 
 import check_python
 import ci
 import definitions
 import make_deb
+import plant_bugs
 from farmkit import tapes
 from farmkit.processes import PUBLISHED
 
@@ -59,6 +61,15 @@ class Planted(unittest.TestCase):
                 ran = subprocess.run(["git", "apply", "--check", path], cwd=TOP, capture_output=True,
                                      text=True)
                 self.assertEqual(ran.stderr, "")
+
+    def test_what_a_play_returns_is_told(self) -> None:
+        bug = min((TOP / "tools" / "planted").glob("*.diff")).stem
+        for violations in ([], ["node 1 is suspended"]):
+            played, told = mock.Mock(return_value=(violations, {})), io.StringIO()
+            with mock.patch.multiple(plant_bugs, copy_to=mock.DEFAULT, compiled=mock.DEFAULT, play=played), \
+                    mock.patch("subprocess.run"), contextlib.redirect_stdout(told):
+                self.assertEqual(plant_bugs.try_bugs([bug]), not violations)
+            self.assertIn(violations[0] if violations else "NOT FOUND", told.getvalue())
 
 
 class Gate(unittest.TestCase):
