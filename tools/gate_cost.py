@@ -48,15 +48,20 @@ def task_of(process):
 
 
 def look(seen, gate):
-    """Notes the task of each process of CI and the processor time that it has used so far."""
+    """Notes the task of each check of CI and the processor time that it and its forks have used so far."""
+    found = {}
     for number in descendants(gate):
         process = pathlib.Path(f"/proc/{number}")
         with contextlib.suppress(OSError):  # it has ended
             # what the system reports of it: the fields that follow its name
             stat = (process / "stat").read_bytes().rpartition(b") ")[2].split()
-            key = number, stat[19]
-            if task := seen[key][0] if key in seen else task_of(process):
-                seen[key] = task, (int(stat[11]) + int(stat[12])) / TICKS / 60
+            if task := task_of(process):
+                # (with that of its forks that have ended)
+                found[number] = task, int(stat[1]), stat[19], sum(map(int, stat[11:15])) / TICKS / 60
+    for number, (task, parent, began, minutes) in found.items():
+        if parent not in found:
+            forks = sum(fork[3] for fork in found.values() if fork[1] == number)
+            seen[number, began] = task, minutes + forks
 
 
 def table(seen):
