@@ -3,10 +3,12 @@
 use Rattle.std.specs.Prelude.{◌≡◌, ℕ, ◌≤◌, ⊤, List, [], ◌∷◌, ◌++◌, take, IsSome}
 use Rattle.wf_codec.specs.declared.message.Message.{Message}
 use Rattle.wf_def.specs.Definition.{Definition}
+use Rattle.wf_folder.specs.declared.node_file.NodeFile.{NodeFile}
 use Rattle.wf_model.specs.DurableState.{DurableState, published}
 use Rattle.wf_node.specs.Images.{StandsFor}
+use Rattle.wf_node_folder.specs.FarmPut.{HasPut, published_in}
 use Rattle.wf_node_folder.specs.Folder.{StaysFrom}
-use Rattle.wf_node_folder.specs.Joined.{SaysJoining, SaysPublished}
+use Rattle.wf_node_folder.specs.Joined.{SaysJoining}
 use Rattle.wf_rejoin.specs.Joining.{MayVote}
 use Rattle.wf_rejoin.specs.declared.joining.Joining.{Joining}
 use Rattle.wf_rejoin_guard.specs.Joined.{IsAnsweredSince, IsFolderOf}
@@ -66,13 +68,13 @@ module _ {T : Type 0} (tapes : Tape T) where
   abbrev pub calls_before : {p : NodeProcess tapes} → HasEmptied p → List Call
   calls_before {p} emptied = emptied.earlier ++ p.has.begun
 
-  -- The next one read of the file `farm` that no less is published than that said then. A process
-  -- only raises that; no clause says so.
-  abbrev pub IsFarmKept : List Call → NodeProcess tapes → Type 0
-  IsFarmKept calls next = (count : ℕ) → SaysPublished count calls → count ≤ next.has.file.known.reach.published
+  -- What the next one read of the file `farm` says no less is published than what this one had put
+  -- there last. So does that text, and what a start puts there that was cut off, or failed.
+  abbrev pub IsFarmKept : (last next : NodeProcess tapes) → Type 0
+  IsFarmKept last next = (put : NodeFile) → HasPut put last.new → published_in put ≤ published_in next.has.file
 
   abbrev pub JoinedFoldersMayVote : Type 0
-  JoinedFoldersMayVote = (last next : NodeProcess tapes) (emptied : HasEmptied last) → IsFarmKept (calls_before emptied) next →
+  JoinedFoldersMayVote = (last next : NodeProcess tapes) (emptied : HasEmptied last) → IsFarmKept last next →
       MayVoteWith (calls_before emptied) (bytes_read tapes next)
 
   -- ---- both
@@ -86,5 +88,5 @@ module _ {T : Type 0} (tapes : Tape T) where
   -- process that is replaced.
   abbrev pub FoldersJoinByLearning : Type 0
   FoldersJoinByLearning = (n i : ℕ) (events : List (ProcessEvent T)) (until : ℕ) (earlier : List (NodeProcess tapes)) (last next : NodeProcess tapes) (emptied : HasEmptied last) →
-      HaveJoined n i (returned_through (take until events)) earlier last next → IsFarmKept (calls_before emptied) next → IsSaidSince n i events until (calls_before emptied) →
+      HaveJoined n i (returned_through (take until events)) earlier last next → IsFarmKept last next → IsSaidSince n i events until (calls_before emptied) →
       (j : Joining) × IsFolderOf n i j × HasJoinedByLearning tapes events until (bytes_read tapes next) j

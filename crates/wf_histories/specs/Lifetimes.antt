@@ -32,7 +32,7 @@ module _ {T : Type 0} (tapes : Tape T) where
     pub next : NodeProcess tapes
     pub emptied : HasEmptied tapes last
     pub joined : HaveJoined tapes n i (returned_through (take k events)) earlier last next
-    pub kept : IsFarmKept tapes (calls_before tapes emptied) next
+    pub kept : IsFarmKept tapes last next
     pub said : IsSaidSince tapes n i events k (calls_before tapes emptied)
     pub read : bytes_read tapes next ≡ bytes
 

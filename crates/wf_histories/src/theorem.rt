@@ -150,10 +150,11 @@ pub fn joiners_have_learned<T: Tape>()
 }
 
 /// Where the file `joins` was emptied its folder may vote, with whatever the next process on it
-/// read of the tape, if what the file `farm` says of it is no less by then.
+/// read of the tape, if what that read of the file `farm` says no less than what was put there.
 ///
-/// `HasEmptied` is met by the calls that [`wf_node_command::run`] made ([`joiners_go_on`]); of
-/// `IsFarmKept` no clause speaks.
+/// `HasEmptied` is met by the calls that [`wf_node_command::run`] made ([`joiners_go_on`]), which
+/// say that nothing put there says less than before. `IsFarmKept` is met where what is read of it
+/// is what a power cut may leave (`wf_node_folder::farm_files_are_kept`).
 pub fn joined_folders_may_vote<T: Tape>()
     ensures { JoinedFoldersMayVote T.Tape }
 {

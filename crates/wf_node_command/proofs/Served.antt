@@ -19,6 +19,7 @@ use Rattle.wf_loop.specs.NodePlan.{NodePlan}
 use Rattle.wf_node_command.proofs.Learned.{learner_at_first}
 use Rattle.wf_node_command.specs.Done.{HasLivedOn, IsNodeDone, IsNodeServed}
 use Rattle.wf_node_folder.specs.Fault.{IsFromSystem}
+use Rattle.wf_node_folder.specs.FarmPut.{farm_in}
 use Rattle.wf_node_folder.specs.Folder.{IsHeardIn, StaysFrom, heard_in}
 use Rattle.wf_node_command.specs.Learned.{IsLearner}
 use Rattle.wf_node_folder.specs.Ready.{IsJustStarted, IsNodeReady}
@@ -142,8 +143,8 @@ module _ {T : Type 0} (tapes : Tape T) where
   heard_text None known is = is
   heard_text (Some bytes) known is = is.2
 
-  pub fresh_by : (line : NodeLine) (ready : ReadyNode T tapes) (old mid : List Call) → IsNodeReady tapes line ready old mid → IsJustStarted tapes ready mid
-  fresh_by line ready old mid is =
+  pub fresh_by : (line : NodeLine) (ready : ReadyNode T tapes) (old mid : List Call) → IsNodeReady tapes line ready old mid → IsNodeFile ready.file → IsJustStarted tapes ready mid
+  fresh_by line ready old mid is sound =
       let counted = is.is_ready.is_counted.is_counted in
       record {
         begun = is.is_ready.is_started.begun;
@@ -151,6 +152,7 @@ module _ {T : Type 0} (tapes : Tape T) where
         known = is.is_ready.known;
         heard = subst (λ (bytes : Option (List ℕ)). IsHeardText bytes is.is_ready.known) (sym (ap heard_in counted.calls)) (heard_text counted.bytes is.is_ready.known counted.is_heard);
         left = is.is_ready.left;
+        put = record { sound = sound; text = ap farm_in counted.calls };
       }
 
   pub not_served : (process : Process T tapes) (plan : NodePlan) (calls : List Call) (why : LoopFault) → IsNodeServed tapes process plan calls calls (Err (faults.Loop why))

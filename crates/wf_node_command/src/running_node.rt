@@ -7,6 +7,7 @@ ghost use Rattle.wf_loop.specs.EventLoop.{HasAnswered, IsHeardFirst, IsOver, kep
 ghost use Rattle.wf_loop.specs.Lived.{HasLived};
 ghost use Rattle.wf_loop.specs.Membership.{membership_by};
 ghost use Rattle.wf_node_folder.specs.Fault.{IsFromSystem};
+ghost use Rattle.wf_node_folder.specs.FarmPut.{HasPut};
 ghost use Rattle.wf_node_folder.specs.Folder.{StaysFrom, calls_in, heard_in};
 ghost use Rattle.wf_node_command.specs.Learned.{IsLearner};
 ghost use Rattle.wf_node_folder.specs.Ready.{IsJustStarted};
@@ -115,7 +116,8 @@ impl<S: Store, N: Network + Drop> RunningNode<S, N> {
         store: S,
         file: NodeFile,
     ) -> Self
-        requires { IsNodeFile file }
+        requires file { IsNodeFile file }
+        requires put { HasPut file (S.calls store) }
         ensures event_loop { result.event_loop ≡ event_loop }
         ensures same { S.calls result.folder.running.store ≡ S.calls store }
         ensures began { calls_in S.calls result.folder.running.began.items ≡ S.calls store }

@@ -4,6 +4,7 @@ use Rattle.std.specs.Prelude.{Option, Some, None, Result, Ok, Err, IfOk}
 use Rattle.wf_folder.specs.declared.node_admission.NodeFound.{NodeFound}
 use Rattle.wf_folder.specs.declared.node_admission.NodeFound.TheVariants as finds
 use Rattle.wf_folder.specs.declared.node_file.NodeFile.{NodeFile}
+use Rattle.wf_node_folder.specs.FarmPut.{IsPublishedPut}
 use Rattle.wf_node_folder.specs.Folder.{IsFarmFound, IsFoundIn}
 use Rattle.wf_node_folder.specs.Joined.{IsFarmSaid, MayBePutAt, SaysJoining, SaysPublished}
 use Rattle.wf_rejoin.specs.JoinStep.{StepCounts, stepped}
@@ -61,8 +62,8 @@ told_before calls joining step says isnt = record { before = joining; joins = sa
 -- ---- what may be written
 
 module _ (calls : List Call) (joining : Joining) (says : SaysJoining joining calls) (text : List ℕ) where
-  pub may_be_emptied : (published : ℕ) → SaysPublished published calls → MayVote joining published → text ≡ [] → MayBePutAt Joins text calls
-  may_be_emptied published farm may empty = inl (empty, record { joining = joining; says = says; published = published; farm = farm; may_vote = may })
+  pub may_be_emptied : (published : ℕ) → SaysPublished published calls → IsPublishedPut published calls → MayVote joining published → text ≡ [] → MayBePutAt Joins text calls
+  may_be_emptied published farm put may empty = inl (empty, record { joining = joining; says = says; published = published; farm = farm; put = put; may_vote = may })
 
   pub may_be_told : (step : JoinStep) (next : Joining) → StepCounts step joining → next ≡ stepped step joining → IsJoins next → text ≡ joins_text next → MayBePutAt Joins text calls
   may_be_told step next counts same joins is =

@@ -3,7 +3,9 @@ mod Damage
 mod Faults
 mod Found
 mod Joined
+mod FarmPut
 mod Kept
+mod KeptFarm
 mod Making
 mod Opening
 mod Own

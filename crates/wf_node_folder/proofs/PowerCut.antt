@@ -11,13 +11,13 @@ use Rattle.wf_line.specs.declared.node_line.InitLine.{InitLine}
 use Rattle.wf_line.specs.declared.node_line.NodeLine.{NodeLine}
 use Rattle.wf_model.specs.DurableState.{DurableState}
 use Rattle.wf_node_folder.specs.Cleared.{HasReadFarmFile, IsUnwritten, nothing_heard, without_suspension}
-use Rattle.wf_node_folder.specs.Folder.{IsHeardIn, StaysFrom}
+use Rattle.wf_node_folder.specs.Folder.{IsHeardIn}
 use Rattle.wf_node.specs.Images.{StandsFor}
 use Rattle.wf_node.specs.Node.{stored_of}
 use Rattle.wf_node_folder.specs.Held.{HasHeld, HoldsAll}
 use Rattle.wf_node_folder.specs.Joined.{AreJoinedSoundly, IsJoinedSoundly, IsPutSoundly, MayBePut, MayBePutAt}
-use Rattle.wf_node_folder.specs.Made.{HasMade, IsFirstFile, IsFirstTape, IsHalfFilled, IsHalfMade, first_joining, made_empty, with_joins, with_tape}
-use Rattle.wf_node_folder.specs.PowerCut.{AreReadBack, AreSoundCalls, ClearsAreSound, CutsAreReadBack, FilesAreWhole, InitsAreSound, InitsAreWhole, IsMadeWhole, IsSoundCall, IsSoundGiven, NodesAreSound, StartsAgain, StartsAreSound, StopsAreSound}
+use Rattle.wf_node_folder.specs.Made.{IsFirstFile, IsFirstTape, IsHalfFilled, first_joining, made_empty, with_joins, with_tape}
+use Rattle.wf_node_folder.specs.PowerCut.{AreSoundCalls, ClearsAreSound, CutsAreReadBack, FilesAreWhole, InitsAreSound, InitsAreWhole, IsMadeWhole, IsSoundCall, IsSoundGiven, NodesAreSound, StartsAgain, StartsAreSound, StopsAreSound}
 use Rattle.wf_node_folder.specs.ReplacementFiles.{IsJoinsIn, IsReplacedIn}
 use Rattle.wf_node_folder.specs.Sound.{IsJoinsText, IsSoundText}
 use Rattle.wf_node_folder.specs.Start.{IsCompared, IsCountedOn, IsLeftOpened, IsStartAdmitted, IsStartCutShort, IsTapeOpened, IsTapeTouched, IsUncounted, IsUnopened}
@@ -45,11 +45,11 @@ use Rattle.wf_tape.specs.declared.tape.Tape.{Ghosts as Tape}
 abbrev IsLeft : FileName → List ℕ → Type 0
 IsLeft file image = (image ≡ []) ⊎ IsSoundText file image
 
-tape_beside : (named file : FileName) → is_tape named ≡ true → is_tape file ≡ false → named ≡ file → ⊥
+pub tape_beside : (named file : FileName) → is_tape named ≡ true → is_tape file ≡ false → named ≡ file → ⊥
 tape_beside named file tape none same = false≢true (sym none ∙ ap is_tape (sym same) ∙ tape)
 
 -- what is left is of this file, by what was put there, or was there before
-by_file : (is : Bool) (on other : Type 0) → OfFile is on other → ((is ≡ true) × on) ⊎ other
+pub by_file : (is : Bool) (on other : Type 0) → OfFile is on other → ((is ≡ true) × on) ⊎ other
 by_file true on other left = inl (refl, left)
 by_file false on other left = inr left
 
@@ -161,7 +161,7 @@ joins_sound text calls (inl emptied) = inl emptied.0
 joins_sound text calls (inr told) = inr (stepped told.step told.joining, told.joins, told.is)
 
 text_sound : (file : FileName) (text : List ℕ) (calls : List Call) → MayBePutAt file text calls → IsSoundText file text
-text_sound Farm text calls may = may
+text_sound Farm text calls may = (may.file, may.sound, may.is)
 text_sound Heard text calls may = may
 text_sound Joins text calls may = joins_sound text calls may
 text_sound Replaced text calls may = may

@@ -1,6 +1,6 @@
 -- What was to be written to the folder of a node that runs is there.
 use Rattle.std.proofs.Common.{◌≡◌, ◌⊎◌, ◌∙◌, ◌≤◌, inl, inr, ℕ, List, ap, subst, sym}
-use Rattle.std.specs.Prelude.{OnErr, OnOk, Option, Result, Ok, Err, Some}
+use Rattle.std.specs.Prelude.{OnErr, OnOk, Result, Ok, Err, Some}
 use Rattle.wf_folder.specs.NodeFile.{node_text}
 use Rattle.wf_folder.specs.Reach.{IsNoLower, IsNoLowerVote, IsReachNoLess}
 use Rattle.wf_folder.specs.declared.node_file.NodeFile.{NodeFile}

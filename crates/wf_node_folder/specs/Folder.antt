@@ -134,8 +134,8 @@ AreInLockedFolder [] begun = ⊤
 AreInLockedFolder (call ∷ later) begun = (needs_own call.kind ≡ true → is_own (later ++ begun) ≡ true) × AreInLockedFolder later begun
 
 -- Calls came after these. None of them made a tape, or put one in the place of another, and only
--- the folder that is locked was written to. What was put in the place of the file `joins` may be:
--- so the folder ceases to join only where it may vote.
+-- the folder that is locked was written to. What was put in the place of a file may be: so the
+-- folder ceases to join only where it may vote, and what `farm` says that is published never falls.
 pub record StaysFrom (begun calls : List Call) : Type 0 where
   pub after : IsAfter begun calls
   pub tapes : tape_changes calls ≡ tape_changes begun

@@ -1,9 +1,11 @@
--- What is written to the file `joins` of a folder that joins.
+-- What is written to the file `joins` of a folder that joins, and what may be put in the place of
+-- each file.
 use Rattle.std.specs.Prelude.{◌≡◌, ◌⊎◌, ℕ, ⊤, true, List, [], ◌∷◌, ◌++◌, Option, Some}
 use Rattle.wf_folder.specs.NodeFile.{IsTextOf}
 use Rattle.wf_folder.specs.declared.node_admission.NodeFound.{NodeFound}
 use Rattle.wf_folder.specs.declared.node_admission.NodeFound.TheVariants as finds
 use Rattle.wf_folder.specs.declared.node_file.NodeFile.{NodeFile}
+use Rattle.wf_node_folder.specs.FarmPut.{IsPublishedPut, IsRaise}
 use Rattle.wf_node_folder.specs.Sound.{IsSoundText}
 use Rattle.wf_store.specs.Texts.{is_farm, is_joins, is_tape, text_in}
 use Rattle.wf_rejoin.specs.JoinStep.{StepCounts, stepped}
@@ -38,12 +40,14 @@ pub record SaysJoining (joining : Joining) (calls : List Call) : Type 0 where
   pub text : text_in is_joins calls ≡ Some (joins_text joining)
 
 -- By both the folder may vote: at least half of all nodes have agreed to it and answered, and it
--- has published a window more than the highest of their answers.
+-- has published a window more than the highest of their answers. What its process put in the place
+-- of the file `farm` says no less.
 pub record MayVoteBy (calls : List Call) : Type 0 where
   pub joining : Joining
   pub says : SaysJoining joining calls
   pub published : ℕ
   pub farm : SaysPublished published calls
+  pub put : IsPublishedPut published calls
   pub may_vote : MayVote joining published
 
 -- The text is that of the folder once it was told one thing more, which counts.
@@ -62,8 +66,10 @@ pub record IsToldNext (text : List ℕ) (calls : List Call) : Type 0 where
 abbrev pub MayBePut : List ℕ → List Call → Type 0
 MayBePut text calls = ((text ≡ []) × MayVoteBy calls) ⊎ IsToldNext text calls
 
--- what may be put in the place of each file: a sound text
+-- what may be put in the place of each file: a sound text, and in that of `farm` one that says no
+-- less of its node than before
 abbrev pub MayBePutAt : FileName → List ℕ → List Call → Type 0
+MayBePutAt names.Farm text calls = IsRaise text calls
 MayBePutAt names.Joins text calls = MayBePut text calls
 MayBePutAt file text calls = IsSoundText file text
 

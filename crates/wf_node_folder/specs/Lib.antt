@@ -1,5 +1,6 @@
 pub mod Cleared
 pub mod Damage
+pub mod FarmPut
 pub mod Fault
 pub mod Folder
 pub mod NodeFileTheorems

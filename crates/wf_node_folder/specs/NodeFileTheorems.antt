@@ -1,5 +1,5 @@
 -- A file `farm` is sound in one way at most.
-use Rattle.std.specs.Prelude.{◌≤◌, ℕ, Option, Some, None}
+use Rattle.std.specs.Prelude.{◌≤◌, ℕ, List, Option, Some, None}
 use Rattle.std.proofs.Props.{props}
 use Rattle.wf_ballot.specs.Ballot.{Ballot}
 use Rattle.wf_folder.specs.NodeFile.{IsNodeFile, last_start}
@@ -8,7 +8,9 @@ use Rattle.wf_folder.specs.Suspension.{IsSuspensionOrNone}
 use Rattle.wf_folder.specs.declared.node_file.NodeFile.{NodeFile}
 use Rattle.wf_folder.specs.declared.reach.HighestVote.{HighestVote}
 use Rattle.wf_folder.specs.declared.suspension.Suspension.{Suspension}
+use Rattle.wf_node_folder.specs.FarmPut.{IsPutBetween}
 use Rattle.wf_node_folder.specs.Folder.{AreFiles, IsFileOrNone}
+use Rattle.wf_store.specs.Call.{Call}
 
 is_promise_prop : (promise : Option Ballot) → IsProp (IsPromise promise)
 is_promise_prop None = hlevel props
@@ -44,3 +46,7 @@ with_starts file starts is within = record {
   bytes = is.bytes;
   size = is.size;
 }
+
+-- what is known of what was put there is known in one way at most
+pub put_between_prop : (file : NodeFile) (attempted : Option NodeFile) (calls : List Call) → IsProp (IsPutBetween file attempted calls)
+put_between_prop file attempted calls = hlevel props

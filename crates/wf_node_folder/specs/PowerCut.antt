@@ -5,6 +5,7 @@ use Rattle.wf_folder.specs.declared.node_file.NodeFile.{NodeFile}
 use Rattle.wf_line.specs.declared.node_line.InitLine.{InitLine}
 use Rattle.wf_line.specs.declared.node_line.NodeLine.{NodeLine}
 use Rattle.wf_node_folder.specs.Cleared.{IsCleared, IsHalfCleared}
+use Rattle.wf_node_folder.specs.FarmPut.{IsRaise}
 use Rattle.wf_node_folder.specs.Folder.{IsHeardIn, StaysFrom}
 use Rattle.wf_node_folder.specs.Made.{HasMade, IsFirstFile, IsFirstTape, IsHalfMade, first_joining}
 use Rattle.wf_node_folder.specs.Held.{HasHeld}
@@ -15,11 +16,11 @@ use Rattle.wf_node_folder.specs.Start.{IsNotServed, IsStartOn}
 use Rattle.wf_store.specs.Texts.{is_tape}
 use Rattle.wf_node_folder.specs.declared.ready.ReadyNode.{ReadyNode}
 use Rattle.wf_peer.specs.declared.heard.Heard.{Heard as HeardOfNode}
-use Rattle.wf_power_cuts.specs.Cut.{CouldLeave}
+use Rattle.wf_power_cuts.specs.Cut.{CouldLeave, MayLeaveNow}
 use Rattle.wf_rejoin.specs.JoiningText.{joins_text}
 use Rattle.wf_rejoin.specs.declared.joining.Joining.{Joining}
 use Rattle.wf_rejoin.specs.declared.replacement.Replacement.{Replacement}
-use Rattle.wf_store.specs.Call.{Call, locked}
+use Rattle.wf_store.specs.Call.{Call, locked, replaced}
 use Rattle.wf_store.specs.declared.call_kind.CallKind.{CallKind}
 use Rattle.wf_store.specs.declared.call_kind.CallKind.TheVariants as kinds
 use Rattle.wf_store.specs.declared.file_name.FileName.{FileName}
@@ -101,6 +102,12 @@ pub record AreReadBack (images : FileName → List ℕ) : Type 0 where
 -- so wherever the power is cut
 abbrev pub CutsAreReadBack : Type 0
 CutsAreReadBack = (calls : List Call) → AreSoundCalls calls → (images : FileName → List ℕ) → CouldLeave calls images → AreReadBack images
+
+-- What a power cut leaves of the file `farm` after the calls of a node that is served, whose start
+-- put this one there: the text of a file that says no less than the one that was put there last.
+abbrev pub CutsKeepFarm : Type 0
+CutsKeepFarm = (written : NodeFile) (older calls : List Call) → IsNodeFile written → StaysFrom (replaced Farm (node_text written) ∷ older) calls → (image : List ℕ) → MayLeaveNow calls Farm image
+    → IsRaise image calls
 
 -- ---- the tape of a start
 

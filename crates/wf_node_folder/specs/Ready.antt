@@ -5,6 +5,7 @@ use Rattle.wf_folder.specs.declared.node_file.NodeFile.{NodeFile}
 use Rattle.wf_line.specs.declared.node_line.NodeLine.{NodeLine}
 use Rattle.wf_peer_connections.specs.declared.plan.NodePlan.{NodePlan}
 use Rattle.wf_node.specs.Node.{stored_of}
+use Rattle.wf_node_folder.specs.FarmPut.{HasPut}
 use Rattle.wf_node_folder.specs.Folder.{StandsForRead, heard_in, tape_in}
 use Rattle.wf_node_folder.specs.Held.{IsRaisedTo}
 use Rattle.wf_node_folder.specs.ReplacementFiles.{IsJoinsIn, IsOwnJoining, IsReplacedIn}
@@ -45,13 +46,14 @@ module _ {T : Type 0} (tapes : Tape T) where
     pub is_raised : IsRaisedTo (stored_of ready.process.actor.node) file ready.file
 
   -- Its process is in its first run, to which nothing was given yet, and what it heard is in the
-  -- file `heard`, but for folders that others have replaced.
+  -- file `heard`, but for folders that others have replaced. Its file `farm` was put there last.
   pub record IsJustStarted (ready : ReadyNode T tapes) (calls : List Call) : Type 0 where
     pub begun : IsJustOpened ready.process
     pub first : ready.process.ended.items ≡ []
     pub known : List (Option HeardOfNode)
     pub heard : IsHeardText (heard_in calls) known
     pub left : AreLeft known ready.plan.replacements ready.heard
+    pub put : HasPut ready.file calls
 
   -- Its folder, which is locked, had admitted the start.
   pub record IsNodeReady (line : NodeLine) (ready : ReadyNode T tapes) (old new : List Call) : Type 0 where

@@ -1,10 +1,11 @@
 //! The folder of a node, as its process has locked it: there a tape that failed is opened again,
 //! and is written how far the node is, and what it heard.
-ghost use Rattle.std.specs.Prelude.{◌≡◌, ◌+◌, IfSome, None, OnOk, true};
+ghost use Rattle.std.specs.Prelude.{◌≡◌, ◌≤◌, ◌+◌, IfOk, IfSome, None, OnOk, true};
 ghost use Rattle.wf_folder.specs.NodeFile.{IsNodeFile};
 ghost use Rattle.wf_folder.specs.Reach.{IsReachNoLess};
+ghost use Rattle.wf_node_folder.specs.FarmPut.{HasPut, IsPutBetween, farm_in, latest_of, published_in};
 ghost use Rattle.wf_node_folder.specs.Folder.{AreFiles, StaysFrom, calls_in, heard_in, is_own};
-ghost use Rattle.wf_node_folder.specs.NodeFileTheorems.{are_files_prop};
+ghost use Rattle.wf_node_folder.specs.NodeFileTheorems.{are_files_prop, put_between_prop};
 ghost use Rattle.wf_voter.specs.Folder.{HasFarmText};
 
 use crate::running::{RunningStore, not_reopened};
@@ -29,12 +30,15 @@ pub struct HeldFolder<S: Store> {
     // what may be there in its place: writing it failed
     attempted: Option<NodeFile>,
     ghost sound: { AreFiles file attempted } by { are_files_prop file attempted },
+    ghost put: { IsPutBetween file attempted (S.calls running.store) } by { put_between_prop file attempted (S.calls running.store) },
 }
 
 impl<S: Store> HeldFolder<S> {
     /// The folder that is locked, with the file that was written at this start.
+    #[tactic(auto, using(crate::proofs::FarmPut::put_first))]
     pub fn new(alloc: Global, store: S, file: NodeFile) -> Self
-        requires { IsNodeFile file }
+        requires file { IsNodeFile file }
+        requires put { HasPut file (S.calls store) }
         ensures began { calls_in S.calls result.running.began.items ≡ S.calls store }
         ensures same { S.calls result.running.store ≡ S.calls store }
         ensures file { result.file ≡ file }
@@ -67,6 +71,7 @@ impl<S: Store> HeldFolder<S> {
     }
 
     /// Whether the file `farm` is one that this process wrote.
+    #[tactic(auto, using(crate::proofs::FarmPut::put_still))]
     fn examine_farm(&mut self) -> Result<(), NotReopened>
         ensures starts { self.new.starts ≡ self.old.starts }
         ensures own { is_own (S.calls self.new.running.store) ≡
@@ -94,9 +99,21 @@ impl<S: Store> HeldFolder<S> {
         }
     }
 
+    /// Whether a file `farm` is the one that this process wrote last, and no later writing failed.
+    fn is_last(&self, found: &NodeFile) -> bool
+        ensures none { result ≡ true → self.now.attempted ≡ None }
+        ensures no_more { result ≡ true → published_in found.now ≤ published_in self.now.file }
+    {
+        // (no clause ties the comparison of whole files to what they say)
+        self.attempted.is_none()
+            && *found == self.file
+            && found.known.reach.published.number() <= self.file.known.reach.published.number()
+    }
+
     /// The file that says most: the one whose writing failed, if there is one.
     fn latest(&self) -> NodeFile
-        ensures { IsNodeFile result }
+        ensures file { IsNodeFile result }
+        ensures is { result ≡ latest_of self.now.file self.now.attempted }
     {
         match self.attempted {
             Some(attempted) => attempted,
@@ -108,13 +125,21 @@ impl<S: Store> HeldFolder<S> {
     fn next_start(&self) -> Option<NodeFile>
         ensures file { IfSome result IsNodeFile }
         ensures starts { IfSome result (λ file. file.starts ≡ self.now.starts + 1) }
+        ensures published { IfSome result (λ file.
+            published_in (latest_of self.now.file self.now.attempted) ≤ published_in file) }
     {
         let latest = self.latest();
         with_starts(&latest, self.starts).next_start()
     }
 
-    /// Finds out which file is there after a failed writing, so that no more than two can be.
-    fn settle(&mut self) -> Result<(), FolderError>
+    /// Which file is there after a failed writing, so that no more than two can be.
+    #[tactic(auto, using(crate::proofs::FarmPut::put_still))]
+    fn settle(&mut self) -> Result<NodeFile, FolderError>
+        ensures file { IfOk result IsNodeFile }
+        ensures there { IfOk result (λ there. published_in there ≤
+            published_in (latest_of self.old.file self.old.attempted)) }
+        ensures last { self.new.file ≡ self.old.file }
+        ensures attempted { self.new.attempted ≡ self.old.attempted }
         ensures starts { self.new.starts ≡ self.old.starts }
         ensures own { is_own (S.calls self.new.running.store) ≡
             is_own (S.calls self.old.running.store) }
@@ -122,15 +147,12 @@ impl<S: Store> HeldFolder<S> {
         ensures heard { heard_in (S.calls self.new.running.store) ≡
             heard_in (S.calls self.old.running.store) }
     {
-        if self.attempted.is_none() {
-            return Ok(());
-        }
+        let Some(attempted) = self.attempted else {
+            return Ok(self.file);
+        };
         match self.running.find_farm() {
-            Ok(NodeFound::File(found)) if self.is_own(&found) => {
-                self.file = found;
-                self.attempted = None;
-                Ok(())
-            }
+            Ok(NodeFound::File(found)) if found == attempted => Ok(attempted),
+            Ok(NodeFound::File(found)) if found == self.file => Ok(self.file),
             Ok(_) => Err(unwritten(ErrorKind::InvalidData)),
             Err(FolderFault::Unread(_, kind)) => Err(unwritten(kind)),
             Err(fault) => Err(FolderError::Store(fault)),
@@ -139,9 +161,11 @@ impl<S: Store> HeldFolder<S> {
 
     /// Writes another file `farm`, synced, with the folder: only into the folder that is locked.
     /// After an error either may be there.
-    #[tactic(auto, using(crate::proofs::Put::farm_put))]
+    #[tactic(auto, using(crate::proofs::Put::farm_put, crate::proofs::FarmPut::put_still, crate::proofs::FarmPut::put_later, crate::proofs::FarmPut::may_be_raised, crate::proofs::FarmPut::put_tried, crate::proofs::FarmPut::put_now))]
     fn write(&mut self, next: &NodeFile) -> Result<(), FolderError>
-        requires { IsNodeFile next.now }
+        requires file { IsNodeFile next.now }
+        requires no_less { published_in (latest_of self.old.file self.old.attempted) ≤
+            published_in next.now }
         ensures starts { self.new.starts ≡ self.old.starts }
         ensures file { OnOk result (self.new.file ≡ next.now) }
         ensures written { OnOk result
@@ -153,12 +177,14 @@ impl<S: Store> HeldFolder<S> {
         if let Err(error) = self.running.examine() {
             return Err(error);
         }
-        if let Err(error) = self.settle() {
-            return Err(error);
-        }
+        let there = match self.settle() {
+            Ok(there) => there,
+            Err(error) => return Err(error),
+        };
         let Ok(text) = next.text(self.alloc) else {
             return Err(FolderError::Store(FolderFault::Memory));
         };
+        self.file = there;
         self.attempted = Some(*next);
         match self.running.replace(FileName::Farm, text) {
             Ok(()) => {
@@ -178,6 +204,7 @@ impl<S: Store> NodeFolder<S::Tape> for HeldFolder<S> {
 
     ghost farm = { λ held. held.file };
 
+    #[tactic(auto, using(crate::proofs::FarmPut::put_still))]
     fn open(&mut self) -> Result<S::Tape, NotReopened> {
         if let Err(error) = self.running.examine() {
             return Err(not_reopened(error));
@@ -211,13 +238,14 @@ impl<S: Store> NodeFolder<S::Tape> for HeldFolder<S> {
         self.write(&next)
     }
 
-    #[tactic(auto, using(crate::proofs::Put::suspended_by))]
+    #[tactic(auto, using(crate::proofs::Put::suspended_by, crate::proofs::FarmPut::suspended_no_less))]
     fn suspend(&mut self, suspension: Suspension) -> Result<(), FolderError> {
         let latest = self.latest();
         let next = latest.suspend(suspension);
         self.write(&next)
     }
 
+    #[tactic(auto, using(crate::proofs::FarmPut::put_still))]
     fn keep_heard(&mut self, heard: &PeerProgress) -> Result<(), FolderError> {
         if let Err(error) = self.running.examine() {
             return Err(error);
@@ -228,7 +256,7 @@ impl<S: Store> NodeFolder<S::Tape> for HeldFolder<S> {
         }
     }
 
-    #[tactic(auto, using(crate::proofs::Put::replaced_put, crate::proofs::Put::replaced_or_not, crate::proofs::Put::not_replaced))]
+    #[tactic(auto, using(crate::proofs::Put::replaced_put, crate::proofs::Put::replaced_or_not, crate::proofs::Put::not_replaced, crate::proofs::FarmPut::put_still))]
     fn keep_replaced(&mut self, known: &Replacements) -> Result<(), FolderError> {
         if let Err(error) = self.running.examine() {
             return Err(error);
@@ -239,6 +267,7 @@ impl<S: Store> NodeFolder<S::Tape> for HeldFolder<S> {
         }
     }
 
+    #[tactic(auto, using(crate::proofs::FarmPut::put_still))]
     fn keep_joining(&mut self, step: &JoinStep) -> Result<(), FolderError> {
         if let Err(error) = self.running.examine() {
             return Err(error);
@@ -246,12 +275,13 @@ impl<S: Store> NodeFolder<S::Tape> for HeldFolder<S> {
         self.running.tell_joining(self.alloc, step)
     }
 
+    #[tactic(auto, using(crate::proofs::FarmPut::put_still, crate::proofs::FarmPut::put_at_least))]
     fn finish_joining(&mut self) -> Result<(), FolderError> {
         if let Err(error) = self.running.examine() {
             return Err(error);
         }
         let published = match self.running.find_farm() {
-            Ok(NodeFound::File(found)) if self.is_own(&found) => found.known.reach.published,
+            Ok(NodeFound::File(found)) if self.is_last(&found) => found.known.reach.published,
             Ok(_) => return Err(unwritten(ErrorKind::InvalidData)),
             Err(fault) => return Err(FolderError::Store(fault)),
         };
@@ -277,6 +307,7 @@ fn with_starts(file: &NodeFile, starts: u32) -> NodeFile
     requires { IsNodeFile file.now }
     ensures file { IsNodeFile result }
     ensures starts { result.starts ≡ starts }
+    ensures known { result.known ≡ file.now.known }
 {
     NodeFile { starts, ..*file }
 }

@@ -26,7 +26,9 @@
 //!   synced, or there is a record that doesn't fit. A bad file `heard` is an error.
 //! - While the node runs, no tape is made or put in the place of another, and a file is opened or
 //!   written only where the folder at its path has been seen to be the one that is locked
-//!   (`specs/Folder.antt`).
+//!   (`specs/Folder.antt`). What is put in the place of `farm` never says that less is published
+//!   (`specs/FarmPut.antt`), and a folder ceases to join only where it may vote
+//!   (`specs/Joined.antt`).
 //! - `init` makes and locks a folder without names, draws its mark, and leaves a tape that is
 //!   empty, or one on which that node opens; with `--replace` an empty one, and then the file
 //!   `joins` with that mark; and then the file of a node of that number, farm and name that never
@@ -39,7 +41,8 @@
 //!   `joins` is absent or whole, and the next start reads it back ([`cut_folders_are_read_back`],
 //!   `specs/PowerCut.antt`; `wf_power_cuts` has what a cut leaves). What it leaves of the tape of a
 //!   start, if that is durable, holds all that either file `farm` says
-//!   ([`started_folders_start_again`]).
+//!   ([`started_folders_start_again`]). What it leaves of `farm` while a node is served says no
+//!   less than what was put there last ([`farm_files_are_kept`]).
 //! - Each error has its cause, and its status: 2 where the command line is bad, else 1.
 //!
 //! **Doesn't.** What the system does with files has no model: that its lock holds, and that what is
@@ -77,5 +80,8 @@ pub use init::init_folder;
 pub use node::start_node;
 pub use ready::ReadyNode;
 pub use replacement_fault::ReplacementFault;
-pub use theorem::{cut_folders_are_read_back, made_folders_are_whole, started_folders_start_again};
+pub use theorem::{
+    cut_folders_are_read_back, farm_files_are_kept, made_folders_are_whole,
+    started_folders_start_again,
+};
 pub use wf_address::AddressOption;

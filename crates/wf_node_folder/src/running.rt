@@ -1,11 +1,12 @@
 //! The folder of a node while it is served.
-ghost use Rattle.std.specs.Prelude.{◌≡◌, ◌∷◌, ℕ, false, true, [], IfOk, IfSome, None, OnErr, OnOk, Some};
+ghost use Rattle.std.specs.Prelude.{◌≡◌, ◌∷◌, ◌⊎◌, ℕ, false, true, [], IfOk, IfSome, None, OnErr, OnOk, Some};
 ghost use Rattle.wf_folder.specs.NodeAdmission.{IsSoundFind};
+ghost use Rattle.wf_node_folder.specs.FarmPut.{IsPublishedPut, farm_in};
 ghost use Rattle.wf_node_folder.specs.Folder.{StaysFrom, calls_in, heard_in, is_own};
 ghost use Rattle.wf_node_folder.specs.Joined.{IsFarmSaid, MayBePutAt, SaysJoining, SaysPublished};
 ghost use Rattle.wf_rejoin.specs.JoiningText.{IsJoins, joins_text};
 ghost use Rattle.wf_store.specs.Call.{bytes_of, read};
-ghost use Rattle.wf_store.specs.Texts.{IsTextPut, MayBeIn, TextsStay, is_heard, is_tape};
+ghost use Rattle.wf_store.specs.Texts.{IsTextPut, MayBeIn, TextsStay, is_farm, is_heard, is_tape};
 ghost use Rattle.wf_store.specs.declared.file_name.FileName.TheVariants as names;
 ghost use Rattle.wf_voter.specs.Folder.{IsTold, JoinsNoMore};
 
@@ -52,12 +53,13 @@ impl<S: Store> RunningStore<S> {
     }
 
     /// Whether the folder at its path is the one that is locked.
-    #[tactic(auto, using(crate::proofs::Stays::own_compared, crate::proofs::Stays::texts_comparing))]
+    #[tactic(auto, using(crate::proofs::Stays::own_compared, crate::proofs::Stays::texts_comparing, crate::proofs::FarmPut::farm_comparing))]
     pub(crate) fn examine(&mut self) -> Result<(), FolderError>
         ensures began { self.new.began.items ≡ self.old.began.items }
         ensures own { OnOk result (is_own (S.calls self.new.store) ≡ true) }
         ensures texts { TextsStay (S.calls self.old.store) (S.calls self.new.store) }
         ensures heard { heard_in (S.calls self.new.store) ≡ heard_in (S.calls self.old.store) }
+        ensures farm { farm_in (S.calls self.new.store) ≡ farm_in (S.calls self.old.store) }
     {
         match self.store.is_same() {
             Ok(true) => Ok(()),
@@ -67,11 +69,12 @@ impl<S: Store> RunningStore<S> {
     }
 
     /// The file `farm`.
-    #[tactic(auto, using(crate::proofs::Stays::own_found, crate::proofs::Stays::heard_finding))]
+    #[tactic(auto, using(crate::proofs::Stays::own_found, crate::proofs::Stays::heard_finding, crate::proofs::FarmPut::farm_finding))]
     pub(crate) fn find_farm(&mut self) -> Result<NodeFound, FolderFault>
         ensures began { self.new.began.items ≡ self.old.began.items }
         ensures own { is_own (S.calls self.new.store) ≡ is_own (S.calls self.old.store) }
         ensures heard { heard_in (S.calls self.new.store) ≡ heard_in (S.calls self.old.store) }
+        ensures farm { farm_in (S.calls self.new.store) ≡ farm_in (S.calls self.old.store) }
         ensures sound { IfOk result IsSoundFind }
         ensures says { IfOk result (λ found. IsFarmSaid found (S.calls self.new.store)) }
     {
@@ -79,11 +82,12 @@ impl<S: Store> RunningStore<S> {
     }
 
     /// The bytes of the file `joins`. None: there is no such file.
-    #[tactic(auto, using(crate::proofs::Stays::own_read, crate::proofs::Stays::heard_reading))]
+    #[tactic(auto, using(crate::proofs::Stays::own_read, crate::proofs::Stays::heard_reading, crate::proofs::FarmPut::farm_reading))]
     fn read_joins(&mut self) -> Result<Option<Vec<u8>>, FolderFault>
         ensures began { self.new.began.items ≡ self.old.began.items }
         ensures own { is_own (S.calls self.new.store) ≡ is_own (S.calls self.old.store) }
         ensures heard { heard_in (S.calls self.new.store) ≡ heard_in (S.calls self.old.store) }
+        ensures farm { farm_in (S.calls self.new.store) ≡ farm_in (S.calls self.old.store) }
         ensures read { IfOk result (λ found.
             S.calls self.new.store ≡ read names.Joins (bytes_of found) ∷ S.calls self.old.store) }
     {
@@ -96,7 +100,8 @@ impl<S: Store> RunningStore<S> {
         ensures began { self.new.began.items ≡ self.old.began.items }
         ensures own { is_own (S.calls self.new.store) ≡ is_own (S.calls self.old.store) }
         ensures heard { heard_in (S.calls self.new.store) ≡ heard_in (S.calls self.old.store) }
-        ensures farm { OnOk result ((published : ℕ) →
+        ensures farm { farm_in (S.calls self.new.store) ≡ farm_in (S.calls self.old.store) }
+        ensures published { OnOk result ((published : ℕ) →
             SaysPublished published (S.calls self.old.store) →
             SaysPublished published (S.calls self.new.store)) }
         ensures says { IfOk result (λ found. IfSome found (λ joining.
@@ -120,6 +125,7 @@ impl<S: Store> RunningStore<S> {
         ensures began { self.new.began.items ≡ self.old.began.items }
         ensures told { OnOk result (IsTold step.now (S.calls self.new.store)) }
         ensures heard { heard_in (S.calls self.new.store) ≡ heard_in (S.calls self.old.store) }
+        ensures farm { farm_in (S.calls self.new.store) ≡ farm_in (S.calls self.old.store) }
     {
         let joining = match self.find_joining() {
             Ok(Some(joining)) => joining,
@@ -136,8 +142,9 @@ impl<S: Store> RunningStore<S> {
     }
 
     /// Puts an empty text in the place of the file `joins`, in the folder that is locked, whose
-    /// file `farm` says that its node has published so far. Err: by its files the folder may not
-    /// vote, or a call failed. After an error the text from before or none is there.
+    /// file `farm` says that its node has published so far, as its process wrote it. Err: by its
+    /// files the folder may not vote, or a call failed. After an error the text from before or none
+    /// is there.
     #[tactic(auto, using(crate::proofs::Joined::emptied))]
     pub(crate) fn finish_joining(
         &mut self,
@@ -146,9 +153,11 @@ impl<S: Store> RunningStore<S> {
     ) -> Result<(), FolderError>
         requires own { is_own (S.calls self.old.store) ≡ true }
         requires farm { SaysPublished published (S.calls self.old.store) }
+        requires put { IsPublishedPut published (S.calls self.old.store) }
         ensures began { self.new.began.items ≡ self.old.began.items }
         ensures joined { OnOk result (JoinsNoMore (S.calls self.new.store)) }
         ensures heard { heard_in (S.calls self.new.store) ≡ heard_in (S.calls self.old.store) }
+        ensures farm { farm_in (S.calls self.new.store) ≡ farm_in (S.calls self.old.store) }
     {
         let joining = match self.find_joining() {
             Ok(Some(joining)) => joining,
@@ -162,11 +171,12 @@ impl<S: Store> RunningStore<S> {
     }
 
     /// Whether there is a tape of a node.
-    #[tactic(auto, using(crate::proofs::Stays::own_seen, crate::proofs::Stays::heard_seeing))]
+    #[tactic(auto, using(crate::proofs::Stays::own_seen, crate::proofs::Stays::heard_seeing, crate::proofs::FarmPut::farm_seeing))]
     fn has_tape(&mut self, node: u8) -> Result<bool, FolderFault>
         ensures began { self.new.began.items ≡ self.old.began.items }
         ensures own { is_own (S.calls self.new.store) ≡ is_own (S.calls self.old.store) }
         ensures heard { heard_in (S.calls self.new.store) ≡ heard_in (S.calls self.old.store) }
+        ensures farm { farm_in (S.calls self.new.store) ≡ farm_in (S.calls self.old.store) }
     {
         match self.store.presence(FileName::NodeTape(node)) {
             Ok(presence) => Ok(presence.is_there()),
@@ -175,11 +185,12 @@ impl<S: Store> RunningStore<S> {
     }
 
     /// Opens the tape of a node, which has to be there, in the folder that is locked.
-    #[tactic(auto, using(crate::proofs::Stays::stays_opening, crate::proofs::Stays::heard_opening))]
+    #[tactic(auto, using(crate::proofs::Stays::stays_opening, crate::proofs::Stays::heard_opening, crate::proofs::FarmPut::farm_opening))]
     pub(crate) fn open_tape(&mut self, node: u8) -> Result<S::Tape, NotReopened>
         requires { is_own (S.calls self.old.store) ≡ true }
         ensures began { self.new.began.items ≡ self.old.began.items }
         ensures heard { heard_in (S.calls self.new.store) ≡ heard_in (S.calls self.old.store) }
+        ensures farm { farm_in (S.calls self.new.store) ≡ farm_in (S.calls self.old.store) }
     {
         match self.has_tape(node) {
             Ok(true) => {}
@@ -195,7 +206,7 @@ impl<S: Store> RunningStore<S> {
     /// Puts a text in the place of a file that is no tape, in the folder that is locked. Meanwhile
     /// another folder may have come to the path, which is an error. After an error the text from
     /// before or this one is there.
-    #[tactic(auto, using(crate::proofs::Stays::stays_replacing, crate::proofs::Stays::was_put, crate::proofs::Stays::was_put_or_not, crate::proofs::Stays::was_not_put, crate::proofs::Stays::heard_beside, crate::proofs::Stays::heard_beside_not))]
+    #[tactic(auto, using(crate::proofs::Stays::stays_replacing, crate::proofs::Stays::was_put, crate::proofs::Stays::was_put_or_not, crate::proofs::Stays::was_not_put, crate::proofs::Stays::heard_beside, crate::proofs::Stays::heard_beside_not, crate::proofs::FarmPut::farm_now, crate::proofs::FarmPut::farm_beside, crate::proofs::FarmPut::farm_or_not, crate::proofs::FarmPut::farm_beside_not, crate::proofs::FarmPut::farm_not))]
     pub(crate) fn replace(&mut self, file: FileName, text: Vec<u8>) -> Result<(), FolderError>
         requires file { is_tape file ≡ false }
         requires own { is_own (S.calls self.old.store) ≡ true }
@@ -207,6 +218,12 @@ impl<S: Store> RunningStore<S> {
             (MayBeIn file text.items (S.calls self.old.store) (S.calls self.new.store)) }
         ensures heard { is_heard file ≡ false →
             heard_in (S.calls self.new.store) ≡ heard_in (S.calls self.old.store) }
+        ensures farm { is_farm file ≡ false →
+            farm_in (S.calls self.new.store) ≡ farm_in (S.calls self.old.store) }
+        ensures now { OnOk result
+            (is_farm file ≡ true → farm_in (S.calls self.new.store) ≡ Some text.items) }
+        ensures either { (farm_in (S.calls self.new.store) ≡ farm_in (S.calls self.old.store))
+            ⊎ (farm_in (S.calls self.new.store) ≡ Some text.items) }
     {
         if let Err(fault) = self.store.replace(file, text) {
             return Err(FolderError::Store(fault));

@@ -1,6 +1,6 @@
 //! Theorems about folders. Each call does nothing.
 ghost use Rattle.wf_node_folder.specs.Damage.{AreBadNowhere};
-ghost use Rattle.wf_node_folder.specs.PowerCut.{ClearsAreSound, CutsAreReadBack, FilesAreWhole, InitsAreSound, InitsAreWhole, NodesAreSound, StartsAgain, StartsAreSound, StopsAreSound};
+ghost use Rattle.wf_node_folder.specs.PowerCut.{ClearsAreSound, CutsAreReadBack, CutsKeepFarm, FilesAreWhole, InitsAreSound, InitsAreWhole, NodesAreSound, StartsAgain, StartsAreSound, StopsAreSound};
 
 use wf_canon::one_text_one_map;
 use wf_tape::Tape;
@@ -35,6 +35,12 @@ pub fn cut_folders_are_read_back()
 #[tactic(auto, using(crate::proofs::PowerCut::inits_are_whole))]
 pub fn made_folders_are_whole()
     ensures { InitsAreWhole }
+{}
+
+/// Whatever a power cut leaves of the file `farm` of a node that is served says no less than what
+/// was put there last, by its start or since. A theorem.
+pub fn farm_files_are_kept()
+    ensures { CutsKeepFarm }
 {}
 
 /// Whatever a power cut leaves of the tape of a node that was started, if the tape is durable,
