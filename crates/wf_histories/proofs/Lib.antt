@@ -14,6 +14,7 @@ mod Killed
 mod Lessons
 mod Joiners
 mod Emptied
+mod KeptFarm
 mod Joining
 mod Timeline
 mod Lifetimes

@@ -1,6 +1,6 @@
 -- A folder that joins in the place of a lost one: what its processes learned, and that the next one
 -- may vote.
-use Rattle.std.specs.Prelude.{◌≡◌, ℕ, ◌≤◌, ⊤, List, [], ◌∷◌, ◌++◌, take, IsSome}
+use Rattle.std.specs.Prelude.{◌≡◌, ℕ, ◌≤◌, ⊤, List, [], ◌∷◌, ◌++◌, take, IsSome, Option, Some}
 use Rattle.wf_codec.specs.declared.message.Message.{Message}
 use Rattle.wf_def.specs.Definition.{Definition}
 use Rattle.wf_folder.specs.declared.node_file.NodeFile.{NodeFile}
@@ -9,13 +9,14 @@ use Rattle.wf_node.specs.Images.{StandsFor}
 use Rattle.wf_node_folder.specs.FarmPut.{HasPut, published_in}
 use Rattle.wf_node_folder.specs.Folder.{StaysFrom}
 use Rattle.wf_node_folder.specs.Joined.{SaysJoining}
+use Rattle.wf_power_cuts.specs.Cut.{MayLeaveNow}
 use Rattle.wf_rejoin.specs.Joining.{MayVote}
 use Rattle.wf_rejoin.specs.declared.joining.Joining.{Joining}
 use Rattle.wf_rejoin_guard.specs.Joined.{IsAnsweredSince, IsFolderOf}
 use Rattle.wf_rejoin_guard.specs.Learned.{EndLearns, HasJoinedByLearning, HasLearnedFrom}
 use Rattle.wf_replacement.specs.Timeline.{ProcessEvent, returned_through}
 use Rattle.wf_store.specs.Call.{Call, replaced}
-use Rattle.wf_store.specs.declared.file_name.FileName.TheVariants.{Joins}
+use Rattle.wf_store.specs.declared.file_name.FileName.TheVariants.{Farm, Joins}
 use Rattle.wf_tape.specs.declared.tape.Tape.{Ghosts as Tape}
 use Rattle.wf_histories.specs.Carried.{AreSentBefore}
 use Rattle.wf_histories.specs.Nodes.{AreOnFolder, NodeProcess, bytes_read, made_by}
@@ -68,10 +69,18 @@ module _ {T : Type 0} (tapes : Tape T) where
   abbrev pub calls_before : {p : NodeProcess tapes} → HasEmptied p → List Call
   calls_before {p} emptied = emptied.earlier ++ p.has.begun
 
+  -- the bytes that its start read of the file `farm`
+  abbrev pub farm_read : NodeProcess tapes → Option (List ℕ)
+  farm_read p = p.has.is_start.is_admitted.is_file.looked.bytes
+
   -- What the next one read of the file `farm` says no less is published than what this one had put
   -- there last. So does that text, and what a start puts there that was cut off, or failed.
   abbrev pub IsFarmKept : (last next : NodeProcess tapes) → Type 0
   IsFarmKept last next = (put : NodeFile) → HasPut put last.new → published_in put ≤ published_in next.has.file
+
+  -- So it is where that one read what a power cut may leave of the file after these calls.
+  abbrev pub CutFarmsAreKept : Type 0
+  CutFarmsAreKept = (last next : NodeProcess tapes) → StaysFrom last.has.begun last.new → (bytes : List ℕ) → MayLeaveNow last.new Farm bytes → farm_read next ≡ Some bytes → IsFarmKept last next
 
   abbrev pub JoinedFoldersMayVote : Type 0
   JoinedFoldersMayVote = (last next : NodeProcess tapes) (emptied : HasEmptied last) → IsFarmKept last next →

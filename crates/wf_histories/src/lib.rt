@@ -28,8 +28,10 @@
 //!   ([`replicas_are_of_the_farm`]).
 //! - A folder that joins in the place of a lost one (`specs/Joiners.antt`) has learned what its
 //!   next process reads of the tape ([`joiners_have_learned`]), and where it ceased to join, that
-//!   process may vote with it ([`joined_folders_may_vote`]). So it has joined as `wf_rejoin_guard`
-//!   wants it ([`folders_join_by_learning`]).
+//!   process may vote with it ([`joined_folders_may_vote`]), if what that read of the file `farm`
+//!   says no less than what was put there, as whatever a power cut leaves of it does
+//!   ([`cut_farms_are_kept`]). So it has joined as `wf_rejoin_guard` wants it
+//!   ([`folders_join_by_learning`]).
 //! - So nodes of which some lost their disks, and folders joined in the place of these
 //!   (`specs/Lifetimes.antt`), are a timeline of `wf_replacement`
 //!   ([`replaced_nodes_are_a_timeline`]): there is one history, no list loses a definition, on
@@ -58,9 +60,9 @@
 mod theorem;
 
 pub use theorem::{
-    answers_are_of_nodes, clients_get_equally, folders_join_by_learning, joined_folders_may_vote,
-    joiners_go_on, joiners_have_learned, killed_answers_are_of_nodes, lifetimes_go_on,
-    node_processes_go_on, nodes_agree, nodes_are_one_farm, processes_show_lives,
+    answers_are_of_nodes, clients_get_equally, cut_farms_are_kept, folders_join_by_learning,
+    joined_folders_may_vote, joiners_go_on, joiners_have_learned, killed_answers_are_of_nodes,
+    lifetimes_go_on, node_processes_go_on, nodes_agree, nodes_are_one_farm, processes_show_lives,
     processes_show_what_came, replaced_nodes_agree, replaced_nodes_are_a_timeline,
     replicas_are_of_the_farm, sent_messages_are_carried,
 };

@@ -2,7 +2,7 @@
 ghost use Rattle.wf_histories.specs.Advance.{ActAdvances, NothingAdvances, RunAdvances, StartAdvances};
 ghost use Rattle.wf_histories.specs.Answers.{AnswersAreOfNodes};
 ghost use Rattle.wf_histories.specs.Carried.{SentAreCarried};
-ghost use Rattle.wf_histories.specs.Joiners.{FoldersJoinByLearning, JoinedFoldersMayVote, JoinersHaveLearned};
+ghost use Rattle.wf_histories.specs.Joiners.{CutFarmsAreKept, FoldersJoinByLearning, JoinedFoldersMayVote, JoinersHaveLearned};
 ghost use Rattle.wf_histories.specs.Joining.{ActJoins, CallsShowEmptied, FirstJoins, MoreIsSent, NextJoins, NextVotes, RunJoins};
 ghost use Rattle.wf_histories.specs.Killed.{AnswersByThenAreOfNodes, ClientsGetEqually, EarlierAnswersAreOfNodes, WholeIsWithinActs};
 ghost use Rattle.wf_histories.specs.Lifetimes.{LifetimesAnswerAlike, LifetimesAnswerMapsAlike, LifetimesAreTimeline, LifetimesNeverDiffer, LifetimesNeverGoBack, LifetimesShareHistory};
@@ -15,6 +15,7 @@ use wf_execution::{
     a_compared_node_goes_on, lists_grow, processes_agree, replicas_agree, replicas_answer_alike,
 };
 use wf_journal::records_are_read_one_way;
+use wf_node_folder::farm_files_are_kept;
 use wf_rejoin_guard::learners_may_rejoin;
 use wf_replacement::{published_lists_grow, timelines_agree, timelines_answer_alike};
 use wf_replica::{a_replica_never_goes_back, what_is_learned_is_served};
@@ -153,13 +154,20 @@ pub fn joiners_have_learned<T: Tape>()
 /// read of the tape, if what that read of the file `farm` says no less than what was put there.
 ///
 /// `HasEmptied` is met by the calls that [`wf_node_command::run`] made ([`joiners_go_on`]), which
-/// say that nothing put there says less than before. `IsFarmKept` is met where what is read of it
-/// is what a power cut may leave (`wf_node_folder::farm_files_are_kept`).
+/// say that nothing put there says less than before; `IsFarmKept` by [`cut_farms_are_kept`].
 pub fn joined_folders_may_vote<T: Tape>()
     ensures { JoinedFoldersMayVote T.Tape }
 {
     // What was read of the tape was compared with the file `farm`.
     records_are_read_one_way();
+}
+
+/// Where the next process read of the file `farm` what a power cut may leave of it after the calls
+/// of the one before, it says no less than what that had put there last.
+pub fn cut_farms_are_kept<T: Tape>()
+    ensures { CutFarmsAreKept T.Tape }
+{
+    farm_files_are_kept();
 }
 
 /// So a folder has joined by learning, as `wf_rejoin_guard` wants it of each process that is
