@@ -25,7 +25,7 @@ prints has to be one of these:
 
 A test is run once for each of its allocations, each time in an empty folder. Tests repeat a call after an
 allocation failure, so each passes whichever allocation fails, if the failed call changed nothing. Those of
-tapes in files, of journals over disks that fail, of a long listing, and one of a start make each call once:
+tapes in files, of journals over disks that fail, and two that read what a server left, make each call once:
 they are run and not judged.
 
 Cases with more allocations than --most are tried at the first half of that number, and then at evenly spaced
@@ -46,7 +46,8 @@ from farmkit.repository import TOP
 
 CRATES = ["wf_test_map", "wf_test_farm", "wf_test_paint", "wf_test_failures"]
 # tests that make each call once, and so fail where an allocation does
-ONCE = ("tape::", "disk::", "long_listing::", "serve::a_start_where_port_or_folder_is_taken_changes_no_tape")
+ONCE = ("tape::", "disk::", "serve::a_start_where_port_or_folder_is_taken_changes_no_tape",
+        "serve::a_start_on_a_folder_that_is_not_the_farms_changes_no_file")
 EDGE = ("hear", "serve", "refuse", "serve_alone", "serve_published", "serve_cached")
 # their input begins with a mapfile
 PUBLISHED = ("serve_published", "serve_cached")
