@@ -8,14 +8,17 @@ use Rattle.wf_model.specs.DurableState.{DurableState, published}
 use Rattle.wf_node.specs.Images.{StandsFor}
 use Rattle.wf_node_folder.specs.FarmPut.{HasPut, published_in}
 use Rattle.wf_node_folder.specs.Folder.{StaysFrom}
+use Rattle.wf_line.specs.declared.node_line.NodeLine.{NodeLine}
 use Rattle.wf_node_folder.specs.Joined.{SaysJoining}
+use Rattle.wf_node_folder.specs.PowerCut.{ReadsWhatIsLeft}
+use Rattle.wf_node_folder.specs.Start.{IsNotServed}
 use Rattle.wf_power_cuts.specs.Cut.{MayLeaveNow}
 use Rattle.wf_rejoin.specs.Joining.{MayVote}
 use Rattle.wf_rejoin.specs.declared.joining.Joining.{Joining}
 use Rattle.wf_rejoin_guard.specs.Joined.{IsAnsweredSince, IsFolderOf}
 use Rattle.wf_rejoin_guard.specs.Learned.{EndLearns, HasJoinedByLearning, HasLearnedFrom}
 use Rattle.wf_replacement.specs.Timeline.{ProcessEvent, returned_through}
-use Rattle.wf_store.specs.Call.{Call, replaced}
+use Rattle.wf_store.specs.Call.{Call, IsAfter, replaced}
 use Rattle.wf_store.specs.declared.file_name.FileName.TheVariants.{Farm, Joins}
 use Rattle.wf_tape.specs.declared.tape.Tape.{Ghosts as Tape}
 use Rattle.wf_histories.specs.Carried.{AreSentBefore}
@@ -28,6 +31,26 @@ pub record MayVoteWith (calls : List Call) (bytes : List ℕ) : Type 0 where
   pub joining : Joining
   pub says : SaysJoining joining calls
   pub may_vote : (stored : DurableState Definition) → StandsFor stored bytes → MayVote joining (published stored)
+
+-- A start on a folder that isn't served: the calls that it would have made, and those that it made
+-- before it was killed; all of them, if it ended by itself. Both go on from the folder's earlier
+-- ones.
+pub record StartCut : Type 0 where
+  pub line : NodeLine
+  pub whole : List Call
+  pub made : List Call
+
+-- It came after these calls, and what it read of the file `farm` may have been left there.
+pub record IsCutOn (old : List Call) (cut : StartCut) : Type 0 where
+  pub after : IsAfter old cut.made
+  pub rest : IsAfter cut.made cut.whole
+  pub start : IsNotServed cut.line old cut.whole
+  pub reads : ReadsWhatIsLeft old cut.whole
+
+-- such starts, one after the other on one folder
+abbrev pub AreCutOnOne : List Call → List StartCut → List Call → Type 0
+AreCutOnOne old [] new = new ≡ old
+AreCutOnOne old (cut ∷ later) new = IsCutOn old cut × AreCutOnOne cut.made later new
 
 module _ {T : Type 0} (tapes : Tape T) where
   -- ---- what its processes learned
@@ -74,13 +97,15 @@ module _ {T : Type 0} (tapes : Tape T) where
   farm_read p = p.has.is_start.is_admitted.is_file.looked.bytes
 
   -- What the next one read of the file `farm` says no less is published than what this one had put
-  -- there last. So does that text, and what a start puts there that was cut off, or failed.
+  -- there last.
   abbrev pub IsFarmKept : (last next : NodeProcess tapes) → Type 0
   IsFarmKept last next = (put : NodeFile) → HasPut put last.new → published_in put ≤ published_in next.has.file
 
-  -- So it is where that one read what a power cut may leave of the file after these calls.
+  -- So it is where starts that read what is there came in between, each cut off or ended by an
+  -- error, and that one read what a power cut may leave of the file after all these calls.
   abbrev pub CutFarmsAreKept : Type 0
-  CutFarmsAreKept = (last next : NodeProcess tapes) → StaysFrom last.has.begun last.new → (bytes : List ℕ) → MayLeaveNow last.new Farm bytes → farm_read next ≡ Some bytes → IsFarmKept last next
+  CutFarmsAreKept = (last next : NodeProcess tapes) → StaysFrom last.has.begun last.new → (cuts : List StartCut) (calls : List Call) → AreCutOnOne last.new cuts calls →
+      (bytes : List ℕ) → MayLeaveNow calls Farm bytes → farm_read next ≡ Some bytes → IsFarmKept last next
 
   abbrev pub JoinedFoldersMayVote : Type 0
   JoinedFoldersMayVote = (last next : NodeProcess tapes) (emptied : HasEmptied last) → IsFarmKept last next →

@@ -29,9 +29,9 @@
 //! - A folder that joins in the place of a lost one (`specs/Joiners.antt`) has learned what its
 //!   next process reads of the tape ([`joiners_have_learned`]), and where it ceased to join, that
 //!   process may vote with it ([`joined_folders_may_vote`]), if what that read of the file `farm`
-//!   says no less than what was put there, as whatever a power cut leaves of it does
-//!   ([`cut_farms_are_kept`]). So it has joined as `wf_rejoin_guard` wants it
-//!   ([`folders_join_by_learning`]).
+//!   says no less than what was put there, as whatever a power cut leaves of it does, also where
+//!   starts failed in between ([`cut_farms_are_kept`]). So it has joined as `wf_rejoin_guard` wants
+//!   it ([`folders_join_by_learning`]).
 //! - So nodes of which some lost their disks, and folders joined in the place of these
 //!   (`specs/Lifetimes.antt`), are a timeline of `wf_replacement`
 //!   ([`replaced_nodes_are_a_timeline`]): there is one history, no list loses a definition, on

@@ -163,7 +163,8 @@ pub fn joined_folders_may_vote<T: Tape>()
 }
 
 /// Where the next process read of the file `farm` what a power cut may leave of it after the calls
-/// of the one before, it says no less than what that had put there last.
+/// of the one before, it says no less than what that had put there last: also where starts came in
+/// between that ended with an error, or were killed, and that read what was there.
 pub fn cut_farms_are_kept<T: Tape>()
     ensures { CutFarmsAreKept T.Tape }
 {

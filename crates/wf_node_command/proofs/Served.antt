@@ -178,6 +178,7 @@ module _ {T : Type 0} (tapes : Tape T) where
       file = is.file;
       written = ready.file;
       sound = sound;
+      no_less = is.is_ready.is_raised.no_less;
       heard = is.is_ready.known;
       is_start = record { admitted = is.admitted; is_admitted = is.is_admitted; is_counted = is.is_ready.is_counted };
     })));

@@ -67,7 +67,7 @@ module _ (calls : List Call) (image : List ℕ) (before : List ℕ → Type 0) (
   kept_by (kinds.FailsAt (NodeTape node)) bytes put left = raise left
   kept_by (kinds.FailsAt ReplicaTape) bytes put left = raise left
   kept_by (kinds.Opens named) bytes tape left = opened_tape named tape left
-  kept_by (kinds.OpensExisting named) bytes tape left = opened_tape named tape left
+  kept_by (kinds.OpensExisting named) bytes again left = opened_tape named again.tape left
   kept_by kinds.Makes bytes none left = raise left
   kept_by kinds.Locks bytes none left = raise left
   kept_by (kinds.Compares same) bytes none left = raise left

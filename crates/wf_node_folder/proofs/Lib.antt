@@ -3,7 +3,7 @@ mod Damage
 mod Faults
 mod Found
 mod Joined
-mod FarmPut
+pub mod FarmPut
 mod Kept
 mod KeptFarm
 mod Making
@@ -15,5 +15,6 @@ mod Raised
 mod Reached
 mod ReplacementFiles
 mod Started
+pub mod StartedFarm
 mod Starting
 mod Stays

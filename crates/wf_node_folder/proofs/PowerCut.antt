@@ -175,7 +175,7 @@ is_sound_call : (kind : CallKind) (bytes : Option (List ℕ)) (calls : List Call
 is_sound_call (kinds.Replaces file) bytes calls sound = put_soundly file bytes calls sound
 is_sound_call (kinds.FailsAt file) bytes calls sound = put_soundly file bytes calls sound
 is_sound_call (kinds.Opens file) bytes calls sound = sound
-is_sound_call (kinds.OpensExisting file) bytes calls sound = sound
+is_sound_call (kinds.OpensExisting file) bytes calls again = again.tape
 is_sound_call kinds.Makes bytes calls sound = tt
 is_sound_call kinds.Locks bytes calls sound = tt
 is_sound_call (kinds.Compares same) bytes calls sound = tt
@@ -225,7 +225,7 @@ quiet_call (kinds.Measures file length) bytes quiet = tt
 quiet_call (kinds.Reads file) bytes quiet = tt
 quiet_call kinds.Fails bytes quiet = tt
 
-none_of : (call : Call) (rest : List Call) (b : Bool) → (if b then call ∷ rest else rest) ≡ [] → (b ≡ false) × (rest ≡ [])
+pub none_of : (call : Call) (rest : List Call) (b : Bool) → (if b then call ∷ rest else rest) ≡ [] → (b ≡ false) × (rest ≡ [])
 none_of call rest true is = absurd cc
 none_of call rest false is = (refl, is)
 
@@ -244,11 +244,13 @@ changes_both : (later old : List Call) → changes (later ++ old) ≡ changes la
 changes_both [] old = refl
 changes_both (call ∷ later) old = changes_by call later old (is_change call.kind) (changes_both later old)
 
-reads_are_sound : (old calls : List Call) → AreSoundCalls old → OnlyReads old calls → AreSoundCalls calls
-reads_are_sound old calls are reads =
+pub none_changes : (old calls : List Call) (reads : OnlyReads old calls) → changes reads.after.later ≡ []
+none_changes old calls reads =
     let later = reads.after.later in
-    let none : changes later ≡ [] = append_cancel_right (changes later) [] (changes old) (sym (changes_both later old) ∙ ap changes (sym reads.after.is) ∙ reads.unchanged) in
-    subst AreSoundCalls (sym reads.after.is) (quiet_calls later old none are)
+    append_cancel_right (changes later) [] (changes old) (sym (changes_both later old) ∙ ap changes (sym reads.after.is) ∙ reads.unchanged)
+
+reads_are_sound : (old calls : List Call) → AreSoundCalls old → OnlyReads old calls → AreSoundCalls calls
+reads_are_sound old calls are reads = subst AreSoundCalls (sym reads.after.is) (quiet_calls reads.after.later old (none_changes old calls reads) are)
 
 compared_sound : (file : NodeFile) (old calls : List Call) → AreSoundCalls old → IsCompared file old calls → AreSoundCalls calls
 compared_sound file old calls are is = subst AreSoundCalls (sym is.calls) (tt, are)
@@ -256,8 +258,8 @@ compared_sound file old calls are is = subst AreSoundCalls (sym is.calls) (tt, a
 tape_opened_sound : (file : NodeFile) (old calls : List Call) → AreSoundCalls old → IsTapeOpened file old calls → AreSoundCalls calls
 tape_opened_sound file old calls are is = subst AreSoundCalls (sym is.calls) (refl, compared_sound file old is.compared are is.is_compared)
 
-uncounted_sound : (old calls : List Call) → AreSoundCalls old → IsUncounted old calls → AreSoundCalls calls
-uncounted_sound old calls are is = subst AreSoundCalls (sym is.calls) ((is.file, is.sound, refl), (tt, are))
+uncounted_sound : (file : NodeFile) (old calls : List Call) → AreSoundCalls old → IsUncounted file old calls → AreSoundCalls calls
+uncounted_sound file old calls are is = subst AreSoundCalls (sym is.calls) ((is.tried, is.sound, refl), (tt, are))
 
 touched_sound : (file : NodeFile) (old calls : List Call) → AreSoundCalls old → IsTapeTouched file old calls → AreSoundCalls calls
 touched_sound file old calls are is = elim is.2 [
@@ -276,7 +278,7 @@ left_opened_sound file old calls are is =
     let opened_are : AreSoundCalls is.on_tape = tape_opened_sound file old is.on_tape are is.is_on_tape in
     elim is.later [
       | inl reads ↦ reads_are_sound is.on_tape calls opened_are reads
-      | inr uncounted ↦ uncounted_sound (drawn uncounted.0 ∷ is.on_tape) calls (tt, opened_are) uncounted.1
+      | inr uncounted ↦ uncounted_sound file (drawn uncounted.0 ∷ is.on_tape) calls (tt, opened_are) uncounted.1
     ]
 
 cut_short_sound : (line : NodeLine) (old calls : List Call) → AreSoundCalls old → IsStartCutShort line old calls → AreSoundCalls calls

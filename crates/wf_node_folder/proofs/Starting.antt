@@ -4,6 +4,7 @@ use Rattle.std.specs.Prelude.{Option, Result, Ok, Err, IfErr, IfOk, IfSome, OnEr
 use Rattle.wf_voter.specs.Process.{Process}
 use Rattle.wf_def.specs.Definition.{Definition}
 use Rattle.wf_folder.specs.NodeFile.{IsNodeFile, node_text, raised_known}
+use Rattle.wf_folder.specs.Reach.{IsReachNoLess}
 use Rattle.wf_folder.specs.declared.node_file.NodeFile.{NodeFile}
 use Rattle.wf_folder.specs.declared.reach.Known.{Known}
 use Rattle.wf_line.specs.declared.node_line.NodeLine.{NodeLine}
@@ -62,16 +63,16 @@ counted_by heard raised old mid new found is = record {
 }
 
 -- or it wasn't
-pub unwritten_by : (heard : List (Option HeardOfNode)) (raised : NodeFile) (old mid new : List Call) → IsHeardFound heard old mid → OnlyReads old mid → IsNodeFile raised
-    → (new ≡ mid) ⊎ (new ≡ unreplaced Farm (node_text raised) ∷ mid) → IsNotCounted old new
-unwritten_by heard raised old mid new found reads sound is = elim is [
+pub unwritten_by : (heard : List (Option HeardOfNode)) (file raised : NodeFile) (old mid new : List Call) → IsHeardFound heard old mid → OnlyReads old mid → IsNodeFile raised
+    → IsReachNoLess file.known.reach raised.known.reach → (new ≡ mid) ⊎ (new ≡ unreplaced Farm (node_text raised) ∷ mid) → IsNotCounted file old new
+unwritten_by heard file raised old mid new found reads sound no_less is = elim is [
   | inl same ↦ inl (subst (λ (calls : List Call). OnlyReads old calls) (sym same) reads)
-  | inr at ↦ inr (record { bytes = found.bytes; file = raised; sound = sound; calls = at ∙ ap (λ (calls : List Call). unreplaced Farm (node_text raised) ∷ calls) found.calls })
+  | inr at ↦ inr (record { bytes = found.bytes; tried = raised; sound = sound; no_less = no_less; calls = at ∙ ap (λ (calls : List Call). unreplaced Farm (node_text raised) ∷ calls) found.calls })
 ]
 
 pub raised_by : (stored : DurableState Definition) (file written : NodeFile) (known : Known) → IsKnownOf file.known stored known → written ≡ record file { known = raised_known file.known known.reach known.digest }
-    → IsRaisedTo stored file written
-raised_by stored file written known is value = record { known = known; is_known = is; value = value }
+    → IsReachNoLess file.known.reach written.known.reach → IsRaisedTo stored file written
+raised_by stored file written known is value no_less = record { known = known; is_known = is; value = value; no_less = no_less }
 
 -- ---- a start that was admitted
 
@@ -129,14 +130,14 @@ module _ {T : Type 0} (tapes : Tape T) (file : NodeFile) (old on_tape planned ne
       by_result (Err fault) one by now raise = tt
 
   -- or it wasn't
-  pub uncounted_on : IsTapeOpened file old on_tape → IsLifeDrawn on_tape planned → OnlyReads on_tape planned → OnErr result (IsNotCounted planned new) → OnErr result (IsLeftUncounted file old new)
+  pub uncounted_on : IsTapeOpened file old on_tape → IsLifeDrawn on_tape planned → OnlyReads on_tape planned → OnErr result (IsNotCounted file planned new) → OnErr result (IsLeftUncounted file old new)
   uncounted_on is draws reads left = by_result result left
     where
-      by_result : (r : Result (ReadyNode T tapes) CommandFault) → OnErr r (IsNotCounted planned new) → OnErr r (IsLeftUncounted file old new)
+      by_result : (r : Result (ReadyNode T tapes) CommandFault) → OnErr r (IsNotCounted file planned new) → OnErr r (IsLeftUncounted file old new)
       by_result (Ok ready) uncounted = tt
       by_result (Err fault) uncounted = elim uncounted [
         | inl only ↦ inr (record { on_tape = on_tape; is_on_tape = is; later = inl (reads_both on_tape planned new reads only) })
-        | inr at ↦ inr (record { on_tape = on_tape; is_on_tape = is; later = inr (draws.0, subst (λ (calls : List Call). IsUncounted calls new) draws.1 at) })
+        | inr at ↦ inr (record { on_tape = on_tape; is_on_tape = is; later = inr (draws.0, subst (λ (calls : List Call). IsUncounted file calls new) draws.1 at) })
       ]
 
   pub stop_unheard : IfErr result (IsWhyUnheard new) → IfErr result (IsStopFault file old new)

@@ -5,13 +5,14 @@ use Rattle.std.specs.Prelude.{if◌then◌else◌, Option, Some, Result, Ok, Err
 use Rattle.std.specs.declared.alloc.Global.{Global}
 use Rattle.wf_folder.specs.declared.node_admission.NodeFound.{NodeFound}
 use Rattle.wf_folder.specs.declared.presence.Presence.{Presence}
+use Rattle.wf_node_folder.specs.FarmPut.{IsOwnFarm}
 use Rattle.wf_node_folder.specs.Folder.{IsFarmFound, StaysFrom, heard_in, is_of_tape, is_own, needs_own, of_tapes, tape_changes}
 use Rattle.wf_node_folder.specs.Joined.{IsJoinedSoundly, MayBePutAt}
 use Rattle.wf_store.specs.Call.{Call, bytes_of, changes, compared, failed, is_change, opened_existing, read, replaced, seen, unreplaced}
 use Rattle.wf_store.specs.Texts.{IsTextPut, MayBeIn, TextsStay, is_heard, is_tape, text_in}
 use Rattle.wf_store.specs.declared.fault.FolderFault.{FolderFault}
 use Rattle.wf_store.specs.declared.file_name.FileName.{FileName}
-use Rattle.wf_store.specs.declared.file_name.FileName.TheVariants.{Farm, Joins}
+use Rattle.wf_store.specs.declared.file_name.FileName.TheVariants.{Farm}
 
 -- nothing was called yet
 pub stays_still : (calls : List Call) → ∥ StaysFrom calls calls ∥₁
@@ -47,10 +48,11 @@ module _ (begun old new : List Call) (stays : ∥ StaysFrom begun old ∥₁) wh
   stays_finding (Ok found) done wrong = stays_one (read Farm done.bytes) done.calls refl (λ needs. absurd cc) tt
   stays_finding (Err fault) done wrong = stays_one failed wrong refl (λ needs. absurd cc) tt
 
-  -- the file `joins` was read
-  pub stays_reading : (result : Result (Option (Vec ℕ Global)) FolderFault) → IfOk result (λ found. new ≡ read Joins (bytes_of found) ∷ old) → OnErr result (new ≡ failed ∷ old) → ∥ StaysFrom begun new ∥₁
-  stays_reading (Ok found) done wrong = stays_one (read Joins (bytes_of found)) done refl (λ needs. absurd cc) tt
-  stays_reading (Err fault) done wrong = stays_one failed wrong refl (λ needs. absurd cc) tt
+  -- a file was read
+  pub stays_reading : (file : FileName) (result : Result (Option (Vec ℕ Global)) FolderFault) → IfOk result (λ found. new ≡ read file (bytes_of found) ∷ old) → OnErr result (new ≡ failed ∷ old)
+      → ∥ StaysFrom begun new ∥₁
+  stays_reading file (Ok found) done wrong = stays_one (read file (bytes_of found)) done refl (λ needs. absurd cc) tt
+  stays_reading file (Err fault) done wrong = stays_one failed wrong refl (λ needs. absurd cc) tt
 
   -- whether a file is there was looked at
   pub stays_seeing : (file : FileName) (result : Result Presence FolderFault) → IfOk result (λ there. new ≡ seen file there ∷ old) → OnErr result (new ≡ failed ∷ old) → ∥ StaysFrom begun new ∥₁
@@ -59,9 +61,9 @@ module _ (begun old new : List Call) (stays : ∥ StaysFrom begun old ∥₁) wh
 
   -- a file was opened, which was there
   pub stays_opening : {A : Type 0} (file : FileName) (result : Result A FolderFault) → OnOk result (new ≡ opened_existing file ∷ old) → OnErr result (new ≡ failed ∷ old) → is_tape file ≡ true → is_own old ≡ true
-      → ∥ StaysFrom begun new ∥₁
-  stays_opening file (Ok tape) done wrong is own = stays_one (opened_existing file) done refl (λ needs. own) is
-  stays_opening file (Err fault) done wrong is own = stays_one failed wrong refl (λ needs. absurd cc) tt
+      → IsOwnFarm old → ∥ StaysFrom begun new ∥₁
+  stays_opening file (Ok tape) done wrong is own farm = stays_one (opened_existing file) done refl (λ needs. own) (record { tape = is; own = farm })
+  stays_opening file (Err fault) done wrong is own farm = stays_one failed wrong refl (λ needs. absurd cc) tt
 
   -- a file that is no tape was replaced
   pub stays_replacing : (file : FileName) (bytes : List ℕ) (result : Result (Unit {0}) FolderFault) → OnOk result (new ≡ replaced file bytes ∷ old) → OnErr result (new ≡ unreplaced file bytes ∷ old)
@@ -84,9 +86,10 @@ module _ (old new : List Call) where
   heard_finding (Ok found) done wrong = ap heard_in done.calls
   heard_finding (Err fault) done wrong = ap heard_in wrong
 
-  pub heard_reading : (result : Result (Option (Vec ℕ Global)) FolderFault) → IfOk result (λ found. new ≡ read Joins (bytes_of found) ∷ old) → OnErr result (new ≡ failed ∷ old) → heard_in new ≡ heard_in old
-  heard_reading (Ok found) done wrong = ap heard_in done
-  heard_reading (Err fault) done wrong = ap heard_in wrong
+  pub heard_reading : (file : FileName) (result : Result (Option (Vec ℕ Global)) FolderFault) → is_heard file ≡ false → IfOk result (λ found. new ≡ read file (bytes_of found) ∷ old)
+      → OnErr result (new ≡ failed ∷ old) → heard_in new ≡ heard_in old
+  heard_reading file (Ok found) other done wrong = ap heard_in done ∙ ap (λ (b : Bool). if b then bytes_of found else heard_in old) other
+  heard_reading file (Err fault) other done wrong = ap heard_in wrong
 
   pub heard_seeing : (file : FileName) (result : Result Presence FolderFault) → IfOk result (λ there. new ≡ seen file there ∷ old) → OnErr result (new ≡ failed ∷ old) → heard_in new ≡ heard_in old
   heard_seeing file (Ok there) done wrong = ap heard_in done
@@ -119,9 +122,10 @@ module _ (old new : List Call) where
   own_found (Ok found) done wrong = ap is_own done.calls
   own_found (Err fault) done wrong = ap is_own wrong
 
-  pub own_read : (result : Result (Option (Vec ℕ Global)) FolderFault) → IfOk result (λ found. new ≡ read Joins (bytes_of found) ∷ old) → OnErr result (new ≡ failed ∷ old) → is_own new ≡ is_own old
-  own_read (Ok found) done wrong = ap is_own done
-  own_read (Err fault) done wrong = ap is_own wrong
+  pub own_reading : (file : FileName) (result : Result (Option (Vec ℕ Global)) FolderFault) → IfOk result (λ found. new ≡ read file (bytes_of found) ∷ old) → OnErr result (new ≡ failed ∷ old)
+      → is_own new ≡ is_own old
+  own_reading file (Ok found) done wrong = ap is_own done
+  own_reading file (Err fault) done wrong = ap is_own wrong
 
   pub own_seen : (file : FileName) (result : Result Presence FolderFault) → IfOk result (λ there. new ≡ seen file there ∷ old) → OnErr result (new ≡ failed ∷ old) → is_own new ≡ is_own old
   own_seen file (Ok there) done wrong = ap is_own done

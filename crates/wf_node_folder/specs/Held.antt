@@ -4,6 +4,7 @@ use Rattle.wf_def.specs.Definition.{Definition}
 use Rattle.wf_digest.specs.Digest.{digest_at}
 use Rattle.wf_folder.specs.NodeAdmission.{IsTapeAdmitted, IsTapeRejection}
 use Rattle.wf_folder.specs.NodeFile.{raised_known}
+use Rattle.wf_folder.specs.Reach.{IsReachNoLess}
 use Rattle.wf_folder.specs.declared.node_admission.NodeRejection.{NodeRejection}
 use Rattle.wf_folder.specs.declared.node_file.NodeFile.{NodeFile}
 use Rattle.wf_folder.specs.declared.reach.Known.{Known}
@@ -98,11 +99,13 @@ pub record IsKnownOf (before : Known) (stored : DurableState Definition) (known 
   pub is_digest : known.digest ≡ digest_at stored.history (length stored.history)
   pub held : HoldsAll (raised_known before known.reach known.digest) stored
 
--- The second file is the first one, in which what is known is raised to all that is stored.
+-- The second file is the first one, in which what is known is raised to all that is stored, and so
+-- says no less.
 pub record IsRaisedTo (stored : DurableState Definition) (file written : NodeFile) : Type 0 where
   pub known : Known
   pub is_known : IsKnownOf file.known stored known
   pub value : written ≡ record file { known = raised_known file.known known.reach known.digest }
+  pub no_less : IsReachNoLess file.known.reach written.known.reach
 
 -- The node of this file was opened, holds all that is known of it, and goes so far.
 pub record IsExamined {T : Type 0} (file : NodeFile) (node : Node T) (known : Known) : Type 0 where

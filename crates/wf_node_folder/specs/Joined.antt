@@ -5,7 +5,7 @@ use Rattle.wf_folder.specs.NodeFile.{IsTextOf}
 use Rattle.wf_folder.specs.declared.node_admission.NodeFound.{NodeFound}
 use Rattle.wf_folder.specs.declared.node_admission.NodeFound.TheVariants as finds
 use Rattle.wf_folder.specs.declared.node_file.NodeFile.{NodeFile}
-use Rattle.wf_node_folder.specs.FarmPut.{IsPublishedPut, IsRaise}
+use Rattle.wf_node_folder.specs.FarmPut.{IsOwnFarm, IsPublishedPut, IsRaise}
 use Rattle.wf_node_folder.specs.Sound.{IsSoundText}
 use Rattle.wf_store.specs.Texts.{is_farm, is_joins, is_tape, text_in}
 use Rattle.wf_rejoin.specs.JoinStep.{StepCounts, stepped}
@@ -79,11 +79,17 @@ pub record IsPutSoundly (file : FileName) (bytes : Option (List ℕ)) (calls : L
   pub may : MayBePutAt file text calls
   pub is : bytes ≡ Some text
 
+-- A tape that failed is opened again: only beside a file `farm` that was read before, and that the
+-- process put there itself.
+pub record IsReopening (file : FileName) (calls : List Call) : Type 0 where
+  pub tape : is_tape file ≡ true
+  pub own : IsOwnFarm calls
+
 abbrev pub IsJoinedSoundly : CallKind → Option (List ℕ) → List Call → Type 0
 IsJoinedSoundly (kinds.Replaces file) bytes calls = IsPutSoundly file bytes calls
 IsJoinedSoundly (kinds.FailsAt file) bytes calls = IsPutSoundly file bytes calls
 IsJoinedSoundly (kinds.Opens file) bytes calls = is_tape file ≡ true
-IsJoinedSoundly (kinds.OpensExisting file) bytes calls = is_tape file ≡ true
+IsJoinedSoundly (kinds.OpensExisting file) bytes calls = IsReopening file calls
 IsJoinedSoundly kind bytes calls = ⊤
 
 -- so does each of the later calls

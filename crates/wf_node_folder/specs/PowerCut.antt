@@ -1,11 +1,11 @@
 -- What a power cut leaves of a node's folder, by the folder's calls.
-use Rattle.std.specs.Prelude.{◌≡◌, ◌⊎◌, ℕ, ⊤, true, false, List, [], ◌∷◌, Option, Some, None}
+use Rattle.std.specs.Prelude.{◌≡◌, ◌≤◌, ◌⊎◌, ℕ, ⊤, true, false, List, [], ◌∷◌, Option, Some, None}
 use Rattle.wf_folder.specs.NodeFile.{IsNodeFile, IsTextOf, node_text}
 use Rattle.wf_folder.specs.declared.node_file.NodeFile.{NodeFile}
 use Rattle.wf_line.specs.declared.node_line.InitLine.{InitLine}
 use Rattle.wf_line.specs.declared.node_line.NodeLine.{NodeLine}
 use Rattle.wf_node_folder.specs.Cleared.{IsCleared, IsHalfCleared}
-use Rattle.wf_node_folder.specs.FarmPut.{IsRaise}
+use Rattle.wf_node_folder.specs.FarmPut.{IsRaise, published_in}
 use Rattle.wf_node_folder.specs.Folder.{IsHeardIn, StaysFrom}
 use Rattle.wf_node_folder.specs.Made.{HasMade, IsFirstFile, IsFirstTape, IsHalfMade, first_joining}
 use Rattle.wf_node_folder.specs.Held.{HasHeld}
@@ -20,7 +20,7 @@ use Rattle.wf_power_cuts.specs.Cut.{CouldLeave, MayLeaveNow}
 use Rattle.wf_rejoin.specs.JoiningText.{joins_text}
 use Rattle.wf_rejoin.specs.declared.joining.Joining.{Joining}
 use Rattle.wf_rejoin.specs.declared.replacement.Replacement.{Replacement}
-use Rattle.wf_store.specs.Call.{Call, locked, replaced}
+use Rattle.wf_store.specs.Call.{Call, IsAfter, locked, read, replaced}
 use Rattle.wf_store.specs.declared.call_kind.CallKind.{CallKind}
 use Rattle.wf_store.specs.declared.call_kind.CallKind.TheVariants as kinds
 use Rattle.wf_store.specs.declared.file_name.FileName.{FileName}
@@ -108,6 +108,26 @@ CutsAreReadBack = (calls : List Call) → AreSoundCalls calls → (images : File
 abbrev pub CutsKeepFarm : Type 0
 CutsKeepFarm = (written : NodeFile) (older calls : List Call) → IsNodeFile written → StaysFrom (replaced Farm (node_text written) ∷ older) calls → (image : List ℕ) → MayLeaveNow calls Farm image
     → IsRaise image calls
+
+-- an image is the text of a file that says no less than that so much is published
+pub record SaysNoLess (published : ℕ) (image : List ℕ) : Type 0 where
+  pub file : NodeFile
+  pub sound : IsNodeFile file
+  pub is : image ≡ node_text file
+  pub no_less : published ≤ published_in file
+
+abbrev pub CutsSayNoLess : ℕ → List Call → Type 0
+CutsSayNoLess published calls = (image : List ℕ) → MayLeaveNow calls Farm image → SaysNoLess published image
+
+-- what later calls read of the file `farm` may have been left there by then
+abbrev pub ReadsWhatIsLeft : (old new : List Call) → Type 0
+ReadsWhatIsLeft old new = (earlier : List Call) (bytes : List ℕ) → IsAfter old earlier → IsAfter (read Farm (Some bytes) ∷ earlier) new → MayLeaveNow earlier Farm bytes
+
+-- So it is after each call of a start that reads what is there, whether it is counted or ends
+-- before with an error, if it was before the start.
+abbrev pub StartsKeepFarm : Type 0
+StartsKeepFarm = (line : NodeLine) (old calls new : List Call) → IsAfter old calls → IsAfter calls new → IsNotServed line old new → ReadsWhatIsLeft old new
+    → (published : ℕ) → CutsSayNoLess published old → CutsSayNoLess published calls
 
 -- ---- the tape of a start
 

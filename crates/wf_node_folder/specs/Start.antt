@@ -6,6 +6,7 @@ use Rattle.wf_address.specs.declared.address_option.AddressOption.{AddressOption
 use Rattle.wf_address.specs.declared.address_option.AddressOption.TheVariants as options
 use Rattle.wf_folder.specs.NodeAdmission.{IsNodeRejection, IsNodeStart, IsSoundFind}
 use Rattle.wf_folder.specs.NodeFile.{IsNodeFile, node_text}
+use Rattle.wf_folder.specs.Reach.{IsReachNoLess}
 use Rattle.wf_folder.specs.declared.node_admission.NodeFound.{NodeFound}
 use Rattle.wf_folder.specs.declared.node_admission.NodeFound.TheVariants as finds
 use Rattle.wf_folder.specs.declared.node_admission.NodeRejection.{NodeRejection}
@@ -153,16 +154,18 @@ pub record IsReadyCounted (replacements : List (Option Replacement)) (heard : Li
   pub is_counted : IsStartCounted known written old new
   pub left : AreLeft known replacements heard
 
--- The file `farm` was tried to be written then: it is there, or the one from before.
-pub record IsUncounted (old new : List Call) : Type 0 where
+-- A file `farm` that says no less than this one was tried to be written then: it is there, or the
+-- one from before.
+pub record IsUncounted (file : NodeFile) (old new : List Call) : Type 0 where
   pub bytes : Option (List ℕ)
-  pub file : NodeFile
-  pub sound : IsNodeFile file
-  pub calls : new ≡ unreplaced Farm (node_text file) ∷ read Heard bytes ∷ old
+  pub tried : NodeFile
+  pub sound : IsNodeFile tried
+  pub no_less : IsReachNoLess file.known.reach tried.known.reach
+  pub calls : new ≡ unreplaced Farm (node_text tried) ∷ read Heard bytes ∷ old
 
 -- what was left where the start wasn't counted
-abbrev pub IsNotCounted : List Call → List Call → Type 0
-IsNotCounted old new = OnlyReads old new ⊎ IsUncounted old new
+abbrev pub IsNotCounted : NodeFile → List Call → List Call → Type 0
+IsNotCounted file old new = OnlyReads old new ⊎ IsUncounted file old new
 
 -- ---- the start
 
@@ -184,7 +187,7 @@ pub record IsStartOn (line : NodeLine) (file written : NodeFile) (heard : List (
 pub record IsLeftOpened (file : NodeFile) (old new : List Call) : Type 0 where
   pub on_tape : List Call
   pub is_on_tape : IsTapeOpened file old on_tape
-  pub later : OnlyReads on_tape new ⊎ ((life : List ℕ) × IsUncounted (drawn life ∷ on_tape) new)
+  pub later : OnlyReads on_tape new ⊎ ((life : List ℕ) × IsUncounted file (drawn life ∷ on_tape) new)
 
 -- what is left of a start that was admitted, and that wasn't counted
 abbrev pub IsLeftUncounted : NodeFile → List Call → List Call → Type 0
@@ -197,11 +200,13 @@ pub record IsStartCutShort (line : NodeLine) (old new : List Call) : Type 0 wher
   pub is_admitted : IsStartAdmitted line file old admitted
   pub left : IsLeftUncounted file admitted new
 
--- The calls of one that was counted, where the node wasn't served.
+-- The calls of one that was counted, where the node wasn't served: the file that was written says
+-- no less than the one that was found.
 pub record IsUnserved (line : NodeLine) (old new : List Call) : Type 0 where
   pub file : NodeFile
   pub written : NodeFile
   pub sound : IsNodeFile written
+  pub no_less : IsReachNoLess file.known.reach written.known.reach
   pub heard : List (Option HeardOfNode)
   pub is_start : IsStartOn line file written heard old new
 

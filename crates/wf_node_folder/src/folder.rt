@@ -16,7 +16,7 @@ use wf_peer::PeerProgress;
 use wf_store::{FileName, FolderFault, Store};
 
 /// More bytes than a node's file `farm` has.
-const MOST_FILE_BYTES: usize = 512;
+pub(crate) const MOST_FILE_BYTES: usize = 512;
 
 /// More bytes than a file `heard` has.
 const MOST_PEER_PROGRESS_BYTES: usize = 65_536;

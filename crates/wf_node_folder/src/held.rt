@@ -1,13 +1,14 @@
 //! The folder of a node, as its process has locked it: there a tape that failed is opened again,
 //! and is written how far the node is, and what it heard.
 ghost use Rattle.std.specs.Prelude.{◌≡◌, ◌≤◌, ◌+◌, IfOk, IfSome, None, OnOk, true};
-ghost use Rattle.wf_folder.specs.NodeFile.{IsNodeFile};
+ghost use Rattle.wf_folder.specs.NodeFile.{IsNodeFile, node_text};
 ghost use Rattle.wf_folder.specs.Reach.{IsReachNoLess};
-ghost use Rattle.wf_node_folder.specs.FarmPut.{HasPut, IsPutBetween, farm_in, latest_of, published_in};
+ghost use Rattle.wf_node_folder.specs.FarmPut.{HasPut, IsOwnFarm, IsPutBetween, WasPut, farm_in, latest_of, published_in};
 ghost use Rattle.wf_node_folder.specs.Folder.{AreFiles, StaysFrom, calls_in, heard_in, is_own};
 ghost use Rattle.wf_node_folder.specs.NodeFileTheorems.{are_files_prop, put_between_prop};
 ghost use Rattle.wf_voter.specs.Folder.{HasFarmText};
 
+use crate::folder::MOST_FILE_BYTES;
 use crate::running::{RunningStore, not_reopened};
 use std::alloc::Global;
 use std::io::ErrorKind;
@@ -71,7 +72,7 @@ impl<S: Store> HeldFolder<S> {
     }
 
     /// Whether the file `farm` is one that this process wrote.
-    #[tactic(auto, using(crate::proofs::FarmPut::put_still))]
+    #[tactic(auto, using(crate::proofs::FarmPut::put_still, crate::proofs::FarmPut::own_read))]
     fn examine_farm(&mut self) -> Result<(), NotReopened>
         ensures starts { self.new.starts ≡ self.old.starts }
         ensures own { is_own (S.calls self.new.running.store) ≡
@@ -79,23 +80,31 @@ impl<S: Store> HeldFolder<S> {
         ensures began { self.new.running.began.items ≡ self.old.running.began.items }
         ensures heard { heard_in (S.calls self.new.running.store) ≡
             heard_in (S.calls self.old.running.store) }
+        ensures farm { OnOk result (IsOwnFarm (S.calls self.new.running.store)) }
     {
-        match self.running.find_farm() {
-            Ok(NodeFound::File(found)) if self.is_own(&found) => Ok(()),
-            Ok(_) => Err(NotReopened::OtherFarm),
+        match self.running.read(FileName::Farm, MOST_FILE_BYTES) {
+            Ok(Some(text)) => self.examine_text(&text),
+            Ok(None) => Err(NotReopened::OtherFarm),
             Err(fault) => Err(not_reopened(FolderError::Store(fault))),
         }
     }
 
-    /// Whether a file `farm` is one that this process wrote: the last one, or a later one whose
-    /// writing failed.
-    fn is_own(&self, found: &NodeFile) -> bool {
-        if *found == self.file {
-            return true;
+    /// Whether the text of a file `farm` is that of one that this process wrote: the last one, or a
+    /// later one whose writing failed.
+    #[tactic(auto, using(crate::proofs::FarmPut::own_last))]
+    fn examine_text(&self, text: &[u8]) -> Result<(), NotReopened>
+        ensures { OnOk result (WasPut text.now (S.calls self.now.running.store)) }
+    {
+        if is_text_of(self.alloc, &self.file, text)? {
+            return Ok(());
         }
-        match self.attempted {
-            Some(attempted) => *found == attempted,
-            None => false,
+        let Some(attempted) = self.attempted else {
+            return Err(NotReopened::OtherFarm);
+        };
+        if is_text_of(self.alloc, &attempted, text)? {
+            Ok(())
+        } else {
+            Err(NotReopened::OtherFarm)
         }
     }
 
@@ -138,6 +147,8 @@ impl<S: Store> HeldFolder<S> {
         ensures file { IfOk result IsNodeFile }
         ensures there { IfOk result (λ there. published_in there ≤
             published_in (latest_of self.old.file self.old.attempted)) }
+        ensures put { IfOk result (λ there.
+            WasPut (node_text there) (S.calls self.new.running.store)) }
         ensures last { self.new.file ≡ self.old.file }
         ensures attempted { self.new.attempted ≡ self.old.attempted }
         ensures starts { self.new.starts ≡ self.old.starts }
@@ -161,7 +172,7 @@ impl<S: Store> HeldFolder<S> {
 
     /// Writes another file `farm`, synced, with the folder: only into the folder that is locked.
     /// After an error either may be there.
-    #[tactic(auto, using(crate::proofs::Put::farm_put, crate::proofs::FarmPut::put_still, crate::proofs::FarmPut::put_later, crate::proofs::FarmPut::may_be_raised, crate::proofs::FarmPut::put_tried, crate::proofs::FarmPut::put_now))]
+    #[tactic(auto, using(crate::proofs::Put::farm_put, crate::proofs::FarmPut::put_still, crate::proofs::FarmPut::may_be_raised))]
     fn write(&mut self, next: &NodeFile) -> Result<(), FolderError>
         requires file { IsNodeFile next.now }
         requires no_less { published_in (latest_of self.old.file self.old.attempted) ≤
@@ -184,15 +195,23 @@ impl<S: Store> HeldFolder<S> {
         let Ok(text) = next.text(self.alloc) else {
             return Err(FolderError::Store(FolderFault::Memory));
         };
-        self.file = there;
-        self.attempted = Some(*next);
-        match self.running.replace(FileName::Farm, text) {
+        let HeldFolder {
+            running,
+            file,
+            attempted,
+            ..
+        } = self;
+        match running.replace(FileName::Farm, text) {
             Ok(()) => {
-                self.file = *next;
-                self.attempted = None;
+                *file = *next;
+                *attempted = None;
                 Ok(())
             }
-            Err(error) => Err(error),
+            Err(error) => {
+                *file = there;
+                *attempted = Some(*next);
+                Err(error)
+            }
         }
     }
 }
@@ -299,6 +318,17 @@ fn says(file: &NodeFile, reach: &Reach) -> bool
         return false;
     }
     is_no_lower(reach.promise, known.promise) && is_no_lower_vote(reach.vote, known.vote)
+}
+
+/// Whether that is the text of a file.
+fn is_text_of(alloc: Global, file: &NodeFile, text: &[u8]) -> Result<bool, NotReopened>
+    requires { IsNodeFile file.now }
+    ensures { IfOk result (λ is. is ≡ true → text.now ≡ node_text file.now) }
+{
+    match file.text(alloc) {
+        Ok(own) => Ok(own.as_slice() == text),
+        Err(_) => Err(NotReopened::Memory),
+    }
 }
 
 /// A file that counts so many starts.

@@ -2,6 +2,7 @@
 ghost use Rattle.std.specs.Prelude.{◌≡◌, ◌≤◌, ◌⊎◌, ◌∷◌, IfErr, IfOk, OnErr, OnOk, length};
 ghost use Rattle.wf_address.specs.Address.{words_of};
 ghost use Rattle.wf_folder.specs.NodeFile.{IsNodeFile, raised_known};
+ghost use Rattle.wf_folder.specs.Reach.{IsReachNoLess};
 ghost use Rattle.wf_line.specs.NodeLine.{IsNodeInRange};
 ghost use Rattle.wf_node.specs.Node.{stored_of};
 ghost use Rattle.wf_node_folder.specs.Fault.{IsFromSystem, IsWhyUnheard};
@@ -344,7 +345,8 @@ fn make_ready<S: Store>(
     ensures raised { IfOk result (λ ready.
         IsRaisedTo (stored_of process.actor.node) file.now ready.file) }
     ensures sound { IfOk result (λ ready. IsNodeFile ready.file) }
-    ensures left { OnErr result (IsNotCounted (S.calls store.old) (S.calls store.new)) }
+    ensures left { OnErr result
+        (IsNotCounted file.now (S.calls store.old) (S.calls store.new)) }
     ensures fault { IfErr result (IsWhyUnheard (S.calls store.new)) }
 {
     match count_start(alloc, store, file, known) {
@@ -377,8 +379,11 @@ fn count_start<S: Store>(
     ensures raised { IfOk result (λ counted. counted.1 ≡ record file.now {
       known = raised_known file.now.known known.now.reach known.now.digest;
     }) }
+    ensures no_less { IfOk result (λ counted.
+        IsReachNoLess file.now.known.reach counted.1.known.reach) }
     ensures sound { IfOk result (λ counted. IsNodeFile counted.1) }
-    ensures left { OnErr result (IsNotCounted (S.calls store.old) (S.calls store.new)) }
+    ensures left { OnErr result
+        (IsNotCounted file.now (S.calls store.old) (S.calls store.new)) }
     ensures fault { IfErr result (IsWhyUnheard (S.calls store.new)) }
 {
     let heard = match read_peer_progress(store) {

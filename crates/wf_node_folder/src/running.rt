@@ -1,7 +1,7 @@
 //! The folder of a node while it is served.
 ghost use Rattle.std.specs.Prelude.{◌≡◌, ◌∷◌, ◌⊎◌, ℕ, false, true, [], IfOk, IfSome, None, OnErr, OnOk, Some};
 ghost use Rattle.wf_folder.specs.NodeAdmission.{IsSoundFind};
-ghost use Rattle.wf_node_folder.specs.FarmPut.{IsPublishedPut, farm_in};
+ghost use Rattle.wf_node_folder.specs.FarmPut.{IsOwnFarm, IsPublishedPut, NothingPut, farm_in, farms_put};
 ghost use Rattle.wf_node_folder.specs.Folder.{StaysFrom, calls_in, heard_in, is_own};
 ghost use Rattle.wf_node_folder.specs.Joined.{IsFarmSaid, MayBePutAt, SaysJoining, SaysPublished};
 ghost use Rattle.wf_rejoin.specs.JoiningText.{IsJoins, joins_text};
@@ -59,7 +59,7 @@ impl<S: Store> RunningStore<S> {
         ensures own { OnOk result (is_own (S.calls self.new.store) ≡ true) }
         ensures texts { TextsStay (S.calls self.old.store) (S.calls self.new.store) }
         ensures heard { heard_in (S.calls self.new.store) ≡ heard_in (S.calls self.old.store) }
-        ensures farm { farm_in (S.calls self.new.store) ≡ farm_in (S.calls self.old.store) }
+        ensures farm { NothingPut (S.calls self.old.store) (S.calls self.new.store) }
     {
         match self.store.is_same() {
             Ok(true) => Ok(()),
@@ -74,24 +74,29 @@ impl<S: Store> RunningStore<S> {
         ensures began { self.new.began.items ≡ self.old.began.items }
         ensures own { is_own (S.calls self.new.store) ≡ is_own (S.calls self.old.store) }
         ensures heard { heard_in (S.calls self.new.store) ≡ heard_in (S.calls self.old.store) }
-        ensures farm { farm_in (S.calls self.new.store) ≡ farm_in (S.calls self.old.store) }
+        ensures farm { NothingPut (S.calls self.old.store) (S.calls self.new.store) }
         ensures sound { IfOk result IsSoundFind }
         ensures says { IfOk result (λ found. IsFarmSaid found (S.calls self.new.store)) }
     {
         find_in(&mut self.store)
     }
 
-    /// The bytes of the file `joins`. None: there is no such file.
-    #[tactic(auto, using(crate::proofs::Stays::own_read, crate::proofs::Stays::heard_reading, crate::proofs::FarmPut::farm_reading))]
-    fn read_joins(&mut self) -> Result<Option<Vec<u8>>, FolderFault>
+    /// The first bytes of a file, so many at most. None: there is no such file.
+    #[tactic(auto, using(crate::proofs::Stays::own_reading, crate::proofs::Stays::heard_reading, crate::proofs::FarmPut::farm_reading))]
+    pub(crate) fn read(
+        &mut self,
+        file: FileName,
+        most: usize,
+    ) -> Result<Option<Vec<u8>>, FolderFault>
+        requires { is_heard file ≡ false }
         ensures began { self.new.began.items ≡ self.old.began.items }
         ensures own { is_own (S.calls self.new.store) ≡ is_own (S.calls self.old.store) }
         ensures heard { heard_in (S.calls self.new.store) ≡ heard_in (S.calls self.old.store) }
-        ensures farm { farm_in (S.calls self.new.store) ≡ farm_in (S.calls self.old.store) }
+        ensures farm { NothingPut (S.calls self.old.store) (S.calls self.new.store) }
         ensures read { IfOk result (λ found.
-            S.calls self.new.store ≡ read names.Joins (bytes_of found) ∷ S.calls self.old.store) }
+            S.calls self.new.store ≡ read file (bytes_of found) ∷ S.calls self.old.store) }
     {
-        self.store.read(FileName::Joins, MOST_BYTES)
+        self.store.read(file, most)
     }
 
     /// What the file `joins` says of a folder that joins. None: it doesn't join.
@@ -100,7 +105,7 @@ impl<S: Store> RunningStore<S> {
         ensures began { self.new.began.items ≡ self.old.began.items }
         ensures own { is_own (S.calls self.new.store) ≡ is_own (S.calls self.old.store) }
         ensures heard { heard_in (S.calls self.new.store) ≡ heard_in (S.calls self.old.store) }
-        ensures farm { farm_in (S.calls self.new.store) ≡ farm_in (S.calls self.old.store) }
+        ensures farm { NothingPut (S.calls self.old.store) (S.calls self.new.store) }
         ensures published { OnOk result ((published : ℕ) →
             SaysPublished published (S.calls self.old.store) →
             SaysPublished published (S.calls self.new.store)) }
@@ -109,7 +114,7 @@ impl<S: Store> RunningStore<S> {
         ensures none { IfOk result (λ found. found ≡ None →
             JoinsNoMore (S.calls self.new.store)) }
     {
-        match self.read_joins() {
+        match self.read(FileName::Joins, MOST_BYTES) {
             Ok(Some(bytes)) => joining_in(&bytes),
             Ok(None) => Ok(None),
             Err(fault) => Err(FolderError::Store(fault)),
@@ -125,7 +130,7 @@ impl<S: Store> RunningStore<S> {
         ensures began { self.new.began.items ≡ self.old.began.items }
         ensures told { OnOk result (IsTold step.now (S.calls self.new.store)) }
         ensures heard { heard_in (S.calls self.new.store) ≡ heard_in (S.calls self.old.store) }
-        ensures farm { farm_in (S.calls self.new.store) ≡ farm_in (S.calls self.old.store) }
+        ensures farm { NothingPut (S.calls self.old.store) (S.calls self.new.store) }
     {
         let joining = match self.find_joining() {
             Ok(Some(joining)) => joining,
@@ -157,7 +162,7 @@ impl<S: Store> RunningStore<S> {
         ensures began { self.new.began.items ≡ self.old.began.items }
         ensures joined { OnOk result (JoinsNoMore (S.calls self.new.store)) }
         ensures heard { heard_in (S.calls self.new.store) ≡ heard_in (S.calls self.old.store) }
-        ensures farm { farm_in (S.calls self.new.store) ≡ farm_in (S.calls self.old.store) }
+        ensures farm { NothingPut (S.calls self.old.store) (S.calls self.new.store) }
     {
         let joining = match self.find_joining() {
             Ok(Some(joining)) => joining,
@@ -171,12 +176,14 @@ impl<S: Store> RunningStore<S> {
     }
 
     /// Whether there is a tape of a node.
-    #[tactic(auto, using(crate::proofs::Stays::own_seen, crate::proofs::Stays::heard_seeing, crate::proofs::FarmPut::farm_seeing))]
+    #[tactic(auto, using(crate::proofs::Stays::own_seen, crate::proofs::Stays::heard_seeing, crate::proofs::FarmPut::farm_seeing, crate::proofs::FarmPut::own_seeing))]
     fn has_tape(&mut self, node: u8) -> Result<bool, FolderFault>
         ensures began { self.new.began.items ≡ self.old.began.items }
         ensures own { is_own (S.calls self.new.store) ≡ is_own (S.calls self.old.store) }
         ensures heard { heard_in (S.calls self.new.store) ≡ heard_in (S.calls self.old.store) }
-        ensures farm { farm_in (S.calls self.new.store) ≡ farm_in (S.calls self.old.store) }
+        ensures farm { NothingPut (S.calls self.old.store) (S.calls self.new.store) }
+        ensures own_farm { OnOk result
+            (IsOwnFarm (S.calls self.old.store) → IsOwnFarm (S.calls self.new.store)) }
     {
         match self.store.presence(FileName::NodeTape(node)) {
             Ok(presence) => Ok(presence.is_there()),
@@ -184,13 +191,15 @@ impl<S: Store> RunningStore<S> {
         }
     }
 
-    /// Opens the tape of a node, which has to be there, in the folder that is locked.
+    /// Opens the tape of a node, which has to be there, in the folder that is locked, whose file
+    /// `farm` was read, and is one that the process wrote.
     #[tactic(auto, using(crate::proofs::Stays::stays_opening, crate::proofs::Stays::heard_opening, crate::proofs::FarmPut::farm_opening))]
     pub(crate) fn open_tape(&mut self, node: u8) -> Result<S::Tape, NotReopened>
-        requires { is_own (S.calls self.old.store) ≡ true }
+        requires own { is_own (S.calls self.old.store) ≡ true }
+        requires farm { IsOwnFarm (S.calls self.old.store) }
         ensures began { self.new.began.items ≡ self.old.began.items }
         ensures heard { heard_in (S.calls self.new.store) ≡ heard_in (S.calls self.old.store) }
-        ensures farm { farm_in (S.calls self.new.store) ≡ farm_in (S.calls self.old.store) }
+        ensures farm { NothingPut (S.calls self.old.store) (S.calls self.new.store) }
     {
         match self.has_tape(node) {
             Ok(true) => {}
@@ -206,7 +215,7 @@ impl<S: Store> RunningStore<S> {
     /// Puts a text in the place of a file that is no tape, in the folder that is locked. Meanwhile
     /// another folder may have come to the path, which is an error. After an error the text from
     /// before or this one is there.
-    #[tactic(auto, using(crate::proofs::Stays::stays_replacing, crate::proofs::Stays::was_put, crate::proofs::Stays::was_put_or_not, crate::proofs::Stays::was_not_put, crate::proofs::Stays::heard_beside, crate::proofs::Stays::heard_beside_not, crate::proofs::FarmPut::farm_now, crate::proofs::FarmPut::farm_beside, crate::proofs::FarmPut::farm_or_not, crate::proofs::FarmPut::farm_beside_not, crate::proofs::FarmPut::farm_not))]
+    #[tactic(auto, using(crate::proofs::Stays::stays_replacing, crate::proofs::Stays::was_put, crate::proofs::Stays::was_put_or_not, crate::proofs::Stays::was_not_put, crate::proofs::Stays::heard_beside, crate::proofs::Stays::heard_beside_not, crate::proofs::FarmPut::farm_now, crate::proofs::FarmPut::farm_beside, crate::proofs::FarmPut::farm_or_not, crate::proofs::FarmPut::farm_beside_not, crate::proofs::FarmPut::farm_not, crate::proofs::FarmPut::farm_tried, crate::proofs::FarmPut::farm_tried_not))]
     pub(crate) fn replace(&mut self, file: FileName, text: Vec<u8>) -> Result<(), FolderError>
         requires file { is_tape file ≡ false }
         requires own { is_own (S.calls self.old.store) ≡ true }
@@ -219,11 +228,13 @@ impl<S: Store> RunningStore<S> {
         ensures heard { is_heard file ≡ false →
             heard_in (S.calls self.new.store) ≡ heard_in (S.calls self.old.store) }
         ensures farm { is_farm file ≡ false →
-            farm_in (S.calls self.new.store) ≡ farm_in (S.calls self.old.store) }
+            NothingPut (S.calls self.old.store) (S.calls self.new.store) }
         ensures now { OnOk result
             (is_farm file ≡ true → farm_in (S.calls self.new.store) ≡ Some text.items) }
         ensures either { (farm_in (S.calls self.new.store) ≡ farm_in (S.calls self.old.store))
             ⊎ (farm_in (S.calls self.new.store) ≡ Some text.items) }
+        ensures tried { is_farm file ≡ true →
+            farms_put (S.calls self.new.store) ≡ text.items ∷ farms_put (S.calls self.old.store) }
     {
         if let Err(fault) = self.store.replace(file, text) {
             return Err(FolderError::Store(fault));

@@ -1,6 +1,6 @@
 //! Theorems about folders. Each call does nothing.
 ghost use Rattle.wf_node_folder.specs.Damage.{AreBadNowhere};
-ghost use Rattle.wf_node_folder.specs.PowerCut.{ClearsAreSound, CutsAreReadBack, CutsKeepFarm, FilesAreWhole, InitsAreSound, InitsAreWhole, NodesAreSound, StartsAgain, StartsAreSound, StopsAreSound};
+ghost use Rattle.wf_node_folder.specs.PowerCut.{ClearsAreSound, CutsAreReadBack, CutsKeepFarm, FilesAreWhole, InitsAreSound, InitsAreWhole, NodesAreSound, StartsAgain, StartsAreSound, StartsKeepFarm, StopsAreSound};
 
 use wf_canon::one_text_one_map;
 use wf_tape::Tape;
@@ -38,9 +38,11 @@ pub fn made_folders_are_whole()
 {}
 
 /// Whatever a power cut leaves of the file `farm` of a node that is served says no less than what
-/// was put there last, by its start or since. A theorem.
+/// was put there last, by its start or since. So does what is left after each call of a start that
+/// follows, if that reads what is there, whether or not it comes to serve. A theorem.
 pub fn farm_files_are_kept()
-    ensures { CutsKeepFarm }
+    ensures nodes { CutsKeepFarm }
+    ensures starts { StartsKeepFarm }
 {}
 
 /// Whatever a power cut leaves of the tape of a node that was started, if the tape is durable,
