@@ -1,11 +1,11 @@
 #!/usr/bin/env python3
 """Plays farms of real nodes on a simulated network, disks and clock, with seeds that the table of CI hasn't.
 
-The program of `crates/wf_test_simulation` plays them, as many as fit into the minutes, each with a plan
+The program of `crates/wf_test_commands` plays them, as many as fit into the minutes, each with a plan
 that is drawn from its seed: how many nodes and replicas, for how long, and which faults how often. The first
 play that violates what a farm promises ends it: its case is printed, and a smaller one, of which seconds,
-replicas and faults were left out as long as it still violates. `--renew` plays the table of CI in place of
-that, and puts what was counted there into it, unless a play violates.
+replicas and faults were left out as long as it still violates. `--renew` plays the farms of CI's table in
+place of that, and puts what was counted there into it, unless a play violates.
 """
 
 import bisect
@@ -22,7 +22,8 @@ from dataclasses import dataclass, field, replace
 from farmkit.command import add_program, parser
 from farmkit.repository import TOP, built
 
-TABLE = TOP / "crates" / "wf_test_simulation" / "stdin"
+TABLE = TOP / "crates" / "wf_test_commands" / "stdin"
+HEADING = "# ---- farms that are simulated\n"
 WEIGHTS = ("alone", "one-way", "kills", "cuts", "disks", "jumps", "slow-syncs", "stops", "full-disks",
            "strangers", "cut-calls")
 # (no older tape: after faults it may be what the node has stored, and then nothing is wrong)
@@ -132,24 +133,24 @@ def search(program: str, first: int, minutes: float) -> int:
 
 
 def renew(program: str) -> int:
-    """Plays the table, and writes what was counted into it."""
-    table = TABLE.read_text()
-    ran = subprocess.run([program], input=table, capture_output=True, text=True)
-    lines = table.splitlines()
+    """Plays the table's farms, and writes what was counted into it."""
+    others, heading, plays = TABLE.read_text().partition(HEADING)
+    ran = subprocess.run([program], input=plays, capture_output=True, text=True)
+    lines = plays.splitlines()
     for number, answer in given_in(ran.stdout).items():
         said, _, _ = lines[number - 1].partition(" => ")
         if "\\n" in answer:
             print(f"line {number} violates: {answer}", file=sys.stderr)
             return 1
         lines[number - 1] = f"{said} => {answer}"
-    TABLE.write_text("\n".join(lines) + "\n")
+    TABLE.write_text(others + heading + "\n".join(lines) + "\n")
     print(f"{ran.stdout.splitlines()[-1]}, {most_memory()}" if ran.stdout else f"status {ran.returncode}")
     return 0
 
 
 def main() -> int:
     options = parser(__doc__)
-    add_program(options, built("wf_test_simulation"))
+    add_program(options, built("wf_test_commands"))
     options.add_argument("--minutes", type=float, default=1, help="for how long (1)")
     options.add_argument("--seed", type=int, default=FIRST_SEED, help=f"the first one ({FIRST_SEED})")
     options.add_argument("--renew", action="store_true", help="play the table of CI, and renew its numbers")

@@ -5,13 +5,14 @@ use std::net::{Net, TcpListener, TcpStream};
 use std::rt::Files;
 use wf_farm::Copies;
 use wf_link::Connection;
+use wf_test_simulation::{ask_play, ask_plays};
 use wf_test_table::{Answered, CaseInput, Questions, Transcript, Unanswered};
 
 /// All questions of this program. It opens files of this machine, and connections of it to itself.
 #[derive(Drop)]
 pub(crate) struct CommandQuestions<'r, R>(pub(crate) &'r R);
 
-impl<'r, R: Files<File = File> + Net<Listener = TcpListener, Stream = TcpStream>> Questions
+impl<'r, R: Files<File = File> + Net<Listener = TcpListener, Stream = TcpStream> + Eprint> Questions
     for CommandQuestions<'r, R> {
     fn answer(&self, mut asked: CaseInput<'_>, answer: &mut Transcript) -> Answered {
         match asked.words.word() {
@@ -26,6 +27,8 @@ impl<'r, R: Files<File = File> + Net<Listener = TcpListener, Stream = TcpStream>
             "line" => lines::line_of(asked, answer),
             "process_line" => process_lines::process_line(asked, answer),
             "program" => process::program_of(self.0, asked, answer),
+            "play" => ask_play(self.0, asked, answer),
+            "plays" => ask_plays(self.0, asked, answer),
             "run" => lines::run(asked, &mut Connection::new(self.0), answer),
             "script" => played::script(asked, &mut Copies, answer),
             "script_cut" => played::script_cut(asked, answer),

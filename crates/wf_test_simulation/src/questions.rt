@@ -3,42 +3,38 @@
 use crate::play::run_play;
 use std::alloc::{AllocError, Global};
 use wf_test_scene::{NO_BYTES, Plan, Tally, digest_of};
-use wf_test_table::{Answered, CaseInput, CaseWords, Questions, Transcript, Unanswered};
+use wf_test_table::{Answered, CaseInput, CaseWords, Transcript, Unanswered};
 
-/// The questions: a play of a seed, or plays of many, whose logs are printed on the standard error
-/// of a runtime.
-#[derive(Drop)]
-pub(crate) struct Plays<'a, R> {
-    rt: &'a R,
+/// Appends what happened in the play of a seed, which is the case's input: its log, if it is to be
+/// printed, goes to the standard error of a runtime.
+pub fn ask_play<R: Eprint>(rt: &R, asked: CaseInput<'_>, answer: &mut Transcript) -> Answered {
+    let mut asked = asked;
+    let plan = Plan::parse(&mut asked.words)?;
+    play_one(rt, asked.alloc, plan.of_seed(seed_of(asked.input)?), answer)?;
+    Ok(())
 }
 
-impl<'a, R> Plays<'a, R> {
-    /// The questions.
-    pub(crate) fn new(rt: &'a R) -> Self {
-        Plays { rt }
-    }
+/// The same of many plays, from the seed on which is the case's input.
+pub fn ask_plays<R: Eprint>(rt: &R, asked: CaseInput<'_>, answer: &mut Transcript) -> Answered {
+    let mut asked = asked;
+    let count = u64::from(asked.words.number()?);
+    let words = asked.words.rest();
+    let plan = Plan::parse(&mut asked.words)?;
+    play_many(
+        rt,
+        asked.alloc,
+        &plan,
+        words,
+        seed_of(asked.input)?,
+        count,
+        answer,
+    )?;
+    Ok(())
 }
 
-impl<'a, R: Eprint> Questions for Plays<'a, R> {
-    fn answer(&self, asked: CaseInput<'_>, answer: &mut Transcript) -> Answered {
-        let mut asked = asked;
-        let question = asked.words.word();
-        let seed = u64::from(CaseWords::of(asked.input)?.number()?);
-        match question {
-            "play" => {
-                let plan = Plan::parse(&mut asked.words)?;
-                play_one(self.rt, asked.alloc, plan.of_seed(seed), answer)?;
-            }
-            "plays" => {
-                let count = u64::from(asked.words.number()?);
-                let words = asked.words.rest();
-                let plan = Plan::parse(&mut asked.words)?;
-                play_many(self.rt, asked.alloc, &plan, words, seed, count, answer)?;
-            }
-            _ => return Err(Unanswered::UnknownQuestion),
-        }
-        Ok(())
-    }
+/// The seed that the input of a case is.
+fn seed_of(input: &[u8]) -> Result<u64, Unanswered> {
+    Ok(u64::from(CaseWords::of(input)?.number()?))
 }
 
 /// Plays a seed: a line for each violation, and then one with what happened.

@@ -1,14 +1,14 @@
 //! Farms of real nodes in one process, on a network, disks and a clock that are simulated, driven
 //! by a seed.
 //!
-//! Standard input is a table of cases (`wf_test_table` defines its format). A case is a play, or
-//! many whose counts are added up: nodes as `wfarm node` starts and steps them
-//! ([`wf_node_command::RunningNode`], [`member`]) and replicas as `wfarm replica` does
-//! ([`wf_replica_command::RunningReplica`], [`replica`]), each on a host of its own, with clients
-//! and faults around them (`wf_test_scene`). All the while clients publish at each node, ask for
-//! capabilities and pictures, look at the operator's port, and read the history, and faults happen
-//! that are drawn from the seed; a client may stop within its request, or take no byte of the
-//! response, and a sync may take time. After each step is checked what a farm promises:
+//! The questions of a table of cases (`wf_test_table`) about a play ([`ask_play`]), or about many
+//! whose counts are added up ([`ask_plays`]); `wf_test_commands` has the table. Nodes are started
+//! and stepped as `wfarm node` does ([`wf_node_command::RunningNode`], `member`) and replicas as
+//! `wfarm replica` does ([`wf_replica_command::RunningReplica`], `replica`), each on a host of its
+//! own, with clients and faults around them (`wf_test_scene`). All the while clients publish at
+//! each node, ask for capabilities and pictures, look at the operator's port, and read the history,
+//! and faults happen that are drawn from the seed; a client may stop within its request, or take no
+//! byte of the response, and a sync may take time. After each step is checked what a farm promises:
 //!
 //! - Two answers to one request about a sequence are equal, and so are two maps.
 //! - No list of maps goes back, and each published map is one that a client sent. A replica has
@@ -26,8 +26,7 @@
 //! The answer has what was violated, how much happened, and a digest of all answers, which is one
 //! on every machine.
 //!
-//! The program is proved to be safe and to return, and nothing more: what the cases show is in the
-//! table.
+//! It is proved to be safe and to return, and nothing more: what the cases show is in the table.
 #![tactic(auto)]
 
 mod member;
@@ -35,10 +34,4 @@ mod play;
 mod questions;
 mod replica;
 
-use questions::Plays;
-use std::process::ExitCode;
-use wf_test_table::run_program;
-
-fn main(rt: HostRuntime) -> ExitCode {
-    run_program(&rt, &Plays::new(&rt))
-}
+pub use questions::{ask_play, ask_plays};
