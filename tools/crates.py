@@ -119,12 +119,9 @@ def picture() -> str:
 
 def words_of(crate: str) -> set[str]:
     """The words of a crate's sources, definitions and proofs, comments aside."""
-    found = set[str]()
-    for part, comment in (("src", "//"), ("specs", "--"), ("proofs", "--")):
-        for file in (TOP / "crates" / crate / part).rglob("*.*t"):
-            text = file.read_text(encoding="utf-8")
-            found.update(re.findall(r"\w+", re.sub(rf"{comment}[^\n]*", "", text)))
-    return found
+    return {word for part, comment in (("src", "//"), ("specs", "--"), ("proofs", "--"))
+            for file in (TOP / "crates" / crate / part).rglob("*.*t")
+            for word in re.findall(r"\w+", re.sub(rf"{comment}[^\n]*", "", file.read_text(encoding="utf-8")))}
 
 
 def unnamed() -> Iterator[tuple[str, str, list[str]]]:

@@ -140,7 +140,7 @@ class Symbology:
         """Red, green and blue, or None where nothing is drawn. That OPACITY is left out, which alters colours, is told by itself."""
         color, item = getattr(thing, word.lower()), self.item(thing, word)
         if item:
-            found, is_opaque = color_of(values[item], self.layer.name, item), len(values[item].strip()) != 9
+            found, is_opaque = color_of(values[item], self.layer.name, item), not re.fullmatch("#.{8}", values[item].strip())
         elif is_color(color):
             found, is_opaque = (color.red, color.green, color.blue), color.alpha == 255 or block.keyword("OPACITY") is not None
         else:

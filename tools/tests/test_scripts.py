@@ -2,12 +2,11 @@
 
 import contextlib
 import hashlib
-import importlib.machinery
-import importlib.util
 import io
 import os
 import pathlib
 import re
+import runpy
 import subprocess
 import sys
 import types
@@ -120,19 +119,11 @@ class Definitions(unittest.TestCase):
         self.assertEqual(len(found), len(set(found)))
 
 
-def wfarmctl() -> types.ModuleType:
-    """The tool that is shipped alone, as a module."""
-    loader = importlib.machinery.SourceFileLoader("wfarmctl", str(TOP / "tools" / "wfarmctl"))
-    spec = importlib.util.spec_from_loader("wfarmctl", loader)
-    assert spec is not None
-    module = importlib.util.module_from_spec(spec)
-    sys.modules["wfarmctl"] = module
-    loader.exec_module(module)
-    return module
-
-
 class Wfarmctl(unittest.TestCase):
-    """It may not import farmkit: what both have is the same."""
+    """It is shipped alone, and may not import farmkit: what both have is the same."""
+
+    def setUp(self) -> None:
+        self.tool = types.SimpleNamespace(**runpy.run_path(str(TOP / "tools" / "wfarmctl")))
 
     def test_it_stands_alone(self) -> None:
         self.assertNotIn("farmkit", (TOP / "tools" / "wfarmctl").read_text(encoding="utf-8"))
@@ -146,7 +137,7 @@ class Wfarmctl(unittest.TestCase):
     def test_the_count_of_a_replacement(self) -> None:
         def count(own: int, *known: tuple[int, str]) -> int:
             joiner = types.SimpleNamespace(node=types.SimpleNamespace(number=1), count=own, mark="ours")
-            return wfarmctl().next_count(joiner, [types.SimpleNamespace(known={1: each}) for each in known])
+            return self.tool.next_count(joiner, [types.SimpleNamespace(known={1: each}) for each in known])
 
         self.assertEqual([count(0), count(0, (4, "other")), count(1), count(2, (1, "other"), (2, "ours"))],
                          [1, 5, 1, 2])
@@ -155,18 +146,17 @@ class Wfarmctl(unittest.TestCase):
 
     def test_the_digest_of_a_history(self) -> None:
         texts = [b"one", b"two", b"three"]
-        digests = wfarmctl().digests_of(texts)
+        digests = self.tool.digests_of(texts)
         self.assertEqual([bytes.fromhex(it) if isinstance(it, str) else it for it in digests],
                          [tapes.digest_of(texts[:count + 1]) for count in range(3)])
         self.assertEqual(tapes.digest_of(texts[:1]), hashlib.sha256(bytes(32) + b"one").digest())
 
     def test_the_line_of_status(self) -> None:
-        module = wfarmctl()
         for line in ("node 2 published 41 proposal running\n", "node 0 published 0 proposal none\n",
                      "node 1 published 4096 proposal published 4096\n", "replica published 7\n"):
             found = PUBLISHED.fullmatch(line.encode())
             assert found is not None
-            theirs = module.REPLICA.fullmatch(line) or module.STATUS.fullmatch(line)
+            theirs = self.tool.REPLICA.fullmatch(line) or self.tool.STATUS.fullmatch(line)
             self.assertIn(found[1].decode(), theirs.groups()[:2])
 
 
