@@ -15,7 +15,7 @@ Cases, all of them where none is named:
     memory    the heap's peak, counted by valgrind, of `wfarm draw` of 1,024 by 1,024 pixels with 2,000 labels
 
 Of each but `memory` the cost of the least input is taken off. From `tape` on, but for `start` and `memory`,
-the built program of the farm's cases (wf_test_farm) is asked; what the same tape takes with a bad first byte,
+the built program of cases (wf_test_map) is asked; what the same tape takes with a bad first byte,
 or the votes alone, is taken off.
 """
 
@@ -34,7 +34,7 @@ from farmkit.repository import TOP, built
 from farmkit.tapes import ACCEPTED, PROMISED, PUBLISHED, record, tape_of
 
 RUNS = 7
-TABLE = TOP / "crates" / "wf_test_farm" / "stdin"
+TABLE = TOP / "crates" / "wf_test_map" / "stdin"
 ENDING, UNEXPECTED = b"1 cases, 0 differ, 0 faults", b"1 cases, 1 differ, 0 faults"
 LONGEST = 131_072
 HEAD = b'MAP NAME "bench" EXTENT 0 0 4 4 PROJECTION "init=epsg:4326" END LAYER NAME p TYPE LINE\n'
@@ -55,7 +55,7 @@ STYLE = "STYLE COLOR 200 220 180 OUTLINECOLOR 90 120 60 WIDTH 2 END"
 
 
 def blocks(pattern):
-    """The blocks of the table of the farm's cases in which a line is as this pattern says."""
+    """The blocks of the table of cases in which a line is as this pattern says."""
     every = TABLE.read_text(encoding="utf-8").split("\n\n")
     return [it for it in every if re.search(f"(?m)^({pattern})$", it)]
 
@@ -247,7 +247,7 @@ def measure(name, options):
 def main():
     words = parser(__doc__, GROWTH)
     add_program(words)
-    add_program(words, built("wf_test_farm"), "--cases-program")
+    add_program(words, built("wf_test_map"), "--cases-program")
     add_cases(words, CASES)
     options = words.parse_args()
     return 0 if all([measure(name, options) for name in options.cases or CASES]) else 1

@@ -45,7 +45,7 @@ from concurrent.futures import ThreadPoolExecutor
 from farmkit.command import parser as parser_of
 from farmkit.repository import TOP
 
-CRATES = ["wf_test_map", "wf_test_farm", "wf_test_paint", "wf_test_failures"]
+CRATES = ["wf_test_map", "wf_test_failures"]
 # tests that make each call once, and so fail where an allocation does
 ONCE = ("tape::", "disk::", "connections::a_broken_connection_is_not_used_again",
         "connections::messages_cross_before_and_after_one_that_is_cut_off",

@@ -1,8 +1,7 @@
 -- Lists that are cut at a bound, and members of lists.
-use Rattle.std.proofs.Common.{◌≡◌, ◌⊎◌, ℕ, zero, suc, ◌+◌, ◌<◌, ◌≤◌, List, [], ◌∷◌, ◌++◌, length, take, map, slice_get, Some, Result, Ok, Err, refl, sym, ap, subst, ◌∙◌, inl, inr, append-nil, append_assoc, arith, get_or, length-append}
+use Rattle.std.proofs.Common.{◌≡◌, ◌⊎◌, ℕ, zero, suc, ◌+◌, ◌<◌, ◌≤◌, List, [], ◌∷◌, ◌++◌, length, take, map, Result, Ok, Err, refl, sym, ap, subst, ◌∙◌, inl, inr, append_assoc, arith, get_or, length-append}
 use Rattle.std.specs.Prelude.{is_ok, OnErr, if◌then◌else◌}
 use Rattle.std.proofs.lemmas.List.{map-append, take_more}
-use Rattle.std.proofs.lemmas.Option.{none-some, same_Some}
 use Rattle.wf_model.specs.Chosen.{IsIn}
 
 -- ---- lists that are cut
@@ -59,25 +58,6 @@ in_along {A} x xs ys e is = subst (λ (l : List A). IsIn x l) e is
 
 -- ---- elements at an index
 
-pub there_too : {A : Type 0} (xs ys : List A) (i : ℕ) (y : A) → length xs ≡ length ys → slice_get ys i ≡ Some y → (x : A) × (slice_get xs i ≡ Some x)
-there_too [] [] i y e at = absurd (none-some y at)
-there_too [] (z ∷ ys) i y e at = absurd (omega (arith, e))
-there_too (x ∷ xs) [] i y e at = absurd (omega (arith, e))
-there_too (x ∷ xs) (z ∷ ys) zero y e at = (x, refl)
-there_too (x ∷ xs) (z ∷ ys) (suc i) y e at = there_too xs ys i y (omega (arith, e)) at
-
-pub there_below : {A : Type 0} (xs : List A) (i : ℕ) → i < length xs → (x : A) × (slice_get xs i ≡ Some x)
-there_below [] i below = absurd (omega (arith, below))
-there_below (x ∷ xs) zero below = (x, refl)
-there_below (x ∷ xs) (suc i) below = there_below xs i (omega (arith, below))
-
--- the last of these is at the end, or it is one of the others
-pub there_before : {A : Type 0} (xs : List A) (x y : A) (i : ℕ) → slice_get (xs ++ x ∷ []) i ≡ Some y → (slice_get xs i ≡ Some y) ⊎ (y ≡ x)
-there_before [] x y zero at = inr (sym (same_Some x y at))
-there_before [] x y (suc i) at = absurd (none-some y at)
-there_before (z ∷ xs) x y zero at = inl at
-there_before (z ∷ xs) x y (suc i) at = there_before xs x y i at
-
 -- one more element of a list, as it is seen
 pub one_more_seen : {A B : Type 0} (f : A → B) (xs : List A) (i : ℕ) (x : A) → i < length xs → x ≡ get_or xs i x → map f (take (i + 1) xs) ≡ map f (take i xs) ++ f x ∷ []
 one_more_seen {A} f xs i x lt e = ap (map f) (take_more xs i x lt ∙ ap (λ (y : A). take i xs ++ y ∷ []) (sym e)) ∙ map-append f (take i xs) (x ∷ [])
@@ -90,6 +70,3 @@ cut_more {A} n old now new taken x was is =
 -- the parts of a list, after one more of it
 pub parts_more : {A : Type 0} (all taken left rest : List A) (x : A) → taken ++ left ≡ all → left ≡ x ∷ rest → (taken ++ x ∷ []) ++ rest ≡ all
 parts_more {A} all taken left rest x parts next = append_assoc taken (x ∷ []) rest ∙ ap (λ (l : List A). taken ++ l) (sym next) ∙ parts
-
-pub parts_all : {A : Type 0} (all taken left : List A) → taken ++ left ≡ all → left ≡ [] → taken ≡ all
-parts_all {A} all taken left parts none = sym (append-nil taken) ∙ ap (λ (l : List A). taken ++ l) (sym none) ∙ parts

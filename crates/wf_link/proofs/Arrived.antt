@@ -90,11 +90,6 @@ empty_list (x ∷ xs) short = absurd (omega (arith, short))
 keeps_nothing : (rest : List ℕ) (state : InboxState) → state ≡ Open rest → pending_bytes state ≡ 0 → rest ≡ []
 keeps_nothing rest state is none = empty_list rest (sym (ap pending_bytes is) ∙ none)
 
-pub one_came_out : (bytes : List ℕ) (arrival : Arrival) (message : code.Message) → pending_bytes arrival.inbox ≡ 0 → arrival.messages.items ≡ message ∷ [] → HasArrived bytes arrival → Reads bytes (view message ∷ []) []
-one_came_out bytes arrival message none is had =
-    let first : Reads bytes (map view (message ∷ [])) had.rest = subst (λ (ms : List code.Message). Reads bytes (map view ms) had.rest) is had.reads in
-    subst (λ (rest : List ℕ). Reads bytes (view message ∷ []) rest) (keeps_nothing had.rest arrival.inbox had.keeps none) first
-
 pub none_came_out : (bytes : List ℕ) (arrival : Arrival) → length arrival.messages.items ≡ 0 → HasArrived bytes arrival → (rest : List ℕ) × Reads bytes [] rest
 none_came_out bytes arrival none had =
     (had.rest, subst (λ (ms : List code.Message). Reads bytes (map view ms) had.rest) (empty_list arrival.messages.items none) had.reads)

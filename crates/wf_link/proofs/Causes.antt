@@ -1,13 +1,12 @@
 -- The cause of a loss, piece by piece.
-use Rattle.std.proofs.Common.{◌≡◌, ◌<◌, ◌≤◌, ◌∙◌, ◌+◌, ◌⊎◌, ℕ, List, [], ◌∷◌, ◌++◌, length, refl, sym, ap, subst, inl, inr, arith}
+use Rattle.std.proofs.Common.{◌≡◌, ◌<◌, ◌≤◌, ◌∙◌, ◌+◌, ◌⊎◌, ℕ, List, [], ◌∷◌, ◌++◌, length, sym, ap, subst, inl, inr, arith}
 use Rattle.std.specs.Prelude.{Option, Result, Ok, Err, IfErr, OnErr}
 use Rattle.std.proofs.lemmas.List.{append_assoc, length-append, length-map}
-use Rattle.std.specs.Io.KnownBytes.{IsAtEnd}
 use Rattle.wf_codec.specs.Message.{view}
 use Rattle.wf_farm.specs.declared.carrier.CarrierFault.{CarrierFault}
 use Rattle.wf_farm.specs.declared.carrier.CarrierFault.TheVariants as faults
 use Rattle.wf_stream.specs.KnownTheorems.{consumes_more}
-use Rattle.wf_stream.specs.Effects.{ReadsPiece, Rises}
+use Rattle.wf_stream.specs.Effects.{Rises}
 use Rattle.wf_mail.specs.Inbox.{InboxState, IsBroken, pending_bytes}
 use Rattle.wf_mail.proofs.Split.{joined_breaks, split_one_way}
 use Rattle.wf_mail.specs.Stream.{Breaks}
@@ -17,10 +16,6 @@ use Rattle.wf_link.specs.Cause.{BeginsNoMessage, IsCutOff, ComesOtherwise, EndsE
 use Rattle.wf_link.specs.declared.receiver.Arrival.{Arrival}
 
 -- ---- outcomes
-
-pub fails_either : {A B : Type 0} (fault : CarrierFault) → (fault ≡ faults.Memory → A) → (fault ≡ faults.Lost → B) → FailsFor fault A B
-fails_either faults.Memory calm cause = calm refl
-fails_either faults.Lost calm cause = cause refl
 
 pub fails_weaker : {A B C D : Type 0} (fault : CarrierFault) → (A → C) → (B → D) → FailsFor fault A B → FailsFor fault C D
 fails_weaker faults.Memory calm cause is = calm is
@@ -61,17 +56,6 @@ unfolding BreaksArrival
 broken_piece piece before fault after is = λ earlier had.
     let breaks = subst (λ (s : InboxState). IsBroken s piece fault after) had.keeps is in
     (fault, joined_breaks [] earlier piece (came_out before) had.rest fault had.reads breaks.0)
-
-pub breaks_off : (count : ℕ) (left left_after : Option (List ℕ)) (piece empty : List ℕ) (before : Arrival) → empty ≡ [] → ReadsPiece count left left_after empty piece → BreaksArrival piece before → IsCutOff left left_after before
-breaks_off count left left_after piece empty before none (bytes, size, consumed, is) broken =
-    let same : piece ≡ bytes = is ∙ ap (λ front. front ++ bytes) none in
-    (bytes, consumed, subst (λ (xs : List ℕ). BreaksArrival xs before) same broken)
-
--- a read that gave nothing
-pub ends_early : (room : ℕ) (left left_after : Option (List ℕ)) (piece empty : List ℕ) → 0 < room → ReadsPiece 0 left left_after empty piece → IsAtEnd left_after → EndsEarly room left left_after
-ends_early room left left_after piece empty some (bytes, size, consumed, is) end =
-    let few : length bytes < room = omega (arith, size, some) in
-    (bytes, few, consumed, end)
 
 -- ---- a piece after those before
 

@@ -1,5 +1,5 @@
 -- Whole records are bad nowhere: where a tape is damaged, it was so when it was read.
-use Rattle.std.proofs.Common.{◌≡◌, ◌≢◌, ◌∙◌, ◌≤◌, ◌<◌, ℕ, true, false, List, [], ◌∷◌, length, take, drop, sym, subst, refl, arith, length-drop, inl, inr}
+use Rattle.std.proofs.Common.{◌≡◌, ◌≢◌, ◌∙◌, ◌≤◌, ◌<◌, ℕ, true, false, List, [], ◌∷◌, length, drop, sym, subst, refl, arith, length-drop, inl, inr}
 use Rattle.std.proofs.lemmas.Bool.{cases_lt}
 use Rattle.std.specs.List.{list_all}
 use Rattle.std.specs.Prelude.{Bool, Result, Ok, Err, IfErr}
@@ -12,8 +12,8 @@ use Rattle.wf_journal.specs.Records.{BeginsWithNone, Splits}
 use Rattle.wf_journal.specs.declared.open_error.OpenFault.{OpenFault}
 use Rattle.wf_journal.specs.declared.open_error.OpenFault.TheVariants.{TapeFailed, BadRecord, Memory}
 use Rattle.wf_model.specs.DurableState.{Record}
-use Rattle.wf_node.specs.OpenedNode.{HasNoFold, IsWhyBad}
-use Rattle.wf_node_folder.specs.Damage.{AreBadNowhere, AreWhole, IsDamagedAt, IsSyncedAndBadAt, IsWhyDamaged}
+use Rattle.wf_node.specs.OpenedNode.{IsWhyBad}
+use Rattle.wf_node_folder.specs.Damage.{AreBadNowhere, AreWhole, IsDamagedAt, IsWhyDamaged}
 use Rattle.wf_node_folder.specs.Held.{ReadAlike}
 use Rattle.wf_recovery.specs.Unsynced.{HoldsFront, IsUnsynced, is_zero, longest_record}
 

@@ -9,7 +9,7 @@ use Rattle.wf_folder.specs.declared.node_file.NodeFile.{NodeFile}
 use Rattle.wf_line.specs.declared.node_line.InitLine.{InitLine}
 use Rattle.wf_node_folder.specs.Fault.{IsFromSystem}
 use Rattle.wf_node_folder.specs.From.{MayBeFrom}
-use Rattle.wf_node_folder.specs.Made.{IsFirstFileTried, IsFirstJoinsTried, IsFolderMade, IsFirstFile, IsFirstTape, IsHalfFilled, IsInitCause, IsInitDone, IsInitFault, IsUnfilled, IsWhyNotEmpty, first_joining, made_empty, with_joins, with_tape}
+use Rattle.wf_node_folder.specs.Made.{IsFirstJoinsTried, IsFolderMade, IsFirstFile, IsFirstTape, IsHalfFilled, IsInitCause, IsInitDone, IsInitFault, IsUnfilled, IsWhyNotEmpty, first_joining, made_empty, with_joins, with_tape}
 use Rattle.wf_rejoin.specs.JoiningText.{joins_text}
 use Rattle.wf_node_folder.specs.declared.fault.CommandFault.{CommandFault}
 use Rattle.wf_node_folder.specs.declared.fault.CommandFault.TheVariants as faults

@@ -1,5 +1,5 @@
 -- What a start writes to the file `farm` is held by what its node has stored.
-use Rattle.std.proofs.Common.{arith, ◌≡◌, ◌≤◌, ◌∙◌, ℕ, Bool, true, false, List, length, refl, sym, ap, subst}
+use Rattle.std.proofs.Common.{arith, ◌≡◌, ◌≤◌, ◌∙◌, ℕ, Bool, true, false, List, length, refl, sym, ap}
 use Rattle.std.proofs.lemmas.Bool.{le-leb, ltb-true, ltb-false}
 use Rattle.std.specs.Prelude.{Option, Some, None, max, nat_le, nat_lt, if◌then◌else◌}
 use Rattle.wf_ballot.specs.Ballot.{Ballot, below}

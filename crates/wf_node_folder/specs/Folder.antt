@@ -136,7 +136,7 @@ AreInLockedFolder (call ∷ later) begun = (needs_own call.kind ≡ true → is_
 -- Calls came after these. None of them made a tape, or put one in the place of another, and only
 -- the folder that is locked was written to. What was put in the place of a file may be: so the
 -- folder ceases to join only where it may vote, and what `farm` says that is published never falls.
--- The tape is opened again only beside the file `farm` that the process wrote itself.
+-- The tape is opened again only beside a file `farm` that the process put there, or tried to.
 pub record StaysFrom (begun calls : List Call) : Type 0 where
   pub after : IsAfter begun calls
   pub tapes : tape_changes calls ≡ tape_changes begun

@@ -80,7 +80,7 @@ pub record IsPutSoundly (file : FileName) (bytes : Option (List ℕ)) (calls : L
   pub is : bytes ≡ Some text
 
 -- A tape that failed is opened again: only beside a file `farm` that was read before, and that the
--- process put there itself.
+-- process put there, or tried to.
 pub record IsReopening (file : FileName) (calls : List Call) : Type 0 where
   pub tape : is_tape file ≡ true
   pub own : IsOwnFarm calls

@@ -3,7 +3,7 @@
 ghost use Rattle.std.specs.Prelude.{◌≡◌, ◌≤◌, ◌+◌, IfOk, IfSome, None, OnOk, true};
 ghost use Rattle.wf_folder.specs.NodeFile.{IsNodeFile, node_text};
 ghost use Rattle.wf_folder.specs.Reach.{IsReachNoLess};
-ghost use Rattle.wf_node_folder.specs.FarmPut.{HasPut, IsOwnFarm, IsPutBetween, WasPut, farm_in, latest_of, published_in};
+ghost use Rattle.wf_node_folder.specs.FarmPut.{HasPut, IsOwnFarm, IsPutBetween, WasPut, latest_of, published_in};
 ghost use Rattle.wf_node_folder.specs.Folder.{AreFiles, StaysFrom, calls_in, heard_in, is_own};
 ghost use Rattle.wf_node_folder.specs.NodeFileTheorems.{are_files_prop, put_between_prop};
 ghost use Rattle.wf_voter.specs.Folder.{HasFarmText};

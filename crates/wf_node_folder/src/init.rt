@@ -1,10 +1,10 @@
 //! `wfarm init`.
-ghost use Rattle.std.specs.Prelude.{◌≡◌, ◌<◌, ◌⊎◌, ◌↔◌, ◌∷◌, IfErr, IfOk, IsSome, IsTrue, OnErr, OnOk, true};
+ghost use Rattle.std.specs.Prelude.{◌≡◌, ◌<◌, ◌⊎◌, ◌↔◌, IfErr, IfOk, IsSome, IsTrue, OnErr, OnOk, true};
 ghost use Rattle.wf_folder.specs.Name.{pad};
 ghost use Rattle.wf_line.specs.NodeLine.{IsInitInRange};
 ghost use Rattle.wf_node_folder.specs.Made.{IsFirstJoinsTried, IsFolderMade, IsFirstTape, IsInitCause, IsInitDone, IsUnfilled, IsWhyNotEmpty, made_empty, with_joins};
 ghost use Rattle.wf_node_folder.specs.Fault.{IsFromSystem};
-ghost use Rattle.wf_store.specs.Call.{OnlyReads, unreplaced};
+ghost use Rattle.wf_store.specs.Call.{OnlyReads};
 ghost use Rattle.wf_store.specs.Fault.{IsWhyUnwritten};
 ghost use Rattle.wf_store.specs.declared.file_name.FileName.TheVariants as names;
 

@@ -1,7 +1,6 @@
 //! The files of a node's folder about replacements.
-ghost use Rattle.std.specs.Prelude.{◌≡◌, ◌↔◌, IfErr, IfOk, IfSome, IsTrue, OnOk, Some, option_map};
+ghost use Rattle.std.specs.Prelude.{◌↔◌, IfErr, IfOk, IfSome, IsTrue, Some, option_map};
 ghost use Rattle.wf_node_folder.specs.ReplacementFiles.{AreFilesFound, IsJoinsFault, IsJoinsFound, IsJoinsIn, IsJoinsTextFault, IsOwnJoining, IsReplacedFault, IsReplacedFound, IsReplacementCause};
-ghost use Rattle.wf_rejoin.specs.JoiningText.{IsJoins};
 ghost use Rattle.wf_store.specs.Call.{OnlyReads};
 
 use crate::fault::CommandFault;

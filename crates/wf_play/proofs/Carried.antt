@@ -71,10 +71,6 @@ hosts_grow : (before between after : MemoryFarm) → between.hosts ≡ before.ho
 unfolding HistoriesGrow
 hosts_grow before between after same grows = λ i old new had has. grows i old new (subst (λ (p : List MemoryHost). HasDurableState (slice_get p i) old) (sym same) had) has
 
-grow_hosts : (before between after : MemoryFarm) → after.hosts ≡ between.hosts → HistoriesGrow before between → HistoriesGrow before after
-unfolding HistoriesGrow
-grow_hosts before between after same grows = λ i old new had has. grows i old new had (subst (λ (p : List MemoryHost). HasDurableState (slice_get p i) new) same has)
-
 -- ---- a play, and a delivery more
 
 plays_on : (more : List (Event Definition)) (before between after : MemoryFarm) → Plays before between → IsOneWorld between → Runs more between after → size after ≡ size between → HistoriesGrow between after → Plays before after

@@ -99,9 +99,3 @@ learns_first old mid new s d definitions rest k is next received list later =
           ∙ ap (λ (l : List Definition). heard_by old ++ numbered (next_of (maps_of old)) (take (suc k) l)) (sym is);
       list = list_first (maps_of old) (maps_of mid) (maps_of new) d (take k rest) list later.list ∙ ap (λ (l : List Definition). maps_of old ++ take (suc k) l) (sym is);
     }
-
-pub all_first : (old mid new : MapList) (d : Definition) (definitions rest : List Definition) → definitions ≡ d ∷ rest → maps_of mid ≡ maps_of old ++ d ∷ [] →
-    maps_of new ≡ take last_sequence (maps_of mid ++ rest) → maps_of new ≡ take last_sequence (maps_of old ++ definitions)
-all_first old mid new d definitions rest is list later =
-    later ∙ ap (λ (l : List Definition). take last_sequence (l ++ rest)) list ∙ ap (take last_sequence) (append_assoc (maps_of old) (d ∷ []) rest)
-    ∙ ap (λ (l : List Definition). take last_sequence (maps_of old ++ l)) (sym is)

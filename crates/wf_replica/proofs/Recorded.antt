@@ -151,12 +151,6 @@ found_bad one bytes offset found.Published list bad anew = absurd anew
 found_bad one bytes offset found.Damaged list bad anew = (λ other end is. bad_end one bytes (drop offset bytes) bad.0 bad.1 bad.2 (published_from 1 other) end is, anew)
 found_bad one bytes offset found.Failed list bad anew = anew
 
--- where the replica was begun at all
-pub all_begun : {A E : Type 0} → AreReadOneWay → (bytes rest : List ℕ) (records : List (Record Definition)) (result : Result A E) (kind : A → FoundTape) (list : A → List Definition) →
-    IsTapeOf bytes records rest → IfOk result (λ x. IsRecordedStart (kind x) records (list x)) → IfOk result (λ x. IsFoundOn bytes (kind x) (list x))
-all_begun one bytes rest records (Ok x) kind list tape begun = found_begun one bytes rest records (kind x) (list x) tape begun
-all_begun one bytes rest records (Err e) kind list tape begun = tt
-
 pub all_bad : {A E : Type 0} → AreReadOneWay → (bytes : List ℕ) (offset : ℕ) (result : Result A E) (kind : A → FoundTape) (list : A → List Definition) → IsBadAt bytes offset →
     IfOk result (λ x. IsBegunAnew (kind x) (list x)) → IfOk result (λ x. IsFoundOn bytes (kind x) (list x))
 all_bad one bytes offset (Ok x) kind list bad anew = found_bad one bytes offset (kind x) (list x) bad anew

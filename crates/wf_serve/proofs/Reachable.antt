@@ -53,9 +53,6 @@ module _ {T : Type 0} (tapes : Tape T) (before after : Node T) (outputs : Vec Me
   moved_reaches_on moves = λ nodes i at turns. moved_reaches tapes nodes i before after at turns outputs moves
 
 module _ {T : Type 0} (tapes : Tape T) (before after : Node T) (outputs : Vec Message Global) where
-  pub asked_sturdy : (input : table.Input Definition) → IsAsked tapes input before outputs after → IsSturdy tapes before after
-  asked_sturdy input asked = step_sturdy tapes before after input asked.answer asked.answers.steps asked.answers.sturdy asked.answers.sound
-
   pub moved_sturdy : MovesOnce tapes before outputs after → IsSturdy tapes before after
   moved_sturdy (Stays unmoved) = same_sturdy tapes before after unmoved.same
   moved_sturdy (Proposes d result proposed hands) = step_sturdy tapes before after (table.Propose d) result proposed.steps proposed.sturdy proposed.sound

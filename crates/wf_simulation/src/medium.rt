@@ -18,7 +18,6 @@ pub(crate) struct Host {
 }
 
 /// What all connections share.
-#[derive(Drop)]
 pub(crate) struct Medium {
     pub(crate) time: u64,
     pub(crate) chance: Chance,
@@ -28,6 +27,22 @@ pub(crate) struct Medium {
     // until when nothing goes from a host to another, the first's row after the row of the one
     // before
     blocked: Vec<u64>,
+}
+
+impl Drop for Medium {
+    fn drop(self) {
+        let Medium {
+            time: _,
+            chance,
+            faults: _,
+            hosts,
+            counts: _,
+            blocked,
+        } = self;
+        drop(chance);
+        drop(hosts);
+        drop(blocked);
+    }
 }
 
 impl Medium {

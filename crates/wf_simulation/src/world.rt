@@ -22,7 +22,6 @@ pub(crate) struct Handle {
 }
 
 /// A network in plain data: its hosts, what listens, its connections, the time, and chance.
-#[derive(Drop)]
 pub struct World {
     alloc: Global,
     medium: Medium,
@@ -30,6 +29,21 @@ pub struct World {
     channels: Vec<Option<Channel>>,
     // the number of the next connection or listener
     next: u64,
+}
+
+impl Drop for World {
+    fn drop(self) {
+        let World {
+            alloc: _,
+            medium,
+            doors,
+            channels,
+            next: _,
+        } = self;
+        drop(medium);
+        drop(doors);
+        drop(channels);
+    }
 }
 
 /// So many slots, none of which is taken.

@@ -22,7 +22,7 @@
 //! **Doesn't.** What the system does with files and locks has no model: that what is read stands in
 //! the file, that a lock keeps others out, and that two folders with one device and number are the
 //! same are premises. Nor has what a cell contains: the clauses of a folder in memory are those on
-//! its calls, and what a cut leaves of it is tested (`wf_test_store`).
+//! its calls, and what a cut leaves of it is tested.
 #![tactic(auto)]
 
 mod at_path;

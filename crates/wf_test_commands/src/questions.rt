@@ -3,17 +3,24 @@ use crate::{broken, commands, folders, fused, lines, played, process, process_li
 use std::fs::File;
 use std::net::{Net, TcpListener, TcpStream};
 use std::rt::Files;
+use std::time::Clock;
 use wf_farm::Copies;
 use wf_link::Connection;
 use wf_test_simulation::{ask_play, ask_plays};
-use wf_test_table::{Answered, CaseInput, Questions, Transcript, Unanswered};
+use wf_test_table::{Answered, CaseInput, Questions, Transcript};
 
 /// All questions of this program. It opens files of this machine, and connections of it to itself.
 #[derive(Drop)]
 pub(crate) struct CommandQuestions<'r, R>(pub(crate) &'r R);
 
-impl<'r, R: Files<File = File> + Net<Listener = TcpListener, Stream = TcpStream> + Eprint> Questions
-    for CommandQuestions<'r, R> {
+impl<
+    'r,
+    R: Files<File = File>
+        + Net<Listener = TcpListener, Stream = TcpStream>
+        + Clock
+        + Eprint
+        + AllocGlobal,
+> Questions for CommandQuestions<'r, R> {
     fn answer(&self, mut asked: CaseInput<'_>, answer: &mut Transcript) -> Answered {
         match asked.words.word() {
             "admit" => folders::ask_admission(asked, answer),
@@ -34,7 +41,7 @@ impl<'r, R: Files<File = File> + Net<Listener = TcpListener, Stream = TcpStream>
             "script_cut" => played::script_cut(asked, answer),
             "script_losing" => played::script_losing(asked, answer),
             "script_wired" => played::script(asked, &mut Connection::new(self.0), answer),
-            _ => Err(Unanswered::UnknownQuestion),
+            question => wf_test_store::ask(self.0, question, asked, answer),
         }
     }
 }

@@ -88,10 +88,10 @@ fn gather<R: Abort + Net<Listener = TcpListener, Stream = TcpStream> + AllocGlob
     let listener = listen(rt, 0).expect(rt, "a port");
     let port = listener.local_addr().expect(rt, "its address").port();
     let mut clients = Vec::new(rt.alloc());
-    assert!(rt; clients.push(client(rt, port, first)).is_ok());
+    clients.push(client(rt, port, first)).expect(rt, "memory");
     for _ in 0..times {
         for request in requests {
-            assert!(rt; clients.push(client(rt, port, request)).is_ok());
+            clients.push(client(rt, port, request)).expect(rt, "memory");
         }
     }
     Crowd { listener, clients }

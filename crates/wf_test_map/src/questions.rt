@@ -1,6 +1,6 @@
 //! The questions by their names.
 use crate::{cached, edge, maps, reports, requests};
-use wf_test_table::{Answered, CaseInput, Questions, Transcript};
+use wf_test_table::{Answered, CaseInput, Questions, Transcript, Unanswered};
 
 /// All questions of this program.
 pub(crate) struct MapQuestions;
@@ -24,7 +24,21 @@ fn about_the_edge(question: &str, asked: CaseInput<'_>, answer: &mut Transcript)
         "serve_alone" => edge::serve_alone(asked, answer),
         "serve_published" => edge::serve_map(asked, answer),
         "serve_cached" => edge::serve_cached(asked, answer),
-        _ => wf_test_questions::ask(question, asked, answer),
+        _ => about_pictures(question, asked, answer),
+    }
+}
+
+fn about_pictures(question: &str, asked: CaseInput<'_>, answer: &mut Transcript) -> Answered {
+    match wf_test_paint::ask(question, asked, answer) {
+        Err(Unanswered::UnknownQuestion) => about_nodes(question, asked, answer),
+        answered => answered,
+    }
+}
+
+fn about_nodes(question: &str, asked: CaseInput<'_>, answer: &mut Transcript) -> Answered {
+    match wf_test_farm::ask(question, asked, answer) {
+        Err(Unanswered::UnknownQuestion) => wf_test_questions::ask(question, asked, answer),
+        answered => answered,
     }
 }
 

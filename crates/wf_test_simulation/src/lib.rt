@@ -3,12 +3,13 @@
 //!
 //! The questions of a table of cases (`wf_test_table`) about a play ([`ask_play`]), or about many
 //! whose counts are added up ([`ask_plays`]); `wf_test_commands` has the table. Nodes are started
-//! and stepped as `wfarm node` does ([`wf_node_command::RunningNode`], `member`) and replicas as
+//! and stepped as `wfarm node` does ([`wf_node_command::RunningNode`], `node`) and replicas as
 //! `wfarm replica` does ([`wf_replica_command::RunningReplica`], `replica`), each on a host of its
-//! own, with clients and faults around them (`wf_test_scene`). All the while clients publish at
-//! each node, ask for capabilities and pictures, look at the operator's port, and read the history,
-//! and faults happen that are drawn from the seed; a client may stop within its request, or take no
-//! byte of the response, and a sync may take time. After each step is checked what a farm promises:
+//! own (`member`), with clients and faults around them (`wf_test_scene`). All the while clients
+//! publish at each node, ask for capabilities and pictures, look at the operator's port, and read
+//! the history, and faults happen that are drawn from the seed; a client may stop within its
+//! request, or take no byte of the response, and a sync may take time. After each step is checked
+//! what a farm promises:
 //!
 //! - Two answers to one request about a sequence are equal, and so are two maps.
 //! - No list of maps goes back, and each published map is one that a client sent. A replica has
@@ -29,7 +30,9 @@
 //! It is proved to be safe and to return, and nothing more: what the cases show is in the table.
 #![tactic(auto)]
 
+mod judging;
 mod member;
+mod node;
 mod play;
 mod questions;
 mod replica;

@@ -1,7 +1,9 @@
 //! A play: a farm, its clients, and what goes wrong, from one moment to the next.
 
-use crate::member::{Member, make_folder};
-use crate::replica::Replica;
+use crate::judging::{clients_of, is_counted, is_sound, violation_of};
+use crate::member::{Member, Running};
+use crate::node::{NodeOnHost, make_folder};
+use crate::replica::ReplicaOnFolder;
 use std::alloc::{AllocError, Global};
 use std::cell::RefCell;
 use wf_simulation::{Counts, Faults, World};
@@ -37,9 +39,9 @@ const LINES_OF_EVENT: u64 = 20;
 /// The stream of the generator: another one than that of the network.
 const STREAM: u64 = 7;
 
-/// A play as far as it is.
+/// A play as far as it is, of nodes and replicas.
 #[derive(Drop)]
-pub(crate) struct Play<'a, R> {
+struct Play<'a, R, P, Q> {
     machine: &'a Machine<'a, R>,
     world: &'a RefCell<World>,
     names: &'a Names,
@@ -47,8 +49,8 @@ pub(crate) struct Play<'a, R> {
     plan: Plan,
     dice: Dice,
     schedule: Schedule,
-    members: Vec<Member<'a>>,
-    replicas: Vec<Replica<'a>>,
+    members: Vec<Member<'a, P>>,
+    replicas: Vec<Member<'a, Q>>,
     clients: Vec<Client<'a>>,
     strangers: Strangers<'a>,
     ledger: Ledger,
@@ -84,11 +86,14 @@ pub(crate) fn run_play<R: Eprint>(
     )?);
     let names = Names::new(alloc, plan.nodes, plan.hosts())?;
     let folders = folders_of(alloc, &plan)?;
-    let mut play = Play::new(&machine, &world, &names, folders.as_slice(), plan);
-    play.run();
-    let outcome = play.finish(before, answer);
-    drop(play);
-    outcome
+    let play: Play<'_, R, NodeOnHost<'_>, ReplicaOnFolder<'_>> = Play::new(
+        &machine,
+        &world,
+        &names,
+        folders.as_slice(),
+        plan,
+    );
+    play.run_to_end(before, answer)
 }
 
 /// The most connections of the network: one from each node to each other, and eight for the clients
@@ -120,68 +125,14 @@ fn folders_of(alloc: Global, plan: &Plan) -> Result<Vec<MemoryFolder>, AllocErro
     Ok(folders)
 }
 
-impl<'a, R: Eprint> Play<'a, R> {
-    /// A play that begins, without nodes.
-    fn new(
-        machine: &'a Machine<'a, R>,
-        world: &'a RefCell<World>,
-        names: &'a Names,
-        folders: &'a [MemoryFolder],
-        plan: Plan,
-    ) -> Self {
-        let alloc = machine.alloc();
-        Play {
-            machine,
-            world,
-            names,
-            folders,
-            plan,
-            dice: Dice::new(plan.seed, STREAM),
-            schedule: Schedule::new(plan),
-            members: Vec::new(alloc),
-            replicas: Vec::new(alloc),
-            clients: Vec::new(alloc),
-            strangers: Strangers::new(alloc),
-            ledger: Ledger::new(alloc),
-            faults: [0; 11],
-            turns: 0,
-        }
-    }
-
-    /// Makes the folder of each node, the replicas, and the clients of each.
-    fn populate(&mut self) -> Result<(), AllocError> {
-        let folders = self.folders;
-        for (number, folder) in (0..self.plan.nodes).zip(folders) {
-            folder.set_bits(self.dice.bits());
-            let start = self.dice.millis(0, 500);
-            let nodes = self.plan.nodes;
-            self.members
-                .push(Member::new(self.machine, folder, number, nodes, start))?;
-            for role in ROLES {
-                let start = self.plan.beginning(self.dice.millis(500, 2_000));
-                self.clients
-                    .push(Client::new(Process::Node(number), role, start))?;
-            }
-        }
-        for (host, folder) in (0..self.plan.hosts()).zip(folders) {
-            if self.plan.client_host() < host {
-                self.add_replica(host, folder)?;
-            }
-        }
-        Ok(())
-    }
-
-    /// Adds the replica of a host, and its clients.
-    fn add_replica(&mut self, host: u8, folder: &'a MemoryFolder) -> Result<(), AllocError> {
-        let start = self.dice.millis(0, 500);
-        self.replicas
-            .push(Replica::new(host, folder, self.machine.lag(), start))?;
-        for role in REPLICA_ROLES {
-            let start = self.plan.beginning(self.dice.millis(500, 2_000));
-            self.clients
-                .push(Client::new(Process::Replica(host), role, start))?;
-        }
-        Ok(())
+// Only what starts or steps a process names the trait of one: the types of its calls are dear.
+impl<'a, R: Eprint, P: Running<'a> + Drop, Q: Running<'a> + Drop> Play<'a, R, P, Q> {
+    /// Plays, and writes a line behind these words for each violation.
+    fn run_to_end(mut self, before: &str, answer: &mut Transcript) -> Result<Outcome, AllocError> {
+        self.run();
+        let outcome = self.finish(before, answer);
+        drop(self);
+        outcome
     }
 
     /// Plays: faults happen for the plan's time, and then the nodes heal, and then the replicas. At
@@ -253,57 +204,6 @@ impl<'a, R: Eprint> Play<'a, R> {
         }
     }
 
-    /// Whether each process says that it has no client, and no reader but a replica; or no
-    /// connection is left of any client.
-    fn is_given_back(&self, has_none: bool) -> bool {
-        if has_none {
-            return self.connection_count() <= self.connections_left();
-        }
-        for client in &self.clients {
-            if is_counted(&self.plan, client) && clients_of(client) != 0 {
-                return false;
-            }
-        }
-        self.reader_count() <= u32::from(self.plan.replicas)
-    }
-
-    /// How many readers all processes say that they have.
-    fn reader_count(&self) -> u32 {
-        let mut count = 0u32;
-        for client in &self.clients {
-            if let Some((_, readers)) = client.open() {
-                count = count.saturating_add(readers);
-            }
-        }
-        count
-    }
-
-    /// How many connections are there.
-    fn connection_count(&self) -> usize {
-        match self.world.try_borrow() {
-            Ok(world) => world.count(),
-            Err(_) => 0,
-        }
-    }
-
-    /// How many connections are there without clients: one of each node to each other, and one of
-    /// each replica.
-    fn connections_left(&self) -> usize {
-        let nodes = self.plan.nodes as usize;
-        nodes
-            .saturating_mul(nodes.saturating_sub(1))
-            .saturating_add(self.plan.replicas as usize)
-    }
-
-    /// For how long the farm may heal.
-    fn patience(&self) -> u64 {
-        if self.plan.network.losses == 0 && self.plan.relapse != Relapse::Replaced {
-            HEALING_MILLIS
-        } else {
-            SILENT_MILLIS
-        }
-    }
-
     /// Goes on to the next moment at which something is due: all do what they have to do.
     fn step(&mut self, latest: u64) {
         let time = self.next_moment().min(latest);
@@ -311,37 +211,6 @@ impl<'a, R: Eprint> Play<'a, R> {
         let is_news = self.advance(time);
         self.turn_processes(is_news);
         self.turn_clients(is_news);
-    }
-
-    /// What is due on the network happens. Returns whether anything was.
-    fn advance(&self, time: u64) -> bool {
-        let Ok(mut world) = self.world.try_borrow_mut() else {
-            return false;
-        };
-        let is_news = match world.due() {
-            Some(due) => due <= time,
-            None => false,
-        };
-        world.advance(time);
-        is_news
-    }
-
-    /// The next moment at which something is due.
-    fn next_moment(&self) -> u64 {
-        let mut due = self.schedule.due();
-        if let Ok(world) = self.world.try_borrow() {
-            due = due.min(world.due().unwrap_or(u64::MAX));
-        }
-        for member in &self.members {
-            due = due.min(member.due());
-        }
-        for replica in &self.replicas {
-            due = due.min(replica.due());
-        }
-        for client in &self.clients {
-            due = due.min(client.due());
-        }
-        due.max(self.machine.millis().saturating_add(1))
     }
 
     /// Each process for which there may be news takes its turn, the first one by chance.
@@ -396,28 +265,70 @@ impl<'a, R: Eprint> Play<'a, R> {
             }
         }
     }
+}
 
-    /// Each client does what it has to do.
-    fn turn_clients(&mut self, is_news: bool) {
-        let scene = self.scene_at(self.plan.client_host() as usize);
-        self.strangers.turn(scene.time);
-        for client in self.clients.iter_mut() {
-            if is_news || client.due() <= scene.time {
-                client.turn(&scene, &mut self.dice, &mut self.ledger);
+impl<'a, R: Eprint, P: Drop, Q: Drop> Play<'a, R, P, Q> {
+    /// Makes the folder of each node, the replicas, and the clients of each.
+    fn populate(&mut self) -> Result<(), AllocError> {
+        let folders = self.folders;
+        for (number, folder) in (0..self.plan.nodes).zip(folders) {
+            folder.set_bits(self.dice.bits());
+            let start = self.dice.millis(0, 500);
+            make_folder(self.machine, folder, number, self.plan.nodes, false);
+            self.members.push(Member::new(
+                Process::Node(number),
+                folder,
+                self.machine.lag(),
+                start,
+            ))?;
+            for role in ROLES {
+                let start = self.plan.beginning(self.dice.millis(500, 2_000));
+                self.clients
+                    .push(Client::new(Process::Node(number), role, start))?;
             }
         }
+        for (host, folder) in (0..self.plan.hosts()).zip(folders) {
+            if self.plan.client_host() < host {
+                self.add_replica(host, folder)?;
+            }
+        }
+        Ok(())
     }
 
-    /// Where and when something is done now, at this host.
-    fn scene_at(&self, host: usize) -> Scene<'a> {
-        Scene {
-            alloc: self.machine.alloc(),
-            world: self.world,
-            host,
-            time: self.machine.millis(),
+    /// Adds the replica of a host, and its clients.
+    fn add_replica(&mut self, host: u8, folder: &'a MemoryFolder) -> Result<(), AllocError> {
+        let start = self.dice.millis(0, 500);
+        self.replicas.push(Member::new(Process::Replica(host), folder, self.machine.lag(), start))?;
+        for role in REPLICA_ROLES {
+            let start = self.plan.beginning(self.dice.millis(500, 2_000));
+            self.clients
+                .push(Client::new(Process::Replica(host), role, start))?;
+        }
+        Ok(())
+    }
+
+    /// Kills all nodes, and puts another folder in the place of that of node 0, as the plan says.
+    fn relapse(&mut self, time: u64) {
+        if self.plan.kills_all {
+            for member in self.members.iter_mut() {
+                member.kill(time);
+            }
+        }
+        if self.plan.relapse == Relapse::Nothing {
+            return;
+        }
+        let spare = self.spare();
+        if let (Some(member), Some(spare)) = (self.members.get_mut(0), spare) {
+            if self.plan.relapse == Relapse::Replaced {
+                spare.set_bits(JOINER_BITS);
+                make_folder(self.machine, spare, 0, self.plan.nodes, true);
+            }
+            member.relapse(self.plan.relapse, spare, time);
         }
     }
+}
 
+impl<'a, R, P: Drop, Q: Drop> Play<'a, R, P, Q> {
     /// A fault happens, if one is due.
     fn fail_by_chance(&mut self) {
         if let Some(stroke) = self.schedule.take(self.machine.millis()) {
@@ -439,6 +350,162 @@ impl<'a, R: Eprint> Play<'a, R> {
             _ => return self.fail_process(stroke),
         }
         true
+    }
+
+    /// A fault happens to a process. Returns whether it ran.
+    fn fail_process(&mut self, stroke: &Stroke) -> bool {
+        let time = self.machine.millis();
+        if let Some(member) = self.members.get_mut(stroke.host) {
+            return member.fail(self.world, time, stroke);
+        }
+        let first = self.members.len().saturating_add(1);
+        match self.replicas.get_mut(stroke.host.saturating_sub(first)) {
+            Some(replica) => replica.fail(self.world, time, stroke),
+            None => false,
+        }
+    }
+
+    /// The first replica begins on an empty folder, if the plan says so.
+    fn lose_replica(&mut self, time: u64) {
+        if !self.plan.loses_replica {
+            return;
+        }
+        let folders = self.folders;
+        if let (Some(replica), Some(spare)) = (self.replicas.get_mut(0), folders.last()) {
+            replica.lose(spare, time);
+        }
+    }
+}
+
+impl<'a, R, P, Q> Play<'a, R, P, Q> {
+    /// A play that begins, without nodes.
+    fn new(
+        machine: &'a Machine<'a, R>,
+        world: &'a RefCell<World>,
+        names: &'a Names,
+        folders: &'a [MemoryFolder],
+        plan: Plan,
+    ) -> Self {
+        let alloc = machine.alloc();
+        Play {
+            machine,
+            world,
+            names,
+            folders,
+            plan,
+            dice: Dice::new(plan.seed, STREAM),
+            schedule: Schedule::new(plan),
+            members: Vec::new(alloc),
+            replicas: Vec::new(alloc),
+            clients: Vec::new(alloc),
+            strangers: Strangers::new(alloc),
+            ledger: Ledger::new(alloc),
+            faults: [0; 11],
+            turns: 0,
+        }
+    }
+
+    /// Whether each process says that it has no client, and no reader but a replica; or no
+    /// connection is left of any client.
+    fn is_given_back(&self, has_none: bool) -> bool {
+        if has_none {
+            return self.connection_count() <= self.connections_left();
+        }
+        for client in &self.clients {
+            if is_counted(&self.plan, client) && clients_of(client) != 0 {
+                return false;
+            }
+        }
+        self.reader_count() <= u32::from(self.plan.replicas)
+    }
+
+    /// How many readers all processes say that they have.
+    fn reader_count(&self) -> u32 {
+        let mut count = 0u32;
+        for client in &self.clients {
+            if let Some((_, readers)) = client.open() {
+                count = count.saturating_add(readers);
+            }
+        }
+        count
+    }
+
+    /// How many connections are there.
+    fn connection_count(&self) -> usize {
+        match self.world.try_borrow() {
+            Ok(world) => world.count(),
+            Err(_) => 0,
+        }
+    }
+
+    /// How many connections are there without clients: one of each node to each other, and one of
+    /// each replica.
+    fn connections_left(&self) -> usize {
+        let nodes = self.plan.nodes as usize;
+        nodes
+            .saturating_mul(nodes.saturating_sub(1))
+            .saturating_add(self.plan.replicas as usize)
+    }
+
+    /// For how long the farm may heal.
+    fn patience(&self) -> u64 {
+        if self.plan.network.losses == 0 && self.plan.relapse != Relapse::Replaced {
+            HEALING_MILLIS
+        } else {
+            SILENT_MILLIS
+        }
+    }
+
+    /// What is due on the network happens. Returns whether anything was.
+    fn advance(&self, time: u64) -> bool {
+        let Ok(mut world) = self.world.try_borrow_mut() else {
+            return false;
+        };
+        let is_news = match world.due() {
+            Some(due) => due <= time,
+            None => false,
+        };
+        world.advance(time);
+        is_news
+    }
+
+    /// The next moment at which something is due.
+    fn next_moment(&self) -> u64 {
+        let mut due = self.schedule.due();
+        if let Ok(world) = self.world.try_borrow() {
+            due = due.min(world.due().unwrap_or(u64::MAX));
+        }
+        for member in &self.members {
+            due = due.min(member.due());
+        }
+        for replica in &self.replicas {
+            due = due.min(replica.due());
+        }
+        for client in &self.clients {
+            due = due.min(client.due());
+        }
+        due.max(self.machine.millis().saturating_add(1))
+    }
+
+    /// Each client does what it has to do.
+    fn turn_clients(&mut self, is_news: bool) {
+        let scene = self.scene_at(self.plan.client_host() as usize);
+        self.strangers.turn(scene.time);
+        for client in self.clients.iter_mut() {
+            if is_news || client.due() <= scene.time {
+                client.turn(&scene, &mut self.dice, &mut self.ledger);
+            }
+        }
+    }
+
+    /// Where and when something is done now, at this host.
+    fn scene_at(&self, host: usize) -> Scene<'a> {
+        Scene {
+            alloc: self.machine.alloc(),
+            world: self.world,
+            host,
+            time: self.machine.millis(),
+        }
     }
 
     /// A client stops at its next request.
@@ -479,19 +546,6 @@ impl<'a, R: Eprint> Play<'a, R> {
         true
     }
 
-    /// A fault happens to a process. Returns whether it ran.
-    fn fail_process(&mut self, stroke: &Stroke) -> bool {
-        let time = self.machine.millis();
-        if let Some(member) = self.members.get_mut(stroke.host) {
-            return member.fail(self.world, time, stroke);
-        }
-        let first = self.members.len().saturating_add(1);
-        match self.replicas.get_mut(stroke.host.saturating_sub(first)) {
-            Some(replica) => replica.fail(self.world, time, stroke),
-            None => false,
-        }
-    }
-
     /// A process and all others don't reach each other until then. Its clients do.
     fn cut_off(&self, host: usize, until: u64) {
         for other in 0..self.plan.hosts() {
@@ -521,37 +575,6 @@ impl<'a, R: Eprint> Play<'a, R> {
     /// The folder that takes the place of that of node 0, if one does.
     fn spare(&self) -> Option<&'a MemoryFolder> {
         self.folders.get(self.plan.client_host() as usize)
-    }
-
-    /// The first replica begins on an empty folder, if the plan says so.
-    fn lose_replica(&mut self, time: u64) {
-        if !self.plan.loses_replica {
-            return;
-        }
-        let folders = self.folders;
-        if let (Some(replica), Some(spare)) = (self.replicas.get_mut(0), folders.last()) {
-            replica.lose(spare, time);
-        }
-    }
-
-    /// Kills all nodes, and puts another folder in the place of that of node 0, as the plan says.
-    fn relapse(&mut self, time: u64) {
-        if self.plan.kills_all {
-            for member in self.members.iter_mut() {
-                member.kill(time);
-            }
-        }
-        if self.plan.relapse == Relapse::Nothing {
-            return;
-        }
-        let spare = self.spare();
-        if let (Some(member), Some(spare)) = (self.members.get_mut(0), spare) {
-            if self.plan.relapse == Relapse::Replaced {
-                spare.set_bits(JOINER_BITS);
-                make_folder(self.machine, spare, 0, self.plan.nodes, true);
-            }
-            member.relapse(self.plan.relapse, spare, time);
-        }
     }
 
     /// All faults are over: each process that was ended is started, all reach each other, and the
@@ -745,55 +768,4 @@ impl<'a, R: Eprint> Play<'a, R> {
             Err(_) => Counts::default(),
         }
     }
-}
-
-/// Whether a client is the operator of a process that runs in the end.
-fn is_counted(plan: &Plan, client: &Client<'_>) -> bool {
-    let runs = !plan.relapse.is_unstartable() || client.process().host() != 0;
-    client.is_operator() && runs
-}
-
-/// How many connections of clients the process of an operator said that it has; all, if it said
-/// nothing.
-fn clients_of(client: &Client<'_>) -> u32 {
-    match client.open() {
-        Some((clients, _)) => clients,
-        None => u32::MAX,
-    }
-}
-
-/// Whether a process has its own folder at the end, so that it has to heal.
-fn is_sound(plan: &Plan, process: Process) -> bool {
-    !plan.relapse.is_refused() || process.host() != 0
-}
-
-/// What a node violates at the end, where so many sequences are published: a sound one has all of
-/// them and is let in by each peer, any other doesn't start or is suspended.
-fn violation_of(
-    plan: &Plan,
-    ledger: &Ledger,
-    member: &Member<'_>,
-    most: usize,
-) -> Option<Violation> {
-    let number = member.number();
-    let is_suspended = ledger.is_suspended(number);
-    if !is_sound(plan, member.own()) {
-        let is_refused = if plan.relapse.is_unstartable() {
-            member.is_refused()
-        } else {
-            is_suspended
-        };
-        return if is_refused {
-            None
-        } else {
-            Some(Violation::NotRefused(number))
-        };
-    }
-    if is_suspended {
-        return Some(Violation::Suspended(number));
-    }
-    if member.published() as usize != most {
-        return Some(Violation::NotEqual(member.own(), member.published(), most));
-    }
-    None
 }

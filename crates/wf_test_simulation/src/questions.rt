@@ -14,7 +14,7 @@ pub fn ask_play<R: Eprint>(rt: &R, asked: CaseInput<'_>, answer: &mut Transcript
     Ok(())
 }
 
-/// The same of many plays, from the seed on which is the case's input.
+/// Appends what happened in many plays, of the seeds from the case's input on, added up.
 pub fn ask_plays<R: Eprint>(rt: &R, asked: CaseInput<'_>, answer: &mut Transcript) -> Answered {
     let mut asked = asked;
     let count = u64::from(asked.words.number()?);

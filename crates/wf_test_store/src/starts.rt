@@ -2,46 +2,36 @@
 //! power is cut.
 ghost use Rattle.wf_line.specs.NodeLine.{IsNodeCommandInRange};
 
-use std::alloc::Global;
+use crate::files::{NODE_TAPE, presence, replace};
+use std::alloc::{AllocError, Global};
 use std::fs::File;
 use std::net::Net;
-use std::process::Abort;
 use std::rt::Files;
 use std::time::Clock;
 use wf_folder::Presence;
 use wf_line::{InitLine, NodeCommand, NodeLine};
 use wf_node_command::run;
 use wf_store::{FileName, MemoryFolder, MemoryStore, Store};
+use wf_test_table::{Answered, CaseInput, Transcript};
 
-/// The tape of the only node of a farm that has published one map, as a node wrote it: four
-/// records, in hexadecimal digits.
-const TAPE: &[&str] = &[
-    "02010000000400000001020200000007000100000001000203000000ab000100000001004d41500a",
-    "4e414d45202261220a455854454e5420302030203420340a50524f4a454354494f4e0a22696e6974",
-    "3d657073673a34333236220a454e440a5745420a4d455441444154410a22776d735f7469746c6522",
-    "202261220a22776d735f6162737472616374222022220a22776d735f6f6e6c696e657265736f7572",
-    "6365222022687474703a2f2f6c6f63616c686f73742f776d733f220a454e440a454e440a454e440a",
-    "0204000000a600014d41500a4e414d45202261220a455854454e5420302030203420340a50524f4a",
-    "454354494f4e0a22696e69743d657073673a34333236220a454e440a5745420a4d45544144415441",
-    "0a22776d735f7469746c6522202261220a22776d735f6162737472616374222022220a22776d735f",
-    "6f6e6c696e657265736f75726365222022687474703a2f2f6c6f63616c686f73742f776d733f220a",
-    "454e440a454e440a454e440a",
-];
+/// How many calls of its folder's disks a command makes: more than that, and fewer than that.
+const FEW_CALLS: usize = 10;
 
-/// The length of the beginning of that tape that a torn one has: its first three records, and a
-/// part of the last.
-const TORN_BYTES: usize = 250;
+const MANY_CALLS: usize = 60;
 
-/// Where its last record begins: the map that is published.
-const PUBLISHED_AT: usize = 200;
-
-/// The length of the record before that one, once a start has written the tape anew.
+/// The length of the record with which a start begins a tape that it writes anew.
 const TRIED_BYTES: usize = 10;
 
-/// The most calls that a command makes of its folder's disks.
-const MOST_CALLS: usize = 60;
+/// The most bytes of a tape that are read.
+const MOST_BYTES: usize = 1_000;
 
-const NODE_TAPE: FileName = FileName::NodeTape(0);
+/// How a power cut goes on: how many bytes are kept of what a call that failed was given, and how
+/// many replacements are lost.
+#[derive(Clone, Copy)]
+struct Cut {
+    kept: usize,
+    back: usize,
+}
 
 /// Makes the folder of the only node of a farm.
 fn init_line() -> NodeCommand<'static>
@@ -75,24 +65,8 @@ fn node_line() -> NodeCommand<'static>
     })
 }
 
-/// The bytes of that tape.
-fn tape_bytes(rt: &impl Abort, alloc: Global) -> Vec<u8> {
-    let mut bytes = Vec::new(alloc);
-    for line in TAPE {
-        let mut line_bytes = hex::decode(alloc, line).expect(rt, "hexadecimal digits");
-        bytes.append(&mut line_bytes).expect(rt, "the bytes");
-        drop(line_bytes);
-    }
-    bytes
-}
-
-/// The first bytes, as many as there are, and the others.
-fn parts(bytes: &[u8], count: usize) -> (&[u8], &[u8]) {
-    bytes.split_at(count.min(bytes.len()))
-}
-
 /// Runs a command on a folder for no turn. Whether it succeeds.
-fn runs<R: Files<File = File> + Clock + Eprint + Net + AllocGlobal + Abort>(
+fn runs<R: Files<File = File> + Clock + Eprint + Net + AllocGlobal>(
     rt: &R,
     folder: &MemoryFolder,
     command: &NodeCommand<'_>,
@@ -104,150 +78,247 @@ fn runs<R: Files<File = File> + Clock + Eprint + Net + AllocGlobal + Abort>(
     result.is_ok()
 }
 
-/// Runs a command on a folder, a call of which fails and keeps so much; then the power is cut, and
-/// puts this file back. Whether the command succeeds, and whether it made that call.
-fn cut_within<R: Files<File = File> + Clock + Eprint + Net + AllocGlobal + Abort>(
+/// Runs a command on a folder, this call of which fails; then the power is cut. Whether the command
+/// succeeds, and whether it made that call.
+fn cut_within<R: Files<File = File> + Clock + Eprint + Net + AllocGlobal>(
     rt: &R,
     folder: &MemoryFolder,
     command: &NodeCommand<'_>,
     call: usize,
-    kept: usize,
-    back: usize,
+    cut: Cut,
 ) -> (bool, bool)
     requires { IsNodeCommandInRange command.now }
 {
-    folder.set_failure(call, kept);
+    folder.set_failure(call, cut.kept);
     let is_ok = runs(rt, folder, command);
     let was_cut = !folder.will_fail();
     folder.set_failure(0, 0);
-    folder.cut(back, kept);
+    folder.cut(cut.back, cut.kept);
     (is_ok, was_cut)
 }
 
 /// Whether a file is there.
 fn is_there(folder: &MemoryFolder, file: FileName) -> bool {
-    let mut store = MemoryStore::new(folder);
-    let found = store.presence(file);
-    drop(store);
-    matches!(found, Ok(Presence::Empty | Presence::Written))
+    matches!(
+        presence(folder, file),
+        Ok(Presence::Empty | Presence::Written)
+    )
 }
 
-/// The bytes of the tape.
-fn tape_in(rt: &impl Abort, folder: &MemoryFolder) -> Vec<u8> {
+/// The bytes of the tape; none, if it can't be read.
+fn tape_in(alloc: Global, folder: &MemoryFolder) -> Vec<u8> {
     let mut store = MemoryStore::new(folder);
-    let found = store.read(NODE_TAPE, 1_000).expect(rt, "a tape");
+    let found = store.read(NODE_TAPE, MOST_BYTES);
     drop(store);
-    found.expect(rt, "its bytes")
+    match found {
+        Ok(Some(bytes)) => bytes,
+        _ => Vec::new(alloc),
+    }
 }
 
 /// A folder that `init` made, with this tape.
-fn made_folder<R: Files<File = File> + Clock + Eprint + Net + AllocGlobal + Abort>(
+fn made_folder<R: Files<File = File> + Clock + Eprint + Net + AllocGlobal>(
     rt: &R,
+    alloc: Global,
     tape: &[u8],
-) -> MemoryFolder {
-    let folder = MemoryFolder::new(rt.alloc(), 1).expect(rt, "a folder");
-    assert!(rt; runs(rt, &folder, &init_line()));
-    let bytes = tape.to_vec(rt.alloc()).expect(rt, "the bytes");
-    let mut store = MemoryStore::new(&folder);
-    assert!(rt; store.replace(NODE_TAPE, bytes).is_ok());
-    drop(store);
-    folder
-}
-
-/// `init` is cut at each of its calls: a node starts on what is left exactly where the file `farm`
-/// is there, with its tape. Returns how many calls it made.
-fn cut_init<R: Files<File = File> + Clock + Eprint + Net + AllocGlobal + Abort>(
-    rt: &R,
-    kept: usize,
-    back: usize,
-) -> usize {
-    for call in 1..MOST_CALLS {
-        let folder = MemoryFolder::new(rt.alloc(), 1).expect(rt, "a folder");
-        let (is_ok, was_cut) = cut_within(rt, &folder, &init_line(), call, kept, back);
-        let is_made = is_there(&folder, FileName::Farm);
-        assert!(rt; is_made || !is_ok);
-        assert!(rt; !is_made || is_there(&folder, NODE_TAPE));
-        assert!(rt; runs(rt, &folder, &node_line()) == is_made);
-        drop(folder);
-        if !was_cut {
-            return call;
+) -> Result<MemoryFolder, AllocError> {
+    let folder = MemoryFolder::new(alloc, 1)?;
+    let _ = runs(rt, &folder, &init_line());
+    let replaced = replace(alloc, &folder, NODE_TAPE, tape);
+    match replaced {
+        Ok(_) => Ok(folder),
+        Err(error) => {
+            drop(folder);
+            Err(error)
         }
     }
-    MOST_CALLS
 }
 
 /// What a start leaves of a tape.
-fn started_tape<R: Files<File = File> + Clock + Eprint + Net + AllocGlobal + Abort>(
+fn started_tape<R: Files<File = File> + Clock + Eprint + Net + AllocGlobal>(
     rt: &R,
+    alloc: Global,
     tape: &[u8],
-) -> Vec<u8> {
-    let folder = made_folder(rt, tape);
-    assert!(rt; runs(rt, &folder, &node_line()));
-    let left = tape_in(rt, &folder);
+) -> Result<Vec<u8>, AllocError> {
+    let folder = made_folder(rt, alloc, tape)?;
+    let _ = runs(rt, &folder, &node_line());
+    let left = tape_in(alloc, &folder);
     drop(folder);
-    left
+    Ok(left)
 }
 
-/// A start is cut at each of its calls: the next one succeeds, and leaves of the tape what one that
-/// isn't cut leaves. Returns how many calls it made.
-fn cut_start<R: Files<File = File> + Clock + Eprint + Net + AllocGlobal + Abort>(
+/// What is seen after a command that was cut within a call.
+#[derive(Clone, Copy)]
+enum Seen {
+    /// What is to be seen.
+    Right,
+    /// Something else.
+    Wrong,
+    /// What is to be seen, of a command that makes no such call.
+    Whole,
+}
+
+/// What is seen, if that is right, after a command that made the call or didn't.
+fn seen_of(is_right: bool, was_cut: bool) -> Seen {
+    match (is_right, was_cut) {
+        (false, _) => Seen::Wrong,
+        (true, true) => Seen::Right,
+        (true, false) => Seen::Whole,
+    }
+}
+
+/// Cuts `init` within a call: a node starts on what is left exactly where the file `farm` is there,
+/// with its tape.
+fn cut_init_at<R: Files<File = File> + Clock + Eprint + Net + AllocGlobal>(
     rt: &R,
-    tape: &[u8],
-    kept: usize,
-    back: usize,
-) -> usize {
-    let wanted = started_tape(rt, tape);
-    for call in 1..MOST_CALLS {
-        let folder = made_folder(rt, tape);
-        let (_, was_cut) = cut_within(rt, &folder, &node_line(), call, kept, back);
-        assert!(rt; runs(rt, &folder, &node_line()));
-        let left = tape_in(rt, &folder);
-        assert!(rt; left.as_slice() == wanted.as_slice());
-        drop(left);
-        drop(folder);
-        if !was_cut {
-            drop(wanted);
-            return call;
+    alloc: Global,
+    call: usize,
+    cut: Cut,
+) -> Result<Seen, AllocError> {
+    let folder = MemoryFolder::new(alloc, 1)?;
+    let (is_ok, was_cut) = cut_within(rt, &folder, &init_line(), call, cut);
+    let is_made = is_there(&folder, FileName::Farm);
+    let has_tape = is_there(&folder, NODE_TAPE);
+    let starts = runs(rt, &folder, &node_line());
+    drop(folder);
+    let is_right = starts == is_made && (is_made || !is_ok) && (has_tape || !is_made);
+    Ok(seen_of(is_right, was_cut))
+}
+
+/// A tape, and what a start leaves of it.
+#[derive(Clone, Copy)]
+struct Started<'a> {
+    tape: &'a [u8],
+    left: &'a [u8],
+}
+
+/// Cuts a start on a tape within a call: the next one succeeds, and leaves of the tape what one
+/// leaves that isn't cut.
+fn cut_start_at<R: Files<File = File> + Clock + Eprint + Net + AllocGlobal>(
+    rt: &R,
+    alloc: Global,
+    started: Started<'_>,
+    call: usize,
+    cut: Cut,
+) -> Result<Seen, AllocError> {
+    let folder = made_folder(rt, alloc, started.tape)?;
+    let (_, was_cut) = cut_within(rt, &folder, &node_line(), call, cut);
+    let starts = runs(rt, &folder, &node_line());
+    let left = tape_in(alloc, &folder);
+    drop(folder);
+    let is_right = starts && left.as_slice() == started.left;
+    drop(left);
+    Ok(seen_of(is_right, was_cut))
+}
+
+/// Appends the verdict on a command that is cut so, once nothing more is to be tried after what was
+/// seen within a call. Returns whether that is so.
+fn verdict(call: usize, cut: Cut, seen: Seen, answer: &mut Transcript) -> bool {
+    match seen {
+        Seen::Right => return false,
+        Seen::Whole if FEW_CALLS < call => answer.text("right"),
+        Seen::Whole => answer.text("too few calls"),
+        Seen::Wrong => {
+            answer.text("wrong after call ");
+            answer.count(call);
         }
     }
-    drop(wanted);
-    MOST_CALLS
+    answer.text(", ");
+    answer.count(cut.kept);
+    answer.text(" kept, ");
+    answer.count(cut.back);
+    answer.line(" back");
+    true
 }
 
-#[test]
-fn an_init_that_is_cut_makes_a_node_or_none(rt: HostRuntime) {
+/// Appends what is seen where `init` is cut so, within each of its calls.
+fn try_inits<R: Files<File = File> + Clock + Eprint + Net + AllocGlobal>(
+    rt: &R,
+    alloc: Global,
+    cut: Cut,
+    answer: &mut Transcript,
+) -> Result<(), AllocError> {
+    for call in 1..MANY_CALLS {
+        let seen = cut_init_at(rt, alloc, call, cut)?;
+        if verdict(call, cut, seen, answer) {
+            return Ok(());
+        }
+    }
+    answer.line("too many calls");
+    Ok(())
+}
+
+/// Appends what is seen where a start is cut so, within each of its calls.
+fn try_starts<R: Files<File = File> + Clock + Eprint + Net + AllocGlobal>(
+    rt: &R,
+    alloc: Global,
+    started: Started<'_>,
+    cut: Cut,
+    answer: &mut Transcript,
+) -> Result<(), AllocError> {
+    for call in 1..MANY_CALLS {
+        let seen = cut_start_at(rt, alloc, started, call, cut)?;
+        if verdict(call, cut, seen, answer) {
+            return Ok(());
+        }
+    }
+    answer.line("too many calls");
+    Ok(())
+}
+
+/// `cut_init`.
+pub(crate) fn cut_init<R: Files<File = File> + Clock + Eprint + Net + AllocGlobal>(
+    rt: &R,
+    asked: CaseInput<'_>,
+    answer: &mut Transcript,
+) -> Answered {
     for kept in 0..3 {
         for back in 0..2 {
-            let calls = cut_init(&rt, kept, back);
-            assert!(&rt; 10 < calls && calls < MOST_CALLS);
+            try_inits(rt, asked.alloc, Cut { kept, back }, answer)?;
         }
     }
+    Ok(())
 }
 
-#[test]
-fn a_start_that_is_cut_is_made_again(rt: HostRuntime) {
-    let whole = tape_bytes(&rt, rt.alloc());
-    let torn = parts(whole.as_slice(), TORN_BYTES).0;
-    for back in 0..2 {
-        for kept in 0..2 {
-            let calls = cut_start(&rt, b"", kept, back);
-            assert!(&rt; 10 < calls && calls < MOST_CALLS);
-            let calls = cut_start(&rt, whole.as_slice(), kept, back);
-            assert!(&rt; 10 < calls && calls < MOST_CALLS);
-            let calls = cut_start(&rt, torn, kept, back);
-            assert!(&rt; 10 < calls && calls < MOST_CALLS);
-        }
-    }
-    drop(whole);
-}
-
-#[test]
-fn a_start_keeps_what_is_published(rt: HostRuntime) {
-    let whole = tape_bytes(&rt, rt.alloc());
-    let left = started_tape(&rt, whole.as_slice());
-    let published = parts(whole.as_slice(), PUBLISHED_AT).1;
-    let kept = parts(left.as_slice(), TRIED_BYTES).1;
-    assert!(&rt; kept.starts_with(published));
+/// `cut_start`.
+pub(crate) fn cut_start<R: Files<File = File> + Clock + Eprint + Net + AllocGlobal>(
+    rt: &R,
+    asked: CaseInput<'_>,
+    answer: &mut Transcript,
+) -> Answered {
+    let left = started_tape(rt, asked.alloc, asked.input)?;
+    let started = Started {
+        tape: asked.input,
+        left: left.as_slice(),
+    };
+    let tried = cut_starts(rt, asked.alloc, started, answer);
     drop(left);
-    drop(whole);
+    Ok(tried?)
+}
+
+/// Appends what is seen of each power cut.
+fn cut_starts<R: Files<File = File> + Clock + Eprint + Net + AllocGlobal>(
+    rt: &R,
+    alloc: Global,
+    started: Started<'_>,
+    answer: &mut Transcript,
+) -> Result<(), AllocError> {
+    for kept in 0..2 {
+        for back in 0..2 {
+            try_starts(rt, alloc, started, Cut { kept, back }, answer)?;
+        }
+    }
+    Ok(())
+}
+
+/// `started`.
+pub(crate) fn left_tape<R: Files<File = File> + Clock + Eprint + Net + AllocGlobal>(
+    rt: &R,
+    asked: CaseInput<'_>,
+    answer: &mut Transcript,
+) -> Answered {
+    let left = started_tape(rt, asked.alloc, asked.input)?;
+    answer.bytes(left.get(TRIED_BYTES..).unwrap_or(&[]));
+    drop(left);
+    Ok(())
 }

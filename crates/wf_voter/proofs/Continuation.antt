@@ -1,5 +1,5 @@
 -- Whatever is done to a process, its run goes on.
-use Rattle.std.proofs.Common.{◌≡◌, ◌⊎◌, ℕ, ◌<◌, ◌≤◌, Bool, true, false, List, [], ◌∷◌, ◌++◌, length, Option, Some, None, Result, refl, sym, subst, ap, ◌∙◌, inl, inr, append-nil, append_assoc}
+use Rattle.std.proofs.Common.{◌≡◌, ◌⊎◌, ℕ, ◌<◌, ◌≤◌, Bool, true, false, List, [], ◌∷◌, ◌++◌, Option, Some, None, Result, refl, sym, subst, ap, ◌∙◌, inl, inr, append-nil, append_assoc}
 use Rattle.std.proofs.lemmas.Bool.{cases_Bool, cases_lt}
 use Rattle.std.specs.Prelude.{if◌then◌else◌}
 use Rattle.wf_wire.specs.Post.{logged}
@@ -325,9 +325,6 @@ module _ {T : Type 0} (tapes : Tape T) where
     kept = λ heard is. second.kept heard (first.kept heard is);
   }
 
-  pub thrice : (one two three four : Voter T tapes) → Continues tapes one two → Continues tapes two three → Continues tapes three four → Continues tapes one four
-  thrice one two three four first second third = twice one two four first (twice two three four second third)
-
   pub same_voter : (before after : Voter T tapes) → after ≡ before → Continues tapes before after
   same_voter before after same = subst (λ (v : Voter T tapes). Continues tapes before v) (sym same) (still before)
 
@@ -394,19 +391,6 @@ module _ {T : Type 0} (tapes : Tape T) where
     membership = member;
     learnt = λ is. next_chosen m peer stream before.process result after.process (says is) receives;
     kept = kept_taking before after m peer stream result kept next receives;
-  }
-
-  -- the gate alone
-  pub gated : (before after : Voter T tapes) → (before.gate ≡ gates.Suspended → after.gate ≡ gates.Suspended) → after.is_outvoted ≡ before.is_outvoted → after.membership ≡ before.membership → after.kept ≡ before.kept
-      → after.process ≡ before.process → Continues tapes before after
-  gated before after stays same member kept is = record {
-    process = unchanged before.process after.process is;
-    suspended = λ suspended. record { gate = stays suspended; actor = ap (λ (p : Process T tapes). p.actor) is };
-    outvoted = same;
-    asked = λ _. ap (λ (p : Process T tapes). besides_asks p.actor.given.items) is;
-    membership = member;
-    learnt = λ _. learnt_same before.process.actor after.process.actor (ap (λ (p : Process T tapes). p.actor) is);
-    kept = kept_as before after kept is;
   }
 
   -- what waits alone
