@@ -1,16 +1,16 @@
 #!/usr/bin/env python3
-"""Makes each allocation of the built programs of cases, and of the tests, fail in turn.
+"""Makes each allocation of the built programs of cases fail in turn.
 
     python3 tools/fail_allocations.py                           those of CRATES below
-    python3 tools/fail_allocations.py wf_test_map               these alone
+    python3 tools/fail_allocations.py wf_test_map               this alone
     python3 tools/fail_allocations.py wf_test_map --case 503    the cases whose names hold this text
 
-Run it after `rt ci`, or after `rt run < stdin` in each program of cases and `rt test` in wf_test_failures.
-Wants cc, and a C library that is linked dynamically.
+Run it after `rt ci`, or after `rt run < stdin` in each program of cases. Wants cc, and a C library that is
+linked dynamically.
 
-A program of cases gets each case of its `stdin`, and each line `for` of one, as a table of its own. At each
-allocation it forks: in the child the allocation fails, and the child goes on to its end. What the child
-prints has to be one of these:
+A program gets each case of its `stdin`, and each line `for` of one, as a table of its own. At each allocation
+it forks: in the child the allocation fails, and the child goes on to its end. What the child prints has to be
+one of these:
 
     ended         nothing, with status 1: the allocation failure was returned, and so the run ended
     unread        an error of the table, where the allocation is one by which the table is read
@@ -22,15 +22,14 @@ prints has to be one of these:
                   responses are the expected ones
     named         the answer is the expected one but for the allocation failure, which it counts or names, or
                   where it ends
+    again         the answer is another one, but the expected one where the case is asked again in its folder
 
-A test is run once for each of its allocations, each time in an empty folder. Tests repeat a call after an
-allocation failure, so each passes whichever allocation fails, if the failed call changed nothing, but where
-it can't make or read its own bytes, and says so. Those of tapes in files, of journals over disks that fail,
-two of broken connections, and two that read what a server left, make each call once: they are run and not
-judged.
+Of wf_test_commands those about files, connections, clocks and limits are tried, the questions of
+wf_test_failures. A fork would share those: so such a case runs once for each of its allocations, each time in
+an empty folder.
 
-Cases with more allocations than --most are tried at the first half of that number, and then at evenly spaced
-ones. The status is 1 where anything else was printed.
+Cases with more allocations than --most, or of wf_test_commands than 500, are tried at the first half of that
+number, and then at evenly spaced ones. The status is 1 where anything else was printed.
 """
 
 import collections
@@ -45,14 +44,12 @@ from concurrent.futures import ThreadPoolExecutor
 from farmkit.command import parser as parser_of
 from farmkit.repository import TOP
 
-CRATES = ["wf_test_map", "wf_test_failures"]
-# tests that make each call once, and so fail where an allocation does
-ONCE = ("tape::", "disk::", "connections::a_broken_connection_is_not_used_again",
-        "connections::messages_cross_before_and_after_one_that_is_cut_off",
-        "serve::a_start_where_port_or_folder_is_taken_changes_no_tape",
-        "serve::a_start_on_a_folder_that_is_not_the_farms_changes_no_file")
-# how a test ends that can't make or read its own bytes
-OWN = re.compile(r"^[a-z ]+: (AllocError|Kind\(OutOfMemory\))$", re.MULTILINE)
+CRATES = ["wf_test_map", "wf_test_commands"]
+# the questions of which cases run once for each allocation; of wf_test_commands no others are tried
+REPEATED = re.compile(r'"(\w+)" =>').findall(
+    (TOP / "crates/wf_test_failures/src/questions.rt").read_text())
+# how many runs such a case has at most
+MOST_RUNS = 500
 EDGE = ("hear", "serve", "refuse", "serve_alone", "serve_published", "serve_cached")
 # their input begins with a mapfile
 PUBLISHED = ("serve_published", "serve_cached")
@@ -171,8 +168,8 @@ class Case:
         self.question = self.ask.split()[1]
         self.dropped = {}
 
-    def run(self, lines, **environment):
-        return subprocess.run([self.program], input=self.table.alone(lines),
+    def run(self, lines, folder=None, **environment):
+        return subprocess.run([self.program], input=self.table.alone(lines), cwd=folder,
                               env={**os.environ, **environment}, capture_output=True)
 
     def blocks_without(self, index):
@@ -251,10 +248,37 @@ class Case:
             return "wrong"
         return self.verdict_of_answer(*map(unescaped, differences[0]))
 
+    def run_twice(self, **environment):
+        """What a run is, and it; where an answer is another one, the case is asked again in its folder."""
+        with tempfile.TemporaryDirectory() as folder:
+            ran = self.run(self.lines, folder, **environment)
+            if ran.returncode == 0:
+                return "as always", ran
+            if ran.returncode != 1:
+                return "wrong", ran
+            if not ran.stdout:
+                return "ended", ran
+            again = self.run(self.lines, folder)
+            return ("wrong", again) if again.returncode else ("again", ran)
+
+    def try_repeated(self, library, count, most):
+        first, every = tried_of(count, min(most, MOST_RUNS))
+        found, wrong = collections.Counter(), []
+        for number in range(1, count + 1):
+            if number <= first or number % every == 0:
+                what, ran = self.run_twice(LD_PRELOAD=library, FAIL_ALLOCATION=str(number))
+                found[what] += 1
+                if what == "wrong":
+                    wrong.append((number, b"status %d " % ran.returncode + ran.stdout[-2000:]))
+        return count, found, wrong
+
     def try_each(self, library, most):
         counting = {"LD_PRELOAD": library, "COUNT_ALLOCATIONS": "1"}
-        counted = self.run(self.lines, **counting)
+        with tempfile.TemporaryDirectory() as folder:
+            counted = self.run(self.lines, folder, **counting)
         count, usual = int(counted.stderr.split()[-1]), counted.stdout
+        if self.question in REPEATED and not counted.returncode:
+            return self.try_repeated(library, count, most)
         unasked = [line if line != self.ask else "ask nothing" for line in self.lines]
         reading = int(self.run(unasked, **counting).stderr.split()[-1])
         if counted.returncode:
@@ -289,64 +313,31 @@ def try_cases(crate, library, options):
     table = Table(crate / "stdin")
     program = crate / "out" / crate.name
     cases = [Case(program, table, *it) for it in table.cases if options.case in it[0]]
+    if crate.name == "wf_test_commands":
+        cases = [it for it in cases if it.question in REPEATED]
     allocations, found, partly = 0, collections.Counter(), 0
     with ThreadPoolExecutor(options.jobs) as pool:
         tried = pool.map(lambda case: case.try_each(library, options.most), cases)
         for case, (count, verdicts, wrong) in zip(cases, tried):
             allocations += count
             found += verdicts
-            partly += count > options.most
+            partly += verdicts.total() < count
             if options.each:
                 print(f"  {case.name}: {count} allocations, {dict(verdicts)}", flush=True)
             for number, output in wrong[:3]:
                 print(f"  {case.name}: allocation {number}: {output[:2000]!r}", flush=True)
     told = ", ".join(f"{found[it]} {it}"
-                     for it in ("ended", "unread", "as always", "503", "cut", "named", "wrong"))
+                     for it in ("ended", "unread", "as always", "503", "cut", "named", "again", "wrong"))
     print(f"{crate.name}: {len(cases)} cases, {allocations} allocations ({partly} cases tried in part), "
           f"{found.total()} failures: {told}", flush=True)
     return not found["wrong"]
 
 
-def run_test(tests, name, library, **environment):
-    environment = {**os.environ, "LD_PRELOAD": library, **environment}
-    with tempfile.TemporaryDirectory() as folder:
-        return subprocess.run([tests, name], cwd=folder, env=environment, capture_output=True, text=True)
-
-
-def try_tests(crate, library, options):
-    tests = str(crate / "out" / f"{crate.name}_tests")
-    listed = subprocess.run([tests, "--list"], capture_output=True, text=True, check=True).stdout
-    names = [line.rsplit(": test", 1)[0] for line in listed.splitlines() if line.endswith(": test")]
-    names = [name for name in names if options.case in name]
-    allocations = total = bad = unjudged = 0
-    for name in names:
-        count = int(run_test(tests, name, library, COUNT_ALLOCATIONS="1").stderr.split()[-1])
-        first, every = tried_of(count, options.most)
-        numbers = [n for n in range(1, count + 1) if n <= first or n % every == 0]
-        with ThreadPoolExecutor(options.jobs) as pool:
-            runs = pool.map(lambda n: run_test(tests, name, library, FAIL_ALLOCATION=str(n)), numbers)
-            failed = [n for n, ran in zip(numbers, runs)
-                      if ran.returncode and not OWN.search(ran.stdout + ran.stderr)]
-        is_judged = not name.startswith(ONCE)
-        if (failed and is_judged) or options.each:
-            print(f"  {name}: {count} allocations, {len(failed)} failed tests {failed[:5] or ''}".rstrip(),
-                  flush=True)
-        allocations += count
-        total += len(numbers)
-        bad += len(failed) * is_judged
-        unjudged += len(numbers) * (not is_judged)
-    told = (f"{bad} failed tests; {unjudged} of the failures in tests that make each call once, which aren't "
-            "judged")
-    print(f"{crate.name}: {len(names)} tests, {allocations} allocations, {total} failures: {told}",
-          flush=True)
-    return not bad
-
-
 def main():
     parser = parser_of(__doc__)
     parser.add_argument("crates", nargs="*", default=CRATES)
-    parser.add_argument("--case", default="", help="only cases and tests whose name holds this text")
-    parser.add_argument("--each", action="store_true", help="a line for each case and test")
+    parser.add_argument("--case", default="", help="only cases whose name holds this text")
+    parser.add_argument("--each", action="store_true", help="a line for each case")
     parser.add_argument("--jobs", type=int, default=os.cpu_count(), help="how many run side by side")
     parser.add_argument("--most", type=int, default=10_000,
                         help="how many failures of one case are tried at most")
@@ -358,8 +349,7 @@ def main():
         is_right = True
         for name in options.crates:
             crate = TOP / "crates" / pathlib.Path(name).name
-            tried = try_cases if (crate / "stdin").exists() else try_tests
-            is_right = tried(crate, library, options) and is_right
+            is_right = try_cases(crate, library, options) and is_right
     return 0 if is_right else 1
 
 

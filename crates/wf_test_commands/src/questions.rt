@@ -7,7 +7,7 @@ use std::time::Clock;
 use wf_farm::Copies;
 use wf_link::Connection;
 use wf_test_simulation::{ask_play, ask_plays};
-use wf_test_table::{Answered, CaseInput, Questions, Transcript};
+use wf_test_table::{Answered, CaseInput, Questions, Transcript, Unanswered};
 
 /// All questions of this program. It opens files of this machine, and connections of it to itself.
 #[derive(Drop)]
@@ -41,7 +41,12 @@ impl<
             "script_cut" => played::script_cut(asked, answer),
             "script_losing" => played::script_losing(asked, answer),
             "script_wired" => played::script(asked, &mut Connection::new(self.0), answer),
-            question => wf_test_store::ask(self.0, question, asked, answer),
+            question => match wf_test_store::ask(self.0, question, asked, answer) {
+                Err(Unanswered::UnknownQuestion) => {
+                    wf_test_failures::ask(self.0, question, asked, answer)
+                }
+                answered => answered,
+            },
         }
     }
 }

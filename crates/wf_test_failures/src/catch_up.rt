@@ -1,80 +1,63 @@
 //! A node that missed maps catches up, whatever their number.
-
-use crate::value::{MAP_A, map};
+use crate::values::MAP_A;
 use std::alloc::Global;
-use std::process::Abort;
 use wf_catch_up::catch_up;
 use wf_farm::{Action, Event, Farm};
+use wf_test_calls::canon_of;
+use wf_test_table::{Answered, CaseInput, CaseWords, Transcript, Unanswered};
 
-/// The last published sequences of the three nodes of a farm; None of one that doesn't run.
-type LastPublished = [Option<u16>; 3];
-
-fn published_by(farm: &Farm, number: usize) -> Option<u16> {
-    match farm.node(number) {
-        Some(node) => Some(node.published().number()),
-        None => None,
+/// Appends the last published sequences of the three nodes, `-` for one that doesn't run.
+fn write_published(farm: &Farm, answer: &mut Transcript) {
+    for number in 0..3 {
+        match farm.node(number) {
+            Some(node) => answer.value(node.published().number()),
+            None => answer.text("-"),
+        }
+        answer.text(" ");
     }
 }
 
-fn published(farm: &Farm) -> LastPublished {
-    [
-        published_by(farm, 0),
-        published_by(farm, 1),
-        published_by(farm, 2),
-    ]
-}
-
-/// Whether node 0 proposed a map, and the messages could be delivered.
-fn is_published(rt: &impl Abort, alloc: Global, farm: &mut Farm) -> bool {
-    let events = [Event::Act(0, Action::Propose(map(rt, alloc, MAP_A)))];
+/// Node 0 proposes a map, and the messages are delivered. Whether that could be done.
+fn publishes(alloc: Global, farm: &mut Farm) -> Result<bool, Unanswered> {
+    let events = [Event::Act(0, Action::Propose(canon_of(alloc, MAP_A)?))];
     let proposed = farm.run(alloc, &events).is_ok();
     drop(events);
-    proposed && farm.pump(alloc, &[]).is_ok()
+    Ok(proposed && farm.pump(alloc, &[]).is_ok())
 }
 
-/// Whether so many maps were published while node 2 was stopped, which runs again then.
-fn is_missed(rt: &impl Abort, alloc: Global, farm: &mut Farm, count: u16) -> bool {
+/// So many maps are published while node 2 is stopped, which runs again then. Whether that could be
+/// done.
+fn misses(alloc: Global, farm: &mut Farm, count: u16) -> Result<bool, Unanswered> {
     let mut done = farm.run(alloc, &[Event::Stop(2)]).is_ok();
     for _ in 0..count {
-        done = done && is_published(rt, alloc, farm);
+        done = publishes(alloc, farm)? && done;
     }
-    done && farm.run(alloc, &[Event::Restart(2)]).is_ok()
+    Ok(farm.run(alloc, &[Event::Restart(2)]).is_ok() && done)
 }
 
-/// What the nodes have published once node 2 has missed so many maps, and what after they caught
-/// up. None if an allocation fails.
-fn catch_up_counts(
-    rt: &impl Abort,
-    alloc: Global,
-    count: u16,
-) -> Option<(LastPublished, LastPublished)> {
-    let Ok(mut farm) = Farm::new(alloc, 3) else {
-        return None;
-    };
-    let is_missed = is_missed(rt, alloc, &mut farm, count);
-    let before = published(&farm);
-    let is_level = catch_up(alloc, &mut farm).is_ok();
-    let after = published(&farm);
-    drop(farm);
-    if is_missed && is_level {
-        Some((before, after))
+/// Appends what the nodes have published once node 2 has missed so many maps, and what after they
+/// caught up.
+fn write_both(alloc: Global, farm: &mut Farm, count: u16, answer: &mut Transcript) -> Answered {
+    let is_missed = misses(alloc, farm, count)?;
+    write_published(farm, answer);
+    let is_level = catch_up(alloc, farm).is_ok();
+    answer.text("then ");
+    write_published(farm, answer);
+    answer.line(if is_missed && is_level {
+        "done"
     } else {
-        None
-    }
+        "failed"
+    });
+    Ok(())
 }
 
-/// Whether a node that missed so many maps has all of them afterwards. If an allocation failed,
-/// everything is repeated once.
-fn is_level(rt: &impl Abort, alloc: Global, count: u16) -> bool {
-    let all = Some(count);
-    let expected = Some(([all, all, Some(0)], [all, all, all]));
-    catch_up_counts(rt, alloc, count) == expected || catch_up_counts(rt, alloc, count) == expected
-}
-
-/// No map, some, and as many as there may be.
-#[test]
-fn a_node_that_missed_maps_catches_up(rt: HostRuntime) {
-    for count in [0, 40, 4_096] {
-        assert!(&rt; is_level(&rt, rt.alloc(), count), "{count} maps");
-    }
+/// `missed`: a node that missed maps has all of them afterwards.
+pub(crate) fn missed(asked: CaseInput<'_>, answer: &mut Transcript) -> Answered {
+    let count = CaseWords::of(asked.input)?.short()?;
+    let Ok(mut farm) = Farm::new(asked.alloc, 3) else {
+        return Err(Unanswered::Memory);
+    };
+    let written = write_both(asked.alloc, &mut farm, count, answer);
+    drop(farm);
+    written
 }

@@ -1,37 +1,17 @@
 //! Messages that cross a connection of this machine to itself, whose ends note what passes, and
-//! connections that can't be opened or take nothing. What met an allocation failure is repeated
-//! once.
-use crate::value::{MAP_A, map, slot};
+//! connections that can't be opened or take nothing.
+use crate::values::{MAP_A, slot, unanswered};
 use std::alloc::Global;
 use std::cell::Cell;
 use std::io;
 use std::io::{ErrorKind, Read, Write};
 use std::net::{Ipv4Addr, Net, Shutdown, SocketAddr, TcpListener, TcpStream};
-use std::process::Abort;
 use wf_codec::{Message, encode};
 use wf_farm::{Carrier, CarrierFault};
 use wf_link::{Connection, cross};
 use wf_stream::Stream;
-
-/// The encoding of the Chosen of map `a` for slot 1 up to the text: version 2, kind 6, the length
-/// of the rest, the slot.
-const BEFORE_A: &[u8] = &[2, 6, 0, 0, 0, 166, 0, 1];
-
-/// The beginning of the encoding whose text has 65,536 bytes.
-const BEFORE_LONGEST: &[u8] = &[2, 6, 0, 1, 0, 2, 0, 1];
-
-/// The longest canonical text up to its features, with a name of 60 letters.
-const LONGEST_HEAD: &[u8] =
-    b"MAP\nNAME \"aaaaaaaaaaaaaaaaaaaaaaaaaaaaaaaaaaaaaaaaaaaaaaaaaaaaaaaaaaaa\"\nEXTENT 0 0 4 4\nPROJECTION\n\"init=epsg:4326\"\nEND\nWEB\nMETADATA\n\"wms_title\" \"a\"\n\"wms_abstract\" \"\"\n\"wms_onlineresource\" \"http://localhost/wms?\"\nEND\nEND\nLAYER\nNAME \"p\"\nTYPE POINT\nCLASSITEM \"\"\nLABELITEM \"\"\nPROCESSING \"ITEMS=\"\nMETADATA\n\"wms_title\" \"p\"\nEND\n";
-
-/// One of its features.
-const FEATURE: &[u8] = b"FEATURE\nITEMS \"\"\nTEXT \"\"\nPOINTS\n0 0\nEND\nEND\n";
-
-/// The number of its features.
-const FEATURES: usize = 1482;
-
-/// The most bytes that are written before as many are read.
-const MOST_OF_PIECE: usize = 4_096;
+use wf_test_calls::canon_of;
+use wf_test_table::{Answered, CaseInput, Transcript, Unanswered};
 
 /// An end of a connection, which notes the bytes that pass, and the longest buffer of a call.
 #[derive(Drop)]
@@ -74,6 +54,66 @@ impl<'s> Write for Noting<'s> {
     }
 }
 
+/// Appends what passed an end: the bytes before a text, or that it isn't this text.
+fn write_passed(title: &str, noting: &Noting<'_>, text: &[u8], answer: &mut Transcript) {
+    answer.text(title);
+    match noting.passed.as_slice().strip_suffix(text) {
+        Some(front) => {
+            for byte in front {
+                answer.text(" ");
+                answer.value(*byte);
+            }
+            answer.line(" and the text");
+        }
+        None => answer.line(" something else"),
+    }
+}
+
+/// Appends what has come of a message. It isn't used any more.
+fn write_arrived(
+    alloc: Global,
+    arrived: Result<Message, CarrierFault>,
+    bytes: &[u8],
+    answer: &mut Transcript,
+) {
+    match arrived {
+        Ok(message) => {
+            let mut encoding = Vec::new(alloc);
+            let is_same = encode(&message, &mut encoding).is_ok() && encoding.as_slice() == bytes;
+            drop(encoding);
+            drop(message);
+            answer.line(if is_same { "it" } else { "another one" });
+        }
+        Err(fault) => {
+            answer.value(fault);
+            answer.line("");
+        }
+    }
+}
+
+/// Appends by which bytes a message crosses a connection, and what comes out.
+fn write_crossed(
+    alloc: Global,
+    message: &Message,
+    (sender, receiver): (TcpStream, TcpStream),
+    text: &[u8],
+    answer: &mut Transcript,
+) {
+    let mut out = Stream::new(Noting::new(alloc, &sender));
+    let mut back = Stream::new(Noting::new(alloc, &receiver));
+    let arrived = cross(alloc, message, &mut out, &mut back);
+    write_passed("sent", out.inner(), text, answer);
+    write_passed("received", back.inner(), text, answer);
+    answer.text("at most ");
+    answer.count(out.inner().longest);
+    answer.line(" at once");
+    write_arrived(alloc, arrived, &out.inner().passed, answer);
+    drop(out);
+    drop(back);
+    drop(sender);
+    drop(receiver);
+}
+
 /// The two ends of a connection: what the first sends, the second receives.
 fn ends<R: Net<Listener = TcpListener, Stream = TcpStream>>(
     rt: &R,
@@ -84,83 +124,28 @@ fn ends<R: Net<Listener = TcpListener, Stream = TcpStream>>(
     Ok((sender, receiver))
 }
 
-/// Whether the message has this encoding. It isn't used any more.
-fn is_encoded(alloc: Global, message: Message, bytes: &[u8]) -> bool {
-    let mut encoding = Vec::new(alloc);
-    let is_same = encode(&message, &mut encoding).is_ok() && encoding.as_slice() == bytes;
-    drop(encoding);
-    drop(message);
-    is_same
-}
-
-/// Whether exactly these bytes passed both ends, in pieces of at most 4,096.
-fn have_passed(out: &Noting<'_>, back: &Noting<'_>, bytes: &[u8]) -> bool {
-    out.passed.as_slice() == bytes
-        && back.passed.as_slice() == bytes
-        && out.longest <= MOST_OF_PIECE
-}
-
-/// Whether the message that has this encoding crosses a connection by these bytes, and comes out.
-fn is_crossed(
-    alloc: Global,
-    message: &Message,
-    (sender, receiver): (TcpStream, TcpStream),
-    bytes: &[u8],
-) -> bool {
-    let mut out = Stream::new(Noting::new(alloc, &sender));
-    let mut back = Stream::new(Noting::new(alloc, &receiver));
-    let is_same = match cross(alloc, message, &mut out, &mut back) {
-        Ok(arrived) => is_encoded(alloc, arrived, bytes),
-        Err(_) => false,
-    };
-    let is_passed = have_passed(out.inner(), back.inner(), bytes);
-    drop(out);
-    drop(back);
-    drop(sender);
-    drop(receiver);
-    is_same && is_passed
-}
-
 /// The Chosen of the map of a canonical text for slot 1.
-fn chosen(rt: &impl Abort, alloc: Global, text: &[u8]) -> Message {
-    Message::Chosen(slot(rt, 1), map(rt, alloc, text))
+fn chosen(alloc: Global, text: &[u8]) -> Result<Message, Unanswered> {
+    Ok(Message::Chosen(slot(1)?, canon_of(alloc, text)?))
 }
 
-/// The longest canonical text, of 65,536 bytes, after the bytes before it.
-fn longest_after(rt: &impl Abort, alloc: Global, before: &[u8]) -> Vec<u8> {
-    let mut bytes = Vec::with_capacity(alloc, 65_544).expect(rt, "memory");
-    bytes.extend_from_slice(before).expect(rt, "memory");
-    bytes.extend_from_slice(LONGEST_HEAD).expect(rt, "memory");
-    for _ in 0..FEATURES {
-        bytes.extend_from_slice(FEATURE).expect(rt, "memory");
-    }
-    bytes.extend_from_slice(b"END\nEND\n").expect(rt, "memory");
-    bytes
-}
-
-/// The encoding of the Chosen of map `a`.
-fn encoding_of_a(rt: &impl Abort, alloc: Global) -> Vec<u8> {
-    let mut bytes = Vec::new(alloc);
-    bytes.extend_from_slice(BEFORE_A).expect(rt, "memory");
-    bytes.extend_from_slice(MAP_A).expect(rt, "memory");
-    bytes
-}
-
-#[test]
-fn a_long_message_crosses_in_pieces_of_4096_bytes_at_most(rt: HostRuntime) {
-    let alloc = rt.alloc();
-    let text = longest_after(&rt, alloc, b"");
-    assert!(&rt; text.len() == 65_536);
-    let message = chosen(&rt, alloc, &text);
-    let bytes = longest_after(&rt, alloc, BEFORE_LONGEST);
-    let first = ends(&rt).expect(&rt, "a connection");
-    let again = ends(&rt).expect(&rt, "a connection");
-    assert!(&rt;
-        is_crossed(alloc, &message, first, &bytes) || is_crossed(alloc, &message, again, &bytes)
-    );
-    drop(text);
+/// `crossed`: version 2, kind 6, the length of the rest, the slot and the text cross a connection
+/// in pieces.
+pub(crate) fn crossed<R: Net<Listener = TcpListener, Stream = TcpStream>>(
+    rt: &R,
+    asked: CaseInput<'_>,
+    answer: &mut Transcript,
+) -> Answered {
+    let message = chosen(asked.alloc, asked.input)?;
+    let written = match ends(rt) {
+        Ok(ends) => {
+            write_crossed(asked.alloc, &message, ends, asked.input, answer);
+            Ok(())
+        }
+        Err(error) => Err(unanswered(error)),
+    };
     drop(message);
-    drop(bytes);
+    written
 }
 
 /// A network on which no listener can be bound.
@@ -208,73 +193,113 @@ impl<'r, R: Net<Listener = TcpListener, Stream = TcpStream>> Net for MuteOnce<'r
     }
 }
 
-/// Whether a carrier loses the message.
-fn is_lost<C: Carrier>(alloc: Global, carrier: &mut C, message: &Message) -> bool {
-    match carrier.carry(alloc, message) {
-        Ok(arrived) => {
-            drop(arrived);
-            false
+/// The encoding of the Chosen of map `a`.
+fn encoding_of_a(alloc: Global) -> Transcript {
+    let mut bytes = Transcript::new(alloc);
+    bytes.bytes(&[2, 6, 0, 0, 0, 166, 0, 1]);
+    bytes.bytes(MAP_A);
+    bytes
+}
+
+/// Appends what a carrier brings of a message.
+fn write_carried<C: Carrier>(
+    alloc: Global,
+    carrier: &mut C,
+    message: &Message,
+    answer: &mut Transcript,
+) -> Answered {
+    let bytes = encoding_of_a(alloc);
+    let arrived = carrier.carry(alloc, message);
+    let written = match bytes.finished_text() {
+        Ok(bytes) => {
+            write_arrived(alloc, arrived, bytes, answer);
+            Ok(())
         }
-        Err(fault) => matches!(fault, CarrierFault::Lost),
+        Err(_) => {
+            drop(arrived);
+            Err(Unanswered::Memory)
+        }
+    };
+    drop(bytes);
+    written
+}
+
+/// Appends what becomes of a message that a carrier cuts off.
+fn write_cut<C: Carrier>(
+    alloc: Global,
+    carrier: &mut C,
+    message: &Message,
+    answer: &mut Transcript,
+) {
+    match carrier.cut(alloc, message, 100) {
+        Ok(()) => answer.line("cut off"),
+        Err(fault) => {
+            answer.value(fault);
+            answer.line("");
+        }
     }
 }
 
-/// Whether a carrier brings the message that has this encoding.
-fn is_brought<C: Carrier>(alloc: Global, carrier: &mut C, message: &Message, bytes: &[u8]) -> bool {
-    match carrier.carry(alloc, message) {
-        Ok(arrived) => is_encoded(alloc, arrived, bytes),
-        Err(_) => false,
-    }
-}
-
-#[test]
-fn a_message_is_lost_where_no_connection_opens(rt: HostRuntime) {
-    let alloc = rt.alloc();
-    let message = chosen(&rt, alloc, MAP_A);
+/// `unopened`: a message is lost, also one that is to be cut off.
+pub(crate) fn unopened(asked: CaseInput<'_>, answer: &mut Transcript) -> Answered {
+    let message = chosen(asked.alloc, MAP_A)?;
     let mut connection = Connection::new(&Unbound);
-    assert!(&rt; is_lost(alloc, &mut connection, &message));
-    assert!(&rt;
-        matches!(
-            connection.cut(alloc, &message, 100),
-            Err(CarrierFault::Lost)
-        )
-    );
+    let carried = write_carried(asked.alloc, &mut connection, &message, answer);
+    write_cut(asked.alloc, &mut connection, &message, answer);
     drop(connection);
     drop(message);
+    carried
 }
 
-/// The messages after it cross one new connection.
-#[test]
-fn a_broken_connection_is_not_used_again(rt: HostRuntime) {
-    let alloc = rt.alloc();
-    let message = chosen(&rt, alloc, MAP_A);
-    let bytes = encoding_of_a(&rt, alloc);
+/// Appends what a carrier brings of a message that is sent so often.
+fn write_each<C: Carrier>(
+    alloc: Global,
+    carrier: &mut C,
+    message: &Message,
+    times: usize,
+    answer: &mut Transcript,
+) -> Answered {
+    for _ in 0..times {
+        write_carried(alloc, carrier, message, answer)?;
+    }
+    Ok(())
+}
+
+/// `broken`: a connection that takes nothing is not used again, and the messages after it cross one
+/// new connection.
+pub(crate) fn broken<R: Net<Listener = TcpListener, Stream = TcpStream>>(
+    rt: &R,
+    asked: CaseInput<'_>,
+    answer: &mut Transcript,
+) -> Answered {
+    let message = chosen(asked.alloc, MAP_A)?;
     let network = MuteOnce {
-        rt: &rt,
+        rt,
         connections: Cell::new(0),
     };
     let mut connection = Connection::new(&network);
-    assert!(&rt; is_lost(alloc, &mut connection, &message));
-    assert!(&rt; is_brought(alloc, &mut connection, &message, &bytes));
-    assert!(&rt; is_brought(alloc, &mut connection, &message, &bytes));
-    assert!(&rt; network.connections.get() == 2);
+    let carried = write_each(asked.alloc, &mut connection, &message, 3, answer);
     drop(connection);
+    answer.value(network.connections.get());
+    answer.line(" connections");
     drop(network);
     drop(message);
-    drop(bytes);
+    carried
 }
 
-#[test]
-fn messages_cross_before_and_after_one_that_is_cut_off(rt: HostRuntime) {
-    let alloc = rt.alloc();
-    let message = chosen(&rt, alloc, MAP_A);
-    let bytes = encoding_of_a(&rt, alloc);
-    let mut connection = Connection::new(&rt);
-    assert!(&rt; is_brought(alloc, &mut connection, &message, &bytes));
-    assert!(&rt; is_brought(alloc, &mut connection, &message, &bytes));
-    assert!(&rt; connection.cut(alloc, &message, 100).is_ok());
-    assert!(&rt; is_brought(alloc, &mut connection, &message, &bytes));
+/// `cut_off`: messages cross before and after one that is cut off.
+pub(crate) fn cut_off<R: Net<Listener = TcpListener, Stream = TcpStream>>(
+    rt: &R,
+    asked: CaseInput<'_>,
+    answer: &mut Transcript,
+) -> Answered {
+    let message = chosen(asked.alloc, MAP_A)?;
+    let mut connection = Connection::new(rt);
+    let before = write_each(asked.alloc, &mut connection, &message, 2, answer);
+    write_cut(asked.alloc, &mut connection, &message, answer);
+    let after = write_each(asked.alloc, &mut connection, &message, 1, answer);
     drop(connection);
     drop(message);
-    drop(bytes);
+    before?;
+    after
 }

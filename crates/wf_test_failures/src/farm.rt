@@ -1,23 +1,28 @@
-//! Three new nodes agree on a first map.
+//! Deliveries to the nodes of a farm: those that a first map takes, and more than a list may have.
 ghost use Rattle.std.specs.Prelude.{◌≡◌, ◌<◌, ◌≤◌, IfSome};
 
-use crate::value::{MAP_A, map};
+use crate::values::{MAP_A, slot};
 use std::alloc::Global;
-use std::process::Abort;
-use wf_ballot::{NodeId, Slot};
+use wf_ballot::NodeId;
 use wf_canon::Canon;
 use wf_codec::Message;
 use wf_delivery::{Pumped, deliver_all};
 use wf_node::{Input, Node};
 use wf_tape::MemoryTape;
+use wf_test_calls::canon_of;
+use wf_test_table::{Answered, CaseInput, CaseWords, Transcript, Unanswered};
 
-/// Each message is delivered to each node: the Prepare, three Promises, the Accept, three Accepted
-/// and the Chosen.
-const FIRST_PUBLISH: Pumped = Pumped {
-    deliveries: 27,
-    lost: 0,
-    stopped: false,
-};
+/// Appends the result of deliveries.
+fn write_pumped(pumped: Pumped, answer: &mut Transcript) {
+    answer.count(pumped.deliveries);
+    answer.text(" deliveries, ");
+    answer.count(pumped.lost);
+    answer.line(if pumped.stopped {
+        " lost, stopped"
+    } else {
+        " lost"
+    });
+}
 
 /// A new node of so many.
 fn node(alloc: Global, number: u8, of: u8) -> Option<Node<MemoryTape>>
@@ -71,37 +76,49 @@ fn receive(
 }
 
 /// The result for a map that node 0 of three new ones proposes. None if an allocation fails.
-fn published(rt: &impl Abort, alloc: Global) -> Option<(Pumped, bool)> {
-    let mut first = node(alloc, 0, 3)?;
+fn published(alloc: Global, map: Canon) -> Option<(Pumped, bool)> {
+    let Some(mut first) = node(alloc, 0, 3) else {
+        drop(map);
+        return None;
+    };
+    let prepare = propose(alloc, &mut first, map);
     let Some(second) = node(alloc, 1, 3) else {
         drop(first);
+        drop(prepare);
         return None;
     };
     let Some(third) = node(alloc, 2, 3) else {
         drop(first);
         drop(second);
+        drop(prepare);
         return None;
     };
-    let prepare = propose(alloc, &mut first, map(rt, alloc, MAP_A));
     Some(receive(alloc, first, second, third, prepare))
 }
 
-#[test]
-fn three_nodes_publish_a_first_map_by_27_deliveries(rt: HostRuntime) {
-    let expected = Some((FIRST_PUBLISH, true));
-    // If an allocation failed, everything is repeated once.
-    assert!(rt; published(&rt, rt.alloc()) == expected || published(&rt, rt.alloc()) == expected);
+/// `published_first`: each message is delivered to each node: the Prepare, three Promises, the
+/// Accept, three Accepted and the Chosen.
+pub(crate) fn published_first(asked: CaseInput<'_>, answer: &mut Transcript) -> Answered {
+    match published(asked.alloc, canon_of(asked.alloc, MAP_A)?) {
+        Some((pumped, is_published)) => {
+            write_pumped(pumped, answer);
+            answer.line(if is_published {
+                "each node has one map"
+            } else {
+                "a node has none, or more"
+            });
+            Ok(())
+        }
+        None => Err(Unanswered::Memory),
+    }
 }
-
-/// One message more than `deliver_all` makes deliveries.
-const MESSAGES: usize = 100_001;
 
 /// As many requests for the first definition, which no new node answers; fewer if an allocation
 /// fails.
-fn requests(alloc: Global) -> Vec<Message> {
+fn requests(alloc: Global, count: usize) -> Vec<Message> {
     let mut messages = Vec::new(alloc);
-    if let Some(first) = Slot::new(1) {
-        for _ in 0..MESSAGES {
+    if let Ok(first) = slot(1) {
+        for _ in 0..count {
             if messages.push(Message::Ask(first)).is_err() {
                 return messages;
             }
@@ -122,19 +139,13 @@ fn receive_alone(alloc: Global, node: Node<MemoryTape>, messages: Vec<Message>) 
     pumped
 }
 
-/// The result where there is a message more than a list of deliveries may be long.
-fn pump_to_limit(alloc: Global) -> Option<Pumped> {
-    let alone = node(alloc, 0, 1)?;
-    Some(receive_alone(alloc, alone, requests(alloc)))
-}
-
-#[test]
-fn deliveries_stop_at_100000_and_are_reported(rt: HostRuntime) {
-    let expected = Some(Pumped {
-        deliveries: 100_000,
-        lost: 0,
-        stopped: true,
-    });
-    // If an allocation failed, everything is repeated once.
-    assert!(rt; pump_to_limit(rt.alloc()) == expected || pump_to_limit(rt.alloc()) == expected);
+/// `delivered`: 100,000 deliveries are made at most.
+pub(crate) fn delivered(asked: CaseInput<'_>, answer: &mut Transcript) -> Answered {
+    let count = CaseWords::of(asked.input)?.count()?;
+    let Some(alone) = node(asked.alloc, 0, 1) else {
+        return Err(Unanswered::Memory);
+    };
+    let messages = requests(asked.alloc, count);
+    write_pumped(receive_alone(asked.alloc, alone, messages), answer);
+    Ok(())
 }

@@ -1,32 +1,23 @@
-//! Tests that no table of cases can express: files, connections and clocks of this machine, and a
-//! disk whose power is cut.
+//! Questions of test cases about what fails, comes late or reaches a limit: files, connections and
+//! clocks of this machine, nodes that are served there, and a disk whose power is cut. [`ask`]
+//! lists them; `wf_test_commands` has the table.
 //!
-//! It has only tests, so that no other crate is proved together with its tests. Tests whose input
-//! and output are text, including scripts of calls on one value, are data of the programs that read
-//! tables of cases.
+//! Its functions are proved to be safe and to return, and nothing more: what the cases show is in
+//! the table.
 #![tactic(auto)]
 
-#[cfg(test)]
 mod catch_up;
-#[cfg(test)]
 mod connections;
-#[cfg(test)]
+mod crowd;
 mod disk;
-#[cfg(test)]
 mod farm;
-#[cfg(test)]
 mod limits;
-#[cfg(test)]
-mod long_listing;
-#[cfg(test)]
 mod machine;
-#[cfg(test)]
 mod many;
-#[cfg(test)]
-mod record;
-#[cfg(test)]
+mod questions;
+mod records;
 mod serve;
-#[cfg(test)]
 mod tape;
-#[cfg(test)]
-mod value;
+mod values;
+
+pub use questions::ask;

@@ -1,5 +1,5 @@
-//! A machine on which a listener of a test's own is bound, whose clock a test sets, and which looks
-//! after the lock of a folder.
+//! A machine on which a listener of a question's own is bound, whose clock a question sets, and
+//! which looks after the lock of a folder.
 use std::alloc::{Allocator, Global};
 use std::cell::{Cell, RefCell};
 use std::fmt::Display;
@@ -9,10 +9,11 @@ use std::net::{IpAddr, Ipv4Addr, Net, SocketAddr, TcpListener, TcpStream};
 use std::rt::{Clock, Files};
 use std::time::Duration;
 use std::{fs, io};
+use wf_test_table::CaseWords;
 
 /// What the clock does when it is read.
 #[derive(Clone, Copy)]
-pub(crate) enum Reading {
+enum Reading {
     /// It tells the time.
     Now,
     /// It tells the time after so many more seconds.
@@ -21,35 +22,53 @@ pub(crate) enum Reading {
     Fails(ErrorKind),
 }
 
+/// The reading that a word names.
+fn reading_of(word: &str) -> Reading {
+    match word {
+        "" | "now" => Reading::Now,
+        "interrupted" => Reading::Fails(ErrorKind::Interrupted),
+        "blocked" => Reading::Fails(ErrorKind::WouldBlock),
+        "reset" => Reading::Fails(ErrorKind::ConnectionReset),
+        "late" => Reading::Fails(ErrorKind::TimedOut),
+        _ => match word.parse::<u64>() {
+            Ok(seconds) => Reading::Later(seconds),
+            Err(_) => Reading::Fails(ErrorKind::Other),
+        },
+    }
+}
+
 /// The machine, but that it gives one listener for the first address that is asked for, and tries
 /// to lock a folder whenever its clock is read, as it is for each read and each write of a
 /// connection.
 #[derive(Drop)]
-pub(crate) struct TestMachine<'a> {
-    rt: &'a HostRuntime,
+pub(crate) struct TestMachine<'a, R> {
+    rt: &'a R,
+    alloc: Global,
     listener: RefCell<Option<TcpListener>>,
     asked: Cell<Option<SocketAddr>>,
     folder: &'a str,
     is_loose: Cell<bool>,
-    // The clock's first readings; after them it tells the time.
-    readings: &'a [Reading],
+    // The clock's readings that are left; after them it tells the time.
+    readings: Cell<CaseWords<'a>>,
     count: Cell<usize>,
 }
 
-impl<'a> TestMachine<'a> {
+impl<'a, R> TestMachine<'a, R> {
     pub(crate) fn new(
-        rt: &'a HostRuntime,
+        rt: &'a R,
+        alloc: Global,
         listener: TcpListener,
         folder: &'a str,
-        readings: &'a [Reading],
+        readings: CaseWords<'a>,
     ) -> Self {
         TestMachine {
             rt,
+            alloc,
             listener: RefCell::new(Some(listener)),
             asked: Cell::new(None),
             folder,
             is_loose: Cell::new(false),
-            readings,
+            readings: Cell::new(readings),
             count: Cell::new(0),
         }
     }
@@ -61,12 +80,11 @@ impl<'a> TestMachine<'a> {
 
     /// The clock's next reading.
     fn next(&self) -> Reading {
-        let number = self.count.get();
-        self.count.set(number.saturating_add(1));
-        match self.readings.get(number) {
-            Some(reading) => *reading,
-            None => Reading::Now,
-        }
+        self.count.set(self.count.get().saturating_add(1));
+        let mut readings = self.readings.get();
+        let word = readings.word();
+        self.readings.set(readings);
+        reading_of(word)
     }
 
     /// Whether any port of this machine alone was asked for.
@@ -83,7 +101,9 @@ impl<'a> TestMachine<'a> {
     pub(crate) fn is_locked(&self) -> bool {
         !self.is_loose.get()
     }
+}
 
+impl<'a, R: Files<File = File>> TestMachine<'a, R> {
     /// Remembers it if the folder isn't locked.
     fn look(&self) {
         if let Ok(folder) = fs::open(self.rt, self.folder) {
@@ -95,15 +115,15 @@ impl<'a> TestMachine<'a> {
     }
 }
 
-impl<'a> Alloc for TestMachine<'a> {
+impl<'a, R> Alloc for TestMachine<'a, R> {
     type A = Global;
 
     fn alloc(&self) -> Global {
-        self.rt.alloc()
+        self.alloc
     }
 }
 
-impl<'a> Eprint for TestMachine<'a> {
+impl<'a, R: Eprint> Eprint for TestMachine<'a, R> {
     fn eprint<D: Display + Drop>(&self, value: D) -> io::Result<()> {
         self.rt.eprint(value)
     }
@@ -113,7 +133,7 @@ impl<'a> Eprint for TestMachine<'a> {
     }
 }
 
-impl<'a> Clock for TestMachine<'a> {
+impl<'a, R: Files<File = File> + Clock> Clock for TestMachine<'a, R> {
     fn monotonic(&self) -> io::Result<Duration> {
         self.look();
         let now = self.rt.monotonic()?;
@@ -129,7 +149,7 @@ impl<'a> Clock for TestMachine<'a> {
     }
 }
 
-impl<'a> Net for TestMachine<'a> {
+impl<'a, R: Net<Listener = TcpListener, Stream = TcpStream>> Net for TestMachine<'a, R> {
     type Stream = TcpStream;
 
     type Listener = TcpListener;
@@ -151,16 +171,16 @@ impl<'a> Net for TestMachine<'a> {
     }
 }
 
-impl<'a> Files for TestMachine<'a> {
+impl<'a, R: Files<File = File>> Files for TestMachine<'a, R> {
     type File = File;
 
-    type Dir = <HostRuntime as Files>::Dir;
+    type Dir = R::Dir;
 
     fn open_file(&self, how: &OpenOptions, path: &str) -> io::Result<File> {
         self.rt.open_file(how, path)
     }
 
-    fn open_dir(&self, path: &str) -> io::Result<<HostRuntime as Files>::Dir> {
+    fn open_dir(&self, path: &str) -> io::Result<R::Dir> {
         self.rt.open_dir(path)
     }
 

@@ -1,5 +1,4 @@
-//! More than three connections, on one thread: the clients send their requests before the server
-//! accepts. If an allocation failed, everything is repeated once.
+//! More than three connections.
 ghost use Rattle.std.specs.Prelude.{◌≡◌, ◌≤◌, []};
 ghost use Rattle.wf_delivery.specs.Reachability.{AreFresh};
 ghost use Rattle.wf_farm.specs.Farm.{size};
@@ -7,36 +6,29 @@ ghost use Rattle.wf_farm.specs.Nodes.{AllRun, nodes_in};
 ghost use Rattle.wf_service.specs.Service.{IsService};
 ghost use Rattle.wf_wms.specs.CachedPictures.{most_cached, AllCached};
 
+use crate::crowd::{Crowd, gather, receive};
 use crate::machine::TestMachine;
-use crate::serve::{client, is_read};
 use crate::tape::new_folder;
+use crate::values::STATUS;
 use std::alloc::Global;
 use std::fs;
+use std::fs::File;
 use std::net::{Net, TcpListener, TcpStream};
-use std::process::Abort;
+use std::rt::Files;
+use std::time::Clock;
 use wf_farm::Farm;
-use wf_serve::{Log, Service, listen, serve, serve_connections};
+use wf_serve::{Log, Service, serve, serve_connections};
 use wf_stream::Output;
 use wf_tape::MemoryTape;
+use wf_test_table::{Answered, CaseInput, CaseWords, Transcript, Unanswered};
 use wf_wms::Cache;
 
-const STATUS: &[u8] = b"GET /status HTTP/1.1\r\n\r\n";
+/// The folder of the nodes.
+const FOLDER: &str = "forty";
 
-/// The responses of nodes 0 to 4 before a map is published.
-const STATUS_0: &[u8] =
-    b"HTTP/1.1 200 OK\r\nContent-Type: text/plain\r\nContent-Length: 33\r\nConnection: close\r\n\r\nnode 0 published 0 proposal none\n";
-
-const STATUS_1: &[u8] =
-    b"HTTP/1.1 200 OK\r\nContent-Type: text/plain\r\nContent-Length: 33\r\nConnection: close\r\n\r\nnode 1 published 0 proposal none\n";
-
-const STATUS_2: &[u8] =
-    b"HTTP/1.1 200 OK\r\nContent-Type: text/plain\r\nContent-Length: 33\r\nConnection: close\r\n\r\nnode 2 published 0 proposal none\n";
-
-const STATUS_3: &[u8] =
-    b"HTTP/1.1 200 OK\r\nContent-Type: text/plain\r\nContent-Length: 33\r\nConnection: close\r\n\r\nnode 3 published 0 proposal none\n";
-
-const STATUS_4: &[u8] =
-    b"HTTP/1.1 200 OK\r\nContent-Type: text/plain\r\nContent-Length: 33\r\nConnection: close\r\n\r\nnode 4 published 0 proposal none\n";
+/// The head of a response with the status.
+const STATUS_HEAD: &[u8] =
+    b"HTTP/1.1 200 OK\r\nContent-Type: text/plain\r\nContent-Length: 33\r\nConnection: close\r\n\r\n";
 
 /// The head of a response with a tile, and its length with the tile.
 const TILE: &[u8] =
@@ -55,8 +47,8 @@ const ON_WHITE: &[u8] =
 const ON_BLACK: &[u8] =
     b"GET /wms?VERSION=1.3.0&REQUEST=GetMap&LAYERS=a&STYLES=&CRS=EPSG:3857&BBOX=0,0,4,4&WIDTH=256&HEIGHT=256&BGCOLOR=0x000000&FORMAT=image/x-portable-pixmap HTTP/1.1\r\n\r\n";
 
-/// This many nodes in a folder, for forty connections.
-fn service(nodes: u8, folder: &str) -> Service<'_>
+/// This many nodes in the folder, for forty connections.
+fn service(nodes: u8) -> Service<'static>
     requires some { 1 ≤ nodes }
     requires most { nodes ≤ 64 }
     ensures { IsService result }
@@ -66,123 +58,102 @@ fn service(nodes: u8, folder: &str) -> Service<'_>
         port: 0,
         requests: 40,
         cache: 1,
-        state: Some(folder),
+        state: Some(FOLDER),
         log: false,
     }
 }
 
-/// A listener, and clients that wait at it.
-#[derive(Drop)]
-struct Crowd {
-    listener: TcpListener,
-    clients: Vec<TcpStream>,
-}
-
-/// Clients of whom the first has sent one request, and the others these in turn.
-fn gather<R: Abort + Net<Listener = TcpListener, Stream = TcpStream> + AllocGlobal>(
-    rt: &R,
-    first: &[u8],
-    requests: &[&[u8]],
-    times: usize,
-) -> Crowd {
-    let listener = listen(rt, 0).expect(rt, "a port");
-    let port = listener.local_addr().expect(rt, "its address").port();
-    let mut clients = Vec::new(rt.alloc());
-    clients.push(client(rt, port, first)).expect(rt, "memory");
-    for _ in 0..times {
-        for request in requests {
-            clients.push(client(rt, port, request)).expect(rt, "memory");
-        }
-    }
-    Crowd { listener, clients }
-}
-
-/// Whether nodes are served to the clients that wait at a listener.
-fn are_served(rt: &HostRuntime, listener: TcpListener, service: Service<'_>) -> bool
+/// Serves nodes at a listener. Appends how that ends.
+fn write_served<
+    R: Files<File = File>
+        + Net<Listener = TcpListener, Stream = TcpStream>
+        + Clock
+        + Eprint
+        + AllocGlobal,
+>(rt: &R, listener: TcpListener, service: Service<'_>, answer: &mut Transcript)
     requires { IsService service }
 {
-    let machine = TestMachine::new(rt, listener, "", &[]);
+    let machine = TestMachine::new(rt, rt.alloc(), listener, "", CaseWords::new(""));
     let mut sink = Output::new(rt.alloc(), 64);
-    let are_served = serve(&machine, service, &mut sink).is_ok();
+    let is_served = serve(&machine, service, &mut sink).is_ok();
     drop(sink);
     drop(machine);
-    are_served
+    answer.line(if is_served { "served" } else { "not served" });
 }
 
-/// Whether a client gets this response, or nothing if that is empty.
-fn is_answered(alloc: Global, client: TcpStream, expected: &[u8]) -> bool {
-    let mut answer = Vec::new(alloc);
-    let _ = is_read(client, &mut answer);
-    let is_expected = answer.as_slice() == expected;
-    drop(answer);
-    is_expected
+/// Appends the status that a client gets; or all that it gets, and that it gets nothing.
+fn write_status(alloc: Global, client: TcpStream, answer: &mut Transcript) -> Answered {
+    let mut response = Transcript::new(alloc);
+    let _ = receive(client, &mut response);
+    let written = match response.finished_text() {
+        Ok(bytes) => {
+            answer.bytes(bytes.strip_prefix(STATUS_HEAD).unwrap_or(bytes));
+            if bytes.is_empty() {
+                answer.line("nothing");
+            }
+            Ok(())
+        }
+        Err(_) => Err(Unanswered::Memory),
+    };
+    drop(response);
+    written
 }
 
-/// What client `number` gets of so many nodes, five at most, for forty connections.
-fn status_of(number: usize, nodes: u8) -> &'static [u8]
-    requires { 1 ≤ nodes }
-{
-    if number >= 40 {
-        return b"";
-    }
-    match number % usize::from(nodes) {
-        0 => STATUS_0,
-        1 => STATUS_1,
-        2 => STATUS_2,
-        3 => STATUS_3,
-        _ => STATUS_4,
-    }
-}
-
-/// Whether so many nodes on tapes in a folder answer the first forty clients in turn, and not one
-/// more.
-fn are_forty_answered(rt: &HostRuntime, nodes: u8, folder: &str, crowd: Crowd) -> bool
+/// Serves so many nodes on tapes in the folder to forty-one clients. Appends what each gets.
+fn serve_forty<
+    R: Files<File = File>
+        + Net<Listener = TcpListener, Stream = TcpStream>
+        + Clock
+        + Eprint
+        + AllocGlobal,
+>(rt: &R, nodes: u8, crowd: Crowd, answer: &mut Transcript) -> Answered
     requires some { 1 ≤ nodes }
     requires most { nodes ≤ 64 }
 {
     let Crowd { listener, clients } = crowd;
-    let mut are_answered = are_served(rt, listener, service(nodes, folder));
-    for (number, client) in clients.into_iter().enumerate() {
-        are_answered = is_answered(rt.alloc(), client, status_of(number, nodes)) && are_answered;
+    write_served(rt, listener, service(nodes), answer);
+    let mut written = Ok(());
+    for client in clients {
+        if let Err(error) = write_status(rt.alloc(), client, answer) {
+            written = Err(error);
+        }
     }
-    are_answered
+    written
 }
 
-/// Whether a file is at a path.
-fn is_there(rt: &HostRuntime, path: &str) -> bool {
-    fs::metadata(rt, path).is_ok()
-}
-
-#[test]
-fn forty_connections_to_four_nodes_are_answered_and_not_one_more(rt: HostRuntime) {
-    new_folder(&rt, "four");
-    new_folder(&rt, "four-again");
-    assert!(&rt;
-        are_forty_answered(&rt, 4, "four", gather(&rt, STATUS, &[STATUS], 40))
-            && is_there(&rt, "four/node-3.tape")
-            || are_forty_answered(&rt, 4, "four-again", gather(&rt, STATUS, &[STATUS], 40))
-                && is_there(&rt, "four-again/node-3.tape")
-    );
-}
-
-#[test]
-fn forty_connections_to_five_nodes_are_answered(rt: HostRuntime) {
-    new_folder(&rt, "five");
-    new_folder(&rt, "five-again");
-    assert!(&rt;
-        are_forty_answered(&rt, 5, "five", gather(&rt, STATUS, &[STATUS], 40))
-            && is_there(&rt, "five/node-4.tape")
-            || are_forty_answered(&rt, 5, "five-again", gather(&rt, STATUS, &[STATUS], 40))
-                && is_there(&rt, "five-again/node-4.tape")
-    );
+/// `forty`: the nodes answer forty connections in turn, and not one more; the last node has a tape.
+pub(crate) fn forty<
+    R: Files<File = File>
+        + Net<Listener = TcpListener, Stream = TcpStream>
+        + Clock
+        + Eprint
+        + AllocGlobal,
+>(rt: &R, asked: CaseInput<'_>, answer: &mut Transcript) -> Answered {
+    let (nodes, last_tape) = match asked.text()? {
+        "4" => (4, "forty/node-3.tape"),
+        "5" => (5, "forty/node-4.tape"),
+        _ => return Err(Unanswered::BadWords),
+    };
+    new_folder(rt, FOLDER)?;
+    let crowd = gather(rt, asked.alloc, STATUS, &[STATUS], 40)?;
+    let written = serve_forty(rt, nodes, crowd, answer);
+    answer.line(if fs::metadata(rt, last_tape).is_ok() {
+        "the last node has a tape"
+    } else {
+        "the last node has no tape"
+    });
+    written
 }
 
 /// Whether a client gets a tile.
 fn is_tile(alloc: Global, client: TcpStream) -> bool {
-    let mut answer = Vec::new(alloc);
-    let is_whole = is_read(client, &mut answer);
-    let is_tile = answer.starts_with(TILE) && answer.len() == TILE_BYTES;
-    drop(answer);
+    let mut response = Transcript::new(alloc);
+    let is_whole = receive(client, &mut response);
+    let is_tile = match response.finished_text() {
+        Ok(bytes) => bytes.starts_with(TILE) && bytes.len() == TILE_BYTES,
+        Err(_) => false,
+    };
+    drop(response);
     is_whole && is_tile
 }
 
@@ -191,8 +162,8 @@ type Counts = (u64, u64);
 
 /// The counts of the cache of the only node of a farm, once it has answered seventeen connections.
 #[tactic(auto, using(crate::proofs::Alone::cached_alone))]
-fn counts_after(
-    rt: &HostRuntime,
+fn counts_after<R: Clock + Eprint + AllocGlobal>(
+    rt: &R,
     listener: &TcpListener,
     farm: &mut Farm<MemoryTape>,
     cache: Cache,
@@ -210,8 +181,8 @@ fn counts_after(
 }
 
 /// The counts of a new cache for this many pictures, likewise. None if an allocation fails.
-fn counts_with(
-    rt: &HostRuntime,
+fn counts_with<R: Clock + Eprint + AllocGlobal>(
+    rt: &R,
     listener: &TcpListener,
     farm: &mut Farm<MemoryTape>,
     pictures: usize,
@@ -229,7 +200,11 @@ fn counts_with(
 }
 
 /// The counts of such a cache of the node of a new farm. None if an allocation fails.
-fn counts_of(rt: &HostRuntime, listener: TcpListener, pictures: usize) -> Option<Counts>
+fn counts_of<R: Clock + Eprint + AllocGlobal>(
+    rt: &R,
+    listener: TcpListener,
+    pictures: usize,
+) -> Option<Counts>
     requires some { 1 ≤ pictures }
     requires most { pictures ≤ most_cached }
 {
@@ -245,36 +220,49 @@ fn counts_of(rt: &HostRuntime, listener: TcpListener, pictures: usize) -> Option
     counts
 }
 
-/// Whether one node with a cache for this many pictures answers the first client, and sixteen
-/// others with tiles, and these are the counts then.
-fn are_counts(rt: &HostRuntime, pictures: usize, crowd: Crowd, expected: Counts) -> bool
+/// One node with a cache for this many pictures answers the clients. Appends the counts then, and
+/// how many clients get tiles.
+fn write_counts<R: Clock + Eprint + AllocGlobal>(
+    rt: &R,
+    pictures: usize,
+    crowd: Crowd,
+    answer: &mut Transcript,
+) -> Answered
     requires some { 1 ≤ pictures }
     requires most { pictures ≤ most_cached }
 {
     let Crowd { listener, clients } = crowd;
-    let mut are_met = counts_of(rt, listener, pictures) == Some(expected);
-    for (number, client) in clients.into_iter().enumerate() {
-        are_met = (is_tile(rt.alloc(), client) || number == 0) && are_met;
+    let counts = counts_of(rt, listener, pictures);
+    let mut tiles = 0usize;
+    for client in clients {
+        tiles = tiles.saturating_add(is_tile(rt.alloc(), client) as usize);
     }
-    are_met
+    let Some((drawn, cached)) = counts else {
+        return Err(Unanswered::Memory);
+    };
+    answer.value(drawn);
+    answer.text(" drawn, ");
+    answer.value(cached);
+    answer.text(" cut out, ");
+    answer.count(tiles);
+    answer.line(" tiles");
+    Ok(())
 }
 
-/// A client that publishes a map, and sixteen that ask for a tile on white and on black in turn.
-fn gather_for_tiles<R: Abort + Net<Listener = TcpListener, Stream = TcpStream> + AllocGlobal>(
-    rt: &R,
-) -> Crowd {
-    gather(rt, MAP_OF_A_LAYER, &[ON_WHITE, ON_BLACK], 8)
-}
-
-/// Of sixteen tiles in turn it draws two, and a cache of one draws each.
-#[test]
-fn a_cache_of_two_pictures_keeps_two(rt: HostRuntime) {
-    assert!(&rt;
-        are_counts(&rt, 2, gather_for_tiles(&rt), (2, 14))
-            || are_counts(&rt, 2, gather_for_tiles(&rt), (2, 14))
-    );
-    assert!(&rt;
-        are_counts(&rt, 1, gather_for_tiles(&rt), (16, 0))
-            || are_counts(&rt, 1, gather_for_tiles(&rt), (16, 0))
-    );
+/// `tiles`: a client publishes a map, and sixteen ask for a tile on white and on black in turn.
+pub(crate) fn tiles<
+    R: Net<Listener = TcpListener, Stream = TcpStream> + Clock + Eprint + AllocGlobal,
+>(rt: &R, asked: CaseInput<'_>, answer: &mut Transcript) -> Answered {
+    let requests = [ON_WHITE, ON_BLACK];
+    match asked.text()? {
+        "1" => {
+            let crowd = gather(rt, asked.alloc, MAP_OF_A_LAYER, &requests, 8)?;
+            write_counts(rt, 1, crowd, answer)
+        }
+        "2" => {
+            let crowd = gather(rt, asked.alloc, MAP_OF_A_LAYER, &requests, 8)?;
+            write_counts(rt, 2, crowd, answer)
+        }
+        _ => Err(Unanswered::BadWords),
+    }
 }
