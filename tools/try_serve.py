@@ -4,8 +4,8 @@ of which the client hears though it is still sending, answers that come whole th
 than its request, and a new start on the same folder. Then starts that are rejected, and leave every file as
 it was: of another number of nodes, and with a tape of another farm; the file `farm` of a new folder, and of
 one that is taken over; lines of the log; and files that may not grow. The other causes of a rejected start,
-and what `wfarm tape` lists, are cases of `crates/wf_test_commands` and `crates/wf_test_failures`; clients
-that stay or trickle are `tools/hostile.py`'s.
+and what `wfarm tape` lists, are cases of `crates/wf_test_commands`; clients that stay or trickle are
+`tools/hostile.py`'s.
 """
 
 import pathlib
