@@ -22,11 +22,12 @@ one of these:
                   responses are the expected ones
     named         the answer is the expected one but for the allocation failure, which it counts or names, or
                   where it ends
-    again         the answer is another one, but the expected one where the case is asked again in its folder
+    again         the answer is another one, but the expected one where the case is asked again
 
 Of wf_test_commands those about files, connections, clocks and limits are tried, the questions of
 wf_test_failures. A fork would share those: so such a case runs once for each of its allocations, each time in
-an empty folder.
+an empty folder, and is asked again in the same process. Its question makes its files anew: what is seen is
+that a failure neither ends the process nor leaves it unable to answer.
 
 Cases with more allocations than --most, or of wf_test_commands than 500, are tried at the first half of that
 number, and then at evenly spaced ones. The status is 1 where anything else was printed.
@@ -48,8 +49,9 @@ CRATES = ["wf_test_map", "wf_test_commands"]
 # the questions of which cases run once for each allocation; of wf_test_commands no others are tried
 REPEATED = re.compile(r'"(\w+)" =>').findall(
     (TOP / "crates/wf_test_failures/src/questions.rt").read_text())
-# how many runs such a case has at most
+# how many runs such a case has at most, and what begins it for the second time
 MOST_RUNS = 500
+AGAIN = "case asked again"
 EDGE = ("hear", "serve", "refuse", "serve_alone", "serve_published", "serve_cached")
 # their input begins with a mapfile
 PUBLISHED = ("serve_published", "serve_cached")
@@ -248,25 +250,27 @@ class Case:
             return "wrong"
         return self.verdict_of_answer(*map(unescaped, differences[0]))
 
-    def run_twice(self, **environment):
-        """What a run is, and it; where an answer is another one, the case is asked again in its folder."""
+    def run_again(self, again, is_reading, **environment):
+        """What a run is in which the case is asked twice, the second time at this line, and it."""
         with tempfile.TemporaryDirectory() as folder:
-            ran = self.run(self.lines, folder, **environment)
-            if ran.returncode == 0:
-                return "as always", ran
-            if ran.returncode != 1:
-                return "wrong", ran
-            if not ran.stdout:
-                return "ended", ran
-            again = self.run(self.lines, folder)
-            return ("wrong", again) if again.returncode else ("again", ran)
+            ran = self.run([*self.lines, AGAIN, *self.lines[1:]], folder, **environment)
+        if ran.returncode not in (0, 1):
+            return "wrong", ran
+        if not ran.returncode or not ran.stdout:
+            return "ended" if ran.returncode else "as always", ran
+        if is_reading and UNREAD.fullmatch(ran.stdout):
+            return "unread", ran
+        told = [int(it) for it in re.findall(rb"^line (\d+): ", ran.stdout, re.MULTILINE)]
+        return "again" if told and max(told) < again else "wrong", ran
 
-    def try_repeated(self, library, count, most):
+    def try_repeated(self, library, count, reading, most):
+        again = len(self.table.alone(self.lines).splitlines()) + 1
         first, every = tried_of(count, min(most, MOST_RUNS))
         found, wrong = collections.Counter(), []
         for number in range(1, count + 1):
             if number <= first or number % every == 0:
-                what, ran = self.run_twice(LD_PRELOAD=library, FAIL_ALLOCATION=str(number))
+                what, ran = self.run_again(again, number <= reading, LD_PRELOAD=library,
+                                           FAIL_ALLOCATION=str(number))
                 found[what] += 1
                 if what == "wrong":
                     wrong.append((number, b"status %d " % ran.returncode + ran.stdout[-2000:]))
@@ -277,10 +281,12 @@ class Case:
         with tempfile.TemporaryDirectory() as folder:
             counted = self.run(self.lines, folder, **counting)
         count, usual = int(counted.stderr.split()[-1]), counted.stdout
-        if self.question in REPEATED and not counted.returncode:
-            return self.try_repeated(library, count, most)
         unasked = [line if line != self.ask else "ask nothing" for line in self.lines]
         reading = int(self.run(unasked, **counting).stderr.split()[-1])
+        if self.question in REPEATED and not counted.returncode:
+            # the report comes after the second one then; so a few of the case's last aren't tried either
+            report = int(self.run([], **counting).stderr.split()[-1])
+            return self.try_repeated(library, count - report, reading, most)
         if counted.returncode:
             return count, collections.Counter(wrong=1), [(0, usual)]
         first, every = tried_of(count, most)
