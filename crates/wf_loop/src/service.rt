@@ -1,5 +1,5 @@
 //! How an event loop begins and goes on, turn after turn.
-ghost use Rattle.std.specs.Prelude.{◌≡◌, ◌≤◌, ◌+◌, ◌↔◌, ◌++◌, ◌∷◌, [], ℕ, List, true, Err, IfErr, IfOk, IsSome, IsTrue, OnErr, OnOk, Option};
+ghost use Rattle.std.specs.Prelude.{◌≡◌, ◌≤◌, ◌+◌, ◌↔◌, ◌++◌, ◌∷◌, [], ℕ, List, false, true, Err, IfErr, IfOk, IsSome, IsTrue, OnErr, OnOk, Option};
 ghost use Rattle.wf_voter.specs.Process.{IsJustOpened};
 ghost use Rattle.wf_digest.specs.Digest.{AreDigestsOf};
 ghost use Rattle.wf_folder.specs.declared.suspension.Suspension.{Suspension as SuspensionValue};
@@ -9,9 +9,11 @@ ghost use Rattle.wf_peer_connections.specs.StartErrors.{IsStartError};
 ghost use Rattle.wf_peer_connections.specs.declared.plan.NodePlan.{NodePlan as NodePlanValue};
 ghost use Rattle.wf_node.specs.Reopening.{HasStoredAs};
 ghost use Rattle.wf_visitors.specs.Visitors.{responses_of};
+ghost use Rattle.wf_voter.specs.Cause.{IsWhyNoNextRun};
 ghost use Rattle.wf_voter.specs.Continuation.{ContinuesIn, IsNextRun, StaysInRun, KeepsEarlier, StaysSuspended};
 ghost use Rattle.wf_voter.specs.Folder.{counted};
 ghost use Rattle.wf_voter.specs.Lived.{HasLived};
+ghost use Rattle.wf_voter.specs.declared.reopening.NotReopened.TheVariants.{Runs};
 
 use crate::clock::turn_by_clock;
 use crate::event_loop::EventLoop;
@@ -313,8 +315,8 @@ impl<T: Tape + Drop, N: Network + Drop> EventLoop<T, N> {
 
     /// Opens the node again on the tape of its folder, once it has failed: the node that it was, of
     /// as many. Its run ends, and another begins, which counts as a start of the folder. Err:
-    /// `Runs` if it hasn't failed; else why not, and nothing has changed but that it is tried again
-    /// later, and the log has the cause.
+    /// `Runs` if it hasn't failed; else why not, by the folder's last call or what its tape holds,
+    /// and nothing has changed but that it is tried again later, and the log has the cause.
     #[tactic(auto, using(wf_voter::proofs::Continuation::keeps_same))]
     pub fn reopen<R: Clock + Eprint + AllocGlobal, F: NodeFolder<T>>(
         &mut self,
@@ -338,6 +340,11 @@ impl<T: Tape + Drop, N: Network + Drop> EventLoop<T, N> {
         ensures joins { IsJoiner self.old → IsJoiner self.new }
         ensures membership { membership_of self.new ≡ membership_of self.old }
         ensures same { OnErr result (process_of self.new ≡ process_of self.old) }
+        ensures runs { (process_of self.old).actor.node.halted ≡ false → result ≡ Err Runs }
+        ensures err { (process_of self.old).actor.node.halted ≡ true →
+            IfErr result (λ why. IsWhyNoNextRun why (F.stands folder.old).starts
+            (F.farm folder.old) (F.attempted folder.old)
+            (F.calls folder.old) (F.calls folder.new)) }
         // The run that begins follows the one that has ended.
         ensures earlier { KeepsEarlier T.Tape (process_of self.old) (process_of self.new) }
     {

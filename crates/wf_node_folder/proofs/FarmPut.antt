@@ -1,20 +1,20 @@
 -- What a process puts in the place of the file `farm` says no less of its node than before.
-use Rattle.std.proofs.Common.{◌≡◌, ◌⊎◌, ◌∙◌, ◌≤◌, inl, inr, ℕ, suc, List, [], ◌∷◌, ◌++◌, Bool, ap, refl, subst, sym, arith}
+use Rattle.std.proofs.Common.{◌≡◌, ◌⊎◌, ◌∙◌, ◌≤◌, inl, inr, ℕ, suc, List, [], ◌∷◌, ◌++◌, Bool, not, ap, refl, subst, sym, arith}
 use Rattle.std.proofs.Math.Logic.{∥∥₁_map}
 use Rattle.std.proofs.lemmas.List.{append_cancel_left}
 use Rattle.std.proofs.lemmas.Option.{same_Some}
-use Rattle.std.specs.Prelude.{if◌then◌else◌, false, true, codes, Contains, Option, option_to_list, Some, None, Result, Ok, Err, IfOk, OnErr, OnOk, Vec}
+use Rattle.std.specs.Prelude.{if◌then◌else◌, false, true, codes, Contains, Option, option_to_list, Some, None, Result, Ok, Err, IfOk, IfSome, OnErr, OnOk, Vec, is_some}
 use Rattle.std.specs.declared.alloc.Global.{Global}
 use Rattle.wf_folder.proofs.Lines.{after_numbers}
 use Rattle.wf_folder.proofs.WordLemmas.{both_reaches}
 use Rattle.wf_folder.specs.NodeFile.{IsNodeFile, kind_node_line, known_then, node_first_line, node_text}
-use Rattle.wf_folder.specs.declared.node_admission.NodeFound.{NodeFound}
 use Rattle.wf_folder.specs.declared.node_file.NodeFile.{NodeFile}
 use Rattle.wf_folder.specs.declared.presence.Presence.{Presence}
 use Rattle.wf_folder.specs.declared.reach.Reach.{Reach}
 use Rattle.wf_folder.specs.declared.suspension.Suspension.{Suspension}
 use Rattle.wf_node_folder.specs.FarmPut.{HasPut, IsOwnFarm, IsPublishedPut, IsPutBetween, NothingPut, WasPut, farm_by, farm_in, farm_found, farms_put, latest_of, published_in, farms_put_by}
-use Rattle.wf_node_folder.specs.Folder.{IsFarmFound}
+use Rattle.wf_node_folder.specs.Cause.{IsOwn}
+use Rattle.wf_node_folder.specs.Folder.{AreFiles, IsFileOrNone}
 use Rattle.wf_node_folder.specs.Joined.{MayBePutAt}
 use Rattle.wf_store.specs.Call.{Call, bytes_of, compared, failed, opened_existing, read, replaced, seen, unreplaced}
 use Rattle.wf_store.specs.Texts.{is_farm}
@@ -45,10 +45,6 @@ module _ (old new : List Call) where
   pub farm_comparing : (result : Result Bool FolderFault) → IfOk result (λ same. new ≡ compared same ∷ old) → OnErr result (new ≡ failed ∷ old) → NothingPut old new
   farm_comparing (Ok same) done wrong = (ap farm_in done, ap farms_put done)
   farm_comparing (Err fault) done wrong = (ap farm_in wrong, ap farms_put wrong)
-
-  pub farm_finding : (result : Result NodeFound FolderFault) → IfOk result (λ found. IsFarmFound found old new) → OnErr result (new ≡ failed ∷ old) → NothingPut old new
-  farm_finding (Ok found) done wrong = (ap farm_in done.calls, ap farms_put done.calls)
-  farm_finding (Err fault) done wrong = (ap farm_in wrong, ap farms_put wrong)
 
   pub farm_reading : (file : FileName) (result : Result (Option (Vec ℕ Global)) FolderFault) → IfOk result (λ found. new ≡ read file (bytes_of found) ∷ old) → OnErr result (new ≡ failed ∷ old) → NothingPut old new
   farm_reading file (Ok found) done wrong = (ap farm_in done, ap farms_put done)
@@ -143,7 +139,7 @@ was_put_now text next old new same more = subst (λ (texts : List (List ℕ)). �
 
 -- ---- what was read of it
 
-pub own_read : (text : List ℕ) (old new : List Call) → new ≡ read Farm (Some text) ∷ old → WasPut text new → IsOwnFarm new
+own_read : (text : List ℕ) (old new : List Call) → new ≡ read Farm (Some text) ∷ old → WasPut text new → IsOwnFarm new
 own_read text old new is was = record { text = text; read = ap farm_found is; own = was }
 
 pub own_seeing : (file : FileName) (there : Presence) (old new : List Call) → new ≡ seen file there ∷ old → IsOwnFarm old → IsOwnFarm new
@@ -204,13 +200,36 @@ pub put_at_least : (published : ℕ) (file : NodeFile) (attempted : Option NodeF
     → IsPublishedPut published calls
 put_at_least published file attempted calls between none less put has = omega (arith, less, between.least none put has)
 
--- a text is that of the last one, or of the later one
-module _ (file : NodeFile) (attempted : Option NodeFile) (calls : List Call) (between : IsPutBetween file attempted calls) where
-  pub own_last : (text : List ℕ) → text ≡ node_text file → WasPut text calls
-  own_last text is = subst (λ (t : List ℕ). WasPut t calls) (sym is) between.was_put
+-- it is one that its process put there, or tried to
+module _ (there file : NodeFile) (attempted : Option NodeFile) (calls : List Call) (between : IsPutBetween file attempted calls) where
+  pub was_there : IsOwn there file attempted → WasPut (node_text there) calls
+  was_there (inl is) = subst (λ (f : NodeFile). WasPut (node_text f) calls) (sym is) between.was_put
+  was_there (inr is) = between.was_tried there is
 
-  pub own_tried : (tried : NodeFile) (text : List ℕ) → attempted ≡ Some tried → text ≡ node_text tried → WasPut text calls
-  own_tried tried text is same = subst (λ (t : List ℕ). WasPut t calls) (sym same) (between.was_tried tried is)
+  pub no_more_there : IsOwn there file attempted → published_in there ≤ published_in (latest_of file attempted)
+  no_more_there (inl is) = omega (arith, between.later, ap (λ (f : NodeFile). published_in f) is)
+  no_more_there (inr is) = omega (arith, ap (λ (o : Option NodeFile). published_in (latest_of file o)) is)
+
+  pub own_there : (old : List Call) → calls ≡ read Farm (Some (node_text there)) ∷ old → IsOwn there file attempted → IsOwnFarm calls
+  own_there old is own = own_read (node_text there) old calls is (was_there own)
+
+pub put_there : (file : NodeFile) (attempted : Option NodeFile) (calls : List Call) (text : List ℕ) (result : Result (Option NodeFile) FolderFault) → IsPutBetween file attempted calls
+    → IfOk result (λ found. IfSome found (λ there. IsOwn there file attempted × (text ≡ node_text there))) → IfOk result (λ found. IfSome found (λ there. WasPut (node_text there) calls))
+put_there file attempted calls text (Ok None) between is = tt
+put_there file attempted calls text (Ok (Some there)) between is = was_there there file attempted calls between is.0
+put_there file attempted calls text (Err fault) between is = tt
+
+pub is_file_there : (there file : NodeFile) (attempted : Option NodeFile) → AreFiles file attempted → IsOwn there file attempted → IsNodeFile there
+is_file_there there file attempted files (inl is) = subst IsNodeFile (sym is) files.last
+is_file_there there file attempted files (inr is) = subst IsFileOrNone is files.later
+
+pub none_attempted : (attempted : Option NodeFile) (is : Bool) → is_some attempted ≡ not is → is ≡ true → attempted ≡ None
+none_attempted None is same so = refl
+none_attempted (Some there) is same so = absurd cc
+
+pub last_there : (there file : NodeFile) (attempted : Option NodeFile) → attempted ≡ None → IsOwn there file attempted → there ≡ file
+last_there there file attempted none (inl is) = is
+last_there there file attempted none (inr is) = absurd cc
 
 -- ---- what says no less
 

@@ -1,19 +1,16 @@
 -- What may be put in the place of the file `joins`.
 use Rattle.std.proofs.Common.{◌≡◌, ◌⊎◌, ◌∙◌, inl, inr, ℕ, List, [], ◌∷◌, ap, refl, subst}
-use Rattle.std.specs.Prelude.{Option, Some, None, Result, Ok, Err, IfOk}
-use Rattle.wf_folder.specs.declared.node_admission.NodeFound.{NodeFound}
-use Rattle.wf_folder.specs.declared.node_admission.NodeFound.TheVariants as finds
+use Rattle.std.specs.Prelude.{Option, Some, None}
+use Rattle.wf_folder.specs.NodeFile.{node_text}
 use Rattle.wf_folder.specs.declared.node_file.NodeFile.{NodeFile}
 use Rattle.wf_node_folder.specs.FarmPut.{IsPublishedPut}
-use Rattle.wf_node_folder.specs.Folder.{IsFarmFound, IsFoundIn}
-use Rattle.wf_node_folder.specs.Joined.{IsFarmSaid, MayBePutAt, SaysJoining, SaysPublished}
+use Rattle.wf_node_folder.specs.Joined.{MayBePutAt, SaysJoining, SaysPublished}
 use Rattle.wf_rejoin.specs.JoinStep.{StepCounts, stepped}
 use Rattle.wf_rejoin.specs.Joining.{MayVote}
 use Rattle.wf_rejoin.specs.JoiningText.{IsJoins, joins_text}
 use Rattle.wf_rejoin.specs.declared.join_step.JoinStep.{JoinStep}
 use Rattle.wf_rejoin.specs.declared.joining.Joining.{Joining}
 use Rattle.wf_store.specs.Call.{Call, read}
-use Rattle.wf_store.specs.declared.fault.FolderFault.{FolderFault}
 use Rattle.wf_store.specs.Texts.{IsTextPut, is_farm, is_joins, text_in}
 use Rattle.wf_store.specs.declared.file_name.FileName.TheVariants.{Farm, Joins}
 use Rattle.wf_voter.specs.Folder.{IsTold, JoinsNoMore}
@@ -21,18 +18,8 @@ use Rattle.wf_voter.specs.Folder.{IsTold, JoinsNoMore}
 -- ---- what was read
 
 module _ (old new : List Call) where
-  published_by : (file : NodeFile) (bytes : Option (List ℕ)) → new ≡ read Farm bytes ∷ old → IsFoundIn bytes (finds.File file) → SaysPublished file.known.reach.published new
-  published_by file None is found = absurd found
-  published_by file (Some bytes) is found = record { bytes = bytes; text = ap (text_in is_farm) is; file = file; is_file = found; same = refl }
-
-  said_by : (found : NodeFound) → IsFarmFound found old new → IsFarmSaid found new
-  said_by finds.Nothing is = tt
-  said_by (finds.File file) is = published_by file is.bytes is.calls is.is
-  said_by (finds.Bad fault) is = tt
-
-  pub farm_said : (result : Result NodeFound FolderFault) → IfOk result (λ found. IsFarmFound found old new) → IfOk result (λ found. IsFarmSaid found new)
-  farm_said (Ok found) is = said_by found is
-  farm_said (Err fault) is = tt
+  pub says_there : (there : NodeFile) → new ≡ read Farm (Some (node_text there)) ∷ old → SaysPublished there.known.reach.published new
+  says_there there is = record { bytes = node_text there; text = ap (text_in is_farm) is; file = there; is_file = inl refl; same = refl }
 
   -- the file `joins` was read
   module _ (bytes : Option (List ℕ)) (is : new ≡ read Joins bytes ∷ old) where

@@ -1,3 +1,4 @@
+mod Causes
 mod Clearing
 mod Damage
 mod Faults

@@ -3,16 +3,14 @@ use Rattle.std.proofs.Common.{◌≡◌, ◌∙◌, inl, inr, ℕ, Bool, true, f
 use Rattle.std.proofs.Math.Logic.{∥∥₁_map}
 use Rattle.std.specs.Prelude.{if◌then◌else◌, Option, Some, Result, Ok, Err, IfOk, OnErr, OnOk, Vec}
 use Rattle.std.specs.declared.alloc.Global.{Global}
-use Rattle.wf_folder.specs.declared.node_admission.NodeFound.{NodeFound}
 use Rattle.wf_folder.specs.declared.presence.Presence.{Presence}
 use Rattle.wf_node_folder.specs.FarmPut.{IsOwnFarm}
-use Rattle.wf_node_folder.specs.Folder.{IsFarmFound, StaysFrom, heard_in, is_of_tape, is_own, needs_own, of_tapes, tape_changes}
+use Rattle.wf_node_folder.specs.Folder.{StaysFrom, heard_in, is_of_tape, is_own, needs_own, of_tapes, tape_changes}
 use Rattle.wf_node_folder.specs.Joined.{IsJoinedSoundly, MayBePutAt}
 use Rattle.wf_store.specs.Call.{Call, bytes_of, changes, compared, failed, is_change, opened_existing, read, replaced, seen, unreplaced}
 use Rattle.wf_store.specs.Texts.{IsTextPut, MayBeIn, TextsStay, is_heard, is_tape, text_in}
 use Rattle.wf_store.specs.declared.fault.FolderFault.{FolderFault}
 use Rattle.wf_store.specs.declared.file_name.FileName.{FileName}
-use Rattle.wf_store.specs.declared.file_name.FileName.TheVariants.{Farm}
 
 -- nothing was called yet
 pub stays_still : (calls : List Call) → ∥ StaysFrom calls calls ∥₁
@@ -42,11 +40,6 @@ module _ (begun old new : List Call) (stays : ∥ StaysFrom begun old ∥₁) wh
   pub stays_comparing : (result : Result Bool FolderFault) → IfOk result (λ same. new ≡ compared same ∷ old) → OnErr result (new ≡ failed ∷ old) → ∥ StaysFrom begun new ∥₁
   stays_comparing (Ok same) done wrong = stays_one (compared same) done refl (λ needs. absurd cc) tt
   stays_comparing (Err fault) done wrong = stays_one failed wrong refl (λ needs. absurd cc) tt
-
-  -- the file `farm` was read
-  pub stays_finding : (result : Result NodeFound FolderFault) → IfOk result (λ found. IsFarmFound found old new) → OnErr result (new ≡ failed ∷ old) → ∥ StaysFrom begun new ∥₁
-  stays_finding (Ok found) done wrong = stays_one (read Farm done.bytes) done.calls refl (λ needs. absurd cc) tt
-  stays_finding (Err fault) done wrong = stays_one failed wrong refl (λ needs. absurd cc) tt
 
   -- a file was read
   pub stays_reading : (file : FileName) (result : Result (Option (Vec ℕ Global)) FolderFault) → IfOk result (λ found. new ≡ read file (bytes_of found) ∷ old) → OnErr result (new ≡ failed ∷ old)
@@ -82,10 +75,6 @@ module _ (old new : List Call) where
   texts_comparing (Ok same) done wrong is = ap (text_in is) done
   texts_comparing (Err fault) done wrong is = ap (text_in is) wrong
 
-  pub heard_finding : (result : Result NodeFound FolderFault) → IfOk result (λ found. IsFarmFound found old new) → OnErr result (new ≡ failed ∷ old) → heard_in new ≡ heard_in old
-  heard_finding (Ok found) done wrong = ap heard_in done.calls
-  heard_finding (Err fault) done wrong = ap heard_in wrong
-
   pub heard_reading : (file : FileName) (result : Result (Option (Vec ℕ Global)) FolderFault) → is_heard file ≡ false → IfOk result (λ found. new ≡ read file (bytes_of found) ∷ old)
       → OnErr result (new ≡ failed ∷ old) → heard_in new ≡ heard_in old
   heard_reading file (Ok found) other done wrong = ap heard_in done ∙ ap (λ (b : Bool). if b then bytes_of found else heard_in old) other
@@ -117,10 +106,6 @@ module _ (old new : List Call) where
 
     pub heard_beside_not : is_heard file ≡ false → heard_in new ≡ heard_in old
     heard_beside_not other = ap heard_in wrong
-
-  pub own_found : (result : Result NodeFound FolderFault) → IfOk result (λ found. IsFarmFound found old new) → OnErr result (new ≡ failed ∷ old) → is_own new ≡ is_own old
-  own_found (Ok found) done wrong = ap is_own done.calls
-  own_found (Err fault) done wrong = ap is_own wrong
 
   pub own_reading : (file : FileName) (result : Result (Option (Vec ℕ Global)) FolderFault) → IfOk result (λ found. new ≡ read file (bytes_of found) ∷ old) → OnErr result (new ≡ failed ∷ old)
       → is_own new ≡ is_own old

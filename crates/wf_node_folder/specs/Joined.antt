@@ -2,8 +2,6 @@
 -- each file.
 use Rattle.std.specs.Prelude.{◌≡◌, ◌⊎◌, ℕ, ⊤, true, List, [], ◌∷◌, ◌++◌, Option, Some}
 use Rattle.wf_folder.specs.NodeFile.{IsTextOf}
-use Rattle.wf_folder.specs.declared.node_admission.NodeFound.{NodeFound}
-use Rattle.wf_folder.specs.declared.node_admission.NodeFound.TheVariants as finds
 use Rattle.wf_folder.specs.declared.node_file.NodeFile.{NodeFile}
 use Rattle.wf_node_folder.specs.FarmPut.{IsOwnFarm, IsPublishedPut, IsRaise}
 use Rattle.wf_node_folder.specs.Sound.{IsSoundText}
@@ -28,11 +26,6 @@ pub record SaysPublished (published : ℕ) (calls : List Call) : Type 0 where
   pub file : NodeFile
   pub is_file : IsTextOf bytes file
   pub same : file.known.reach.published ≡ published
-
--- so it says where it was found
-abbrev pub IsFarmSaid : NodeFound → List Call → Type 0
-IsFarmSaid (finds.File file) calls = SaysPublished file.known.reach.published calls
-IsFarmSaid found calls = ⊤
 
 -- by what was last read of the file `joins`, or written to it, the folder joins, and was told this
 pub record SaysJoining (joining : Joining) (calls : List Call) : Type 0 where

@@ -1,3 +1,4 @@
+pub mod Cause
 pub mod Cleared
 pub mod Damage
 pub mod FarmPut

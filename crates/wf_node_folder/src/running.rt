@@ -1,21 +1,25 @@
 //! The folder of a node while it is served.
-ghost use Rattle.std.specs.Prelude.{◌≡◌, ◌∷◌, ◌⊎◌, ℕ, false, true, [], IfOk, IfSome, None, OnErr, OnOk, Some};
-ghost use Rattle.wf_folder.specs.NodeAdmission.{IsSoundFind};
+ghost use Rattle.std.specs.Prelude.{◌≡◌, ◌∷◌, ◌⊎◌, ℕ, false, true, [], IfErr, IfOk, IfSome, None, OnErr, OnOk, Some};
+ghost use Rattle.std.specs.declared.io.ErrorKind.TheVariants.{InvalidData};
+ghost use Rattle.wf_folder.specs.declared.presence.Presence.TheVariants as presences;
+ghost use Rattle.wf_membership.specs.declared.folder_error.FolderError.TheVariants.{Store};
+ghost use Rattle.wf_node_folder.specs.Cause.{IsWhyNotJoined, IsWhyTapeUnopened, ShowsJoining, why_of};
 ghost use Rattle.wf_node_folder.specs.FarmPut.{IsOwnFarm, IsPublishedPut, NothingPut, farm_in, farms_put};
 ghost use Rattle.wf_node_folder.specs.Folder.{StaysFrom, calls_in, heard_in, is_own};
-ghost use Rattle.wf_node_folder.specs.Joined.{IsFarmSaid, MayBePutAt, SaysJoining, SaysPublished};
+ghost use Rattle.wf_node_folder.specs.Joined.{MayBePutAt, SaysJoining, SaysPublished};
 ghost use Rattle.wf_rejoin.specs.JoiningText.{IsJoins, joins_text};
-ghost use Rattle.wf_store.specs.Call.{bytes_of, read};
+ghost use Rattle.wf_rejoin.specs.declared.joining.Joining.{Joining as JoiningValue};
+ghost use Rattle.wf_store.specs.Call.{IsAfter, bytes_of, read, seen};
 ghost use Rattle.wf_store.specs.Texts.{IsTextPut, MayBeIn, TextsStay, is_farm, is_heard, is_tape};
+ghost use Rattle.wf_store.specs.declared.fault.FolderFault.TheVariants.{Unread};
 ghost use Rattle.wf_store.specs.declared.file_name.FileName.TheVariants as names;
+ghost use Rattle.wf_voter.specs.Cause.{EndsWith, IsCausedBy, IsWhyUntold, ShowsNoJoining};
 ghost use Rattle.wf_voter.specs.Folder.{IsTold, JoinsNoMore};
 
-use crate::folder::find_in;
 use crate::replacement_files::MOST_BYTES;
 use std::alloc::Global;
 use std::io::ErrorKind;
 use wf_ballot::Seq;
-use wf_folder::NodeFound;
 use wf_membership::FolderError;
 use wf_past::Past;
 use wf_rejoin::{JoinStep, Joining};
@@ -53,13 +57,16 @@ impl<S: Store> RunningStore<S> {
     }
 
     /// Whether the folder at its path is the one that is locked.
-    #[tactic(auto, using(crate::proofs::Stays::own_compared, crate::proofs::Stays::texts_comparing, crate::proofs::FarmPut::farm_comparing))]
+    #[tactic(auto, using(crate::proofs::Stays::own_compared, crate::proofs::Stays::texts_comparing, crate::proofs::FarmPut::farm_comparing, crate::proofs::Causes::after_reading, crate::proofs::Causes::other_folder, crate::proofs::Causes::no_folder))]
     pub(crate) fn examine(&mut self) -> Result<(), FolderError>
         ensures began { self.new.began.items ≡ self.old.began.items }
         ensures own { OnOk result (is_own (S.calls self.new.store) ≡ true) }
         ensures texts { TextsStay (S.calls self.old.store) (S.calls self.new.store) }
         ensures heard { heard_in (S.calls self.new.store) ≡ heard_in (S.calls self.old.store) }
         ensures farm { NothingPut (S.calls self.old.store) (S.calls self.new.store) }
+        ensures after { IsAfter (S.calls self.old.store) (S.calls self.new.store) }
+        ensures err { IfErr result (λ error.
+            IsCausedBy error (S.calls self.old.store) (S.calls self.new.store)) }
     {
         match self.store.is_same() {
             Ok(true) => Ok(()),
@@ -68,21 +75,8 @@ impl<S: Store> RunningStore<S> {
         }
     }
 
-    /// The file `farm`.
-    #[tactic(auto, using(crate::proofs::Stays::own_found, crate::proofs::Stays::heard_finding, crate::proofs::FarmPut::farm_finding))]
-    pub(crate) fn find_farm(&mut self) -> Result<NodeFound, FolderFault>
-        ensures began { self.new.began.items ≡ self.old.began.items }
-        ensures own { is_own (S.calls self.new.store) ≡ is_own (S.calls self.old.store) }
-        ensures heard { heard_in (S.calls self.new.store) ≡ heard_in (S.calls self.old.store) }
-        ensures farm { NothingPut (S.calls self.old.store) (S.calls self.new.store) }
-        ensures sound { IfOk result IsSoundFind }
-        ensures says { IfOk result (λ found. IsFarmSaid found (S.calls self.new.store)) }
-    {
-        find_in(&mut self.store)
-    }
-
     /// The first bytes of a file, so many at most. None: there is no such file.
-    #[tactic(auto, using(crate::proofs::Stays::own_reading, crate::proofs::Stays::heard_reading, crate::proofs::FarmPut::farm_reading))]
+    #[tactic(auto, using(crate::proofs::Stays::own_reading, crate::proofs::Stays::heard_reading, crate::proofs::FarmPut::farm_reading, crate::proofs::Causes::after_reading, crate::proofs::Causes::read_caused))]
     pub(crate) fn read(
         &mut self,
         file: FileName,
@@ -95,12 +89,15 @@ impl<S: Store> RunningStore<S> {
         ensures farm { NothingPut (S.calls self.old.store) (S.calls self.new.store) }
         ensures read { IfOk result (λ found.
             S.calls self.new.store ≡ read file (bytes_of found) ∷ S.calls self.old.store) }
+        ensures after { IsAfter (S.calls self.old.store) (S.calls self.new.store) }
+        ensures err { IfErr result (λ fault.
+            IsCausedBy (Store fault) (S.calls self.old.store) (S.calls self.new.store)) }
     {
         self.store.read(file, most)
     }
 
     /// What the file `joins` says of a folder that joins. None: it doesn't join.
-    #[tactic(auto, using(crate::proofs::Joined::farm_beside, crate::proofs::Joined::joining_said, crate::proofs::Joined::none_joins))]
+    #[tactic(auto, using(crate::proofs::Joined::farm_beside, crate::proofs::Joined::joining_said, crate::proofs::Joined::none_joins, crate::proofs::Causes::joining_shown, crate::proofs::Causes::none_there, crate::proofs::Causes::none_shown, crate::proofs::Causes::bad_text, crate::proofs::Causes::by_read))]
     fn find_joining(&mut self) -> Result<Option<Joining>, FolderError>
         ensures began { self.new.began.items ≡ self.old.began.items }
         ensures own { is_own (S.calls self.new.store) ≡ is_own (S.calls self.old.store) }
@@ -113,6 +110,13 @@ impl<S: Store> RunningStore<S> {
             SaysJoining joining (S.calls self.new.store))) }
         ensures none { IfOk result (λ found. found ≡ None →
             JoinsNoMore (S.calls self.new.store)) }
+        ensures after { IsAfter (S.calls self.old.store) (S.calls self.new.store) }
+        ensures shown { IfOk result (λ found. IfSome found (λ joining. EndsWith
+            (ShowsJoining joining) (S.calls self.old.store) (S.calls self.new.store))) }
+        ensures none_shown { IfOk result (λ found. found ≡ None →
+            EndsWith ShowsNoJoining (S.calls self.old.store) (S.calls self.new.store)) }
+        ensures err { IfErr result (λ error.
+            IsWhyUntold error (S.calls self.old.store) (S.calls self.new.store)) }
     {
         match self.read(FileName::Joins, MOST_BYTES) {
             Ok(Some(bytes)) => joining_in(&bytes),
@@ -124,13 +128,15 @@ impl<S: Store> RunningStore<S> {
     /// Puts in the place of the file `joins` what it says once the folder, which joins, was told
     /// this, in the folder that is locked. What doesn't count after what the file says changes
     /// nothing. After an error the text from before or this one is there.
-    #[tactic(auto, using(crate::proofs::Joined::may_be_told, crate::proofs::Joined::told_so, crate::proofs::Joined::told_before))]
+    #[tactic(auto, using(crate::proofs::Joined::may_be_told, crate::proofs::Joined::told_so, crate::proofs::Joined::told_before, crate::proofs::Causes::untold_none))]
     pub(crate) fn tell_joining(&mut self, alloc: Global, step: &JoinStep) -> Result<(), FolderError>
         requires own { is_own (S.calls self.old.store) ≡ true }
         ensures began { self.new.began.items ≡ self.old.began.items }
         ensures told { OnOk result (IsTold step.now (S.calls self.new.store)) }
         ensures heard { heard_in (S.calls self.new.store) ≡ heard_in (S.calls self.old.store) }
         ensures farm { NothingPut (S.calls self.old.store) (S.calls self.new.store) }
+        ensures err { IfErr result (λ error.
+            IsWhyUntold error (S.calls self.old.store) (S.calls self.new.store)) }
     {
         let joining = match self.find_joining() {
             Ok(Some(joining)) => joining,
@@ -150,7 +156,7 @@ impl<S: Store> RunningStore<S> {
     /// file `farm` says that its node has published so far, as its process wrote it. Err: by its
     /// files the folder may not vote, or a call failed. After an error the text from before or none
     /// is there.
-    #[tactic(auto, using(crate::proofs::Joined::emptied))]
+    #[tactic(auto, using(crate::proofs::Joined::emptied, crate::proofs::Causes::not_joined_untold, crate::proofs::Causes::not_joined_early))]
     pub(crate) fn finish_joining(
         &mut self,
         alloc: Global,
@@ -163,6 +169,8 @@ impl<S: Store> RunningStore<S> {
         ensures joined { OnOk result (JoinsNoMore (S.calls self.new.store)) }
         ensures heard { heard_in (S.calls self.new.store) ≡ heard_in (S.calls self.old.store) }
         ensures farm { NothingPut (S.calls self.old.store) (S.calls self.new.store) }
+        ensures err { IfErr result (λ error.
+            IsWhyNotJoined error published (S.calls self.old.store) (S.calls self.new.store)) }
     {
         let joining = match self.find_joining() {
             Ok(Some(joining)) => joining,
@@ -176,7 +184,7 @@ impl<S: Store> RunningStore<S> {
     }
 
     /// Whether there is a tape of a node.
-    #[tactic(auto, using(crate::proofs::Stays::own_seen, crate::proofs::Stays::heard_seeing, crate::proofs::FarmPut::farm_seeing, crate::proofs::FarmPut::own_seeing))]
+    #[tactic(auto, using(crate::proofs::Stays::own_seen, crate::proofs::Stays::heard_seeing, crate::proofs::FarmPut::farm_seeing, crate::proofs::FarmPut::own_seeing, crate::proofs::Causes::after_reading, crate::proofs::Causes::unread, crate::proofs::Causes::no_tape))]
     fn has_tape(&mut self, node: u8) -> Result<bool, FolderFault>
         ensures began { self.new.began.items ≡ self.old.began.items }
         ensures own { is_own (S.calls self.new.store) ≡ is_own (S.calls self.old.store) }
@@ -184,6 +192,12 @@ impl<S: Store> RunningStore<S> {
         ensures farm { NothingPut (S.calls self.old.store) (S.calls self.new.store) }
         ensures own_farm { OnOk result
             (IsOwnFarm (S.calls self.old.store) → IsOwnFarm (S.calls self.new.store)) }
+        ensures after { IsAfter (S.calls self.old.store) (S.calls self.new.store) }
+        ensures absent { IfOk result (λ there. there ≡ false → EndsWith
+            (λ call. call ≡ seen (names.NodeTape node) presences.Absent)
+            (S.calls self.old.store) (S.calls self.new.store)) }
+        ensures err { IfErr result (λ fault.
+            IsCausedBy (Store fault) (S.calls self.old.store) (S.calls self.new.store)) }
     {
         match self.store.presence(FileName::NodeTape(node)) {
             Ok(presence) => Ok(presence.is_there()),
@@ -193,13 +207,16 @@ impl<S: Store> RunningStore<S> {
 
     /// Opens the tape of a node, which has to be there, in the folder that is locked, whose file
     /// `farm` was read, and is one that the process wrote.
-    #[tactic(auto, using(crate::proofs::Stays::stays_opening, crate::proofs::Stays::heard_opening, crate::proofs::FarmPut::farm_opening))]
+    #[tactic(auto, using(crate::proofs::Stays::stays_opening, crate::proofs::Stays::heard_opening, crate::proofs::FarmPut::farm_opening, crate::proofs::Causes::tape_why, crate::proofs::Causes::tape_then, wf_store::specs::CallTheorems::after_both))]
     pub(crate) fn open_tape(&mut self, node: u8) -> Result<S::Tape, NotReopened>
         requires own { is_own (S.calls self.old.store) ≡ true }
         requires farm { IsOwnFarm (S.calls self.old.store) }
         ensures began { self.new.began.items ≡ self.old.began.items }
         ensures heard { heard_in (S.calls self.new.store) ≡ heard_in (S.calls self.old.store) }
         ensures farm { NothingPut (S.calls self.old.store) (S.calls self.new.store) }
+        ensures after { IsAfter (S.calls self.old.store) (S.calls self.new.store) }
+        ensures err { IfErr result (λ why.
+            IsWhyTapeUnopened why node (S.calls self.old.store) (S.calls self.new.store)) }
     {
         match self.has_tape(node) {
             Ok(true) => {}
@@ -215,7 +232,7 @@ impl<S: Store> RunningStore<S> {
     /// Puts a text in the place of a file that is no tape, in the folder that is locked. Meanwhile
     /// another folder may have come to the path, which is an error. After an error the text from
     /// before or this one is there.
-    #[tactic(auto, using(crate::proofs::Stays::stays_replacing, crate::proofs::Stays::was_put, crate::proofs::Stays::was_put_or_not, crate::proofs::Stays::was_not_put, crate::proofs::Stays::heard_beside, crate::proofs::Stays::heard_beside_not, crate::proofs::FarmPut::farm_now, crate::proofs::FarmPut::farm_beside, crate::proofs::FarmPut::farm_or_not, crate::proofs::FarmPut::farm_beside_not, crate::proofs::FarmPut::farm_not, crate::proofs::FarmPut::farm_tried, crate::proofs::FarmPut::farm_tried_not))]
+    #[tactic(auto, using(crate::proofs::Stays::stays_replacing, crate::proofs::Stays::was_put, crate::proofs::Stays::was_put_or_not, crate::proofs::Stays::was_not_put, crate::proofs::Stays::heard_beside, crate::proofs::Stays::heard_beside_not, crate::proofs::FarmPut::farm_now, crate::proofs::FarmPut::farm_beside, crate::proofs::FarmPut::farm_or_not, crate::proofs::FarmPut::farm_beside_not, crate::proofs::FarmPut::farm_not, crate::proofs::FarmPut::farm_tried, crate::proofs::FarmPut::farm_tried_not, crate::proofs::Causes::file_unwritten))]
     pub(crate) fn replace(&mut self, file: FileName, text: Vec<u8>) -> Result<(), FolderError>
         requires file { is_tape file ≡ false }
         requires own { is_own (S.calls self.old.store) ≡ true }
@@ -235,6 +252,8 @@ impl<S: Store> RunningStore<S> {
             ⊎ (farm_in (S.calls self.new.store) ≡ Some text.items) }
         ensures tried { is_farm file ≡ true →
             farms_put (S.calls self.new.store) ≡ text.items ∷ farms_put (S.calls self.old.store) }
+        ensures cause { IfErr result (λ error.
+            IsCausedBy error (S.calls self.old.store) (S.calls self.new.store)) }
     {
         if let Err(fault) = self.store.replace(file, text) {
             return Err(FolderError::Store(fault));
@@ -249,6 +268,10 @@ fn joining_in(bytes: &[u8]) -> Result<Option<Joining>, FolderError>
     ensures text { IfOk result (λ found. IfSome found (λ joining.
         bytes.now ≡ joins_text joining)) }
     ensures none { IfOk result (λ found. found ≡ None → bytes.now ≡ []) }
+    ensures only { IfOk result (λ found. IfSome found (λ joining. (other : JoiningValue) →
+        IsJoins other → bytes.now ≡ joins_text other → other ≡ joining)) }
+    ensures bad { IfErr result (λ error. (error ≡ Store (Unread names.Joins InvalidData))
+        × ((joining : JoiningValue) → IsJoins joining → ¬ (bytes.now ≡ joins_text joining))) }
 {
     if bytes.is_empty() {
         return Ok(None);
@@ -260,12 +283,16 @@ fn joining_in(bytes: &[u8]) -> Result<Option<Joining>, FolderError>
 }
 
 /// The file `joins` says another thing than its process goes by.
-fn bad_joins() -> FolderError {
+fn bad_joins() -> FolderError
+    ensures { result ≡ Store (Unread names.Joins InvalidData) }
+{
     FolderError::Store(FolderFault::Unread(FileName::Joins, ErrorKind::InvalidData))
 }
 
 /// Why a tape isn't opened again, by the error of the folder.
-pub(crate) fn not_reopened(error: FolderError) -> NotReopened {
+pub(crate) fn not_reopened(error: FolderError) -> NotReopened
+    ensures { result ≡ why_of error }
+{
     match error {
         FolderError::Store(FolderFault::Memory) => NotReopened::Memory,
         error => NotReopened::Folder(error),

@@ -25,7 +25,7 @@ use wf_test_table::{Answered, CaseInput, Transcript, Unanswered};
 /// folder_beside     a file      the same where a folder is in its way
 /// no_folder                     how a tape opens in a folder that isn't there
 /// copied                        whether a copy of each kind of record is made
-/// listed            COUNT       how many lines the listing of a tape of so many records has
+/// listed            COUNT       whether the listing of a tape of so many records has each of them
 /// published_first               how many deliveries a first map takes, from one of three new nodes
 /// delivered         COUNT       how many deliveries are made of so many messages
 /// missed            COUNT       what three nodes have published of which one missed so many maps,

@@ -1,4 +1,5 @@
 mod Answered
+pub mod Cause
 pub mod Continuation
 pub mod Earlier
 mod Learnt

@@ -1,4 +1,5 @@
 pub mod Answer
+pub mod Cause
 pub mod Continuation
 pub mod Folder
 pub mod Lived

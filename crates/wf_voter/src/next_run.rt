@@ -1,8 +1,10 @@
 //! A process begins, and goes on in its next run.
-ghost use Rattle.std.specs.Prelude.{◌≡◌, ◌++◌, ◌∷◌, [], true, IfOk, IsSome, OnOk};
+ghost use Rattle.std.specs.Prelude.{◌≡◌, ◌++◌, ◌∷◌, [], true, IfErr, IfOk, IsSome, OnOk};
 ghost use Rattle.wf_actor.specs.Process.{IsJustOpened};
 ghost use Rattle.wf_digest.specs.Digest.{AreDigestsOf};
 ghost use Rattle.wf_node.specs.Reopening.{HasStoredAs};
+ghost use Rattle.wf_store.specs.Call.{IsAfter};
+ghost use Rattle.wf_voter.specs.Cause.{IsWhyNoNextRun};
 ghost use Rattle.wf_voter.specs.Continuation.{IsNextRun};
 ghost use Rattle.wf_voter.specs.Folder.{counted};
 
@@ -48,7 +50,9 @@ impl<T: Tape> Voter<T> {
 }
 
 impl<T: Tape + Drop> Voter<T> {
-    /// The process's next run, on the tape of its folder, whose start is counted last.
+    /// The process's next run, on the tape of its folder, whose start is counted last. Err: why its
+    /// folder gives none (`specs/Cause.antt`), or its tape.
+    #[tactic(auto, using(crate::proofs::Cause::no_next_run, crate::proofs::Cause::halted_later))]
     pub fn next_run<F: NodeFolder<T>>(
         &self,
         alloc: Global,
@@ -66,6 +70,9 @@ impl<T: Tape + Drop> Voter<T> {
         ensures before { (F.stands folder.new).begun ≡ (F.stands folder.old).begun }
         ensures heard { (F.stands folder.new).heard ≡ (F.stands folder.old).heard }
         ensures starts { IfOk result (λ next. next.starts ≡ (F.stands folder.new).starts) }
+        ensures err { IfErr result (λ why. IsWhyNoNextRun why (F.stands folder.old).starts
+            (F.farm folder.old) (F.attempted folder.old)
+            (F.calls folder.old) (F.calls folder.new)) }
     {
         let process = match self.open_process(alloc, folder) {
             Ok(process) => process,
@@ -90,7 +97,7 @@ impl<T: Tape + Drop> Voter<T> {
     }
 
     /// The process in its next run, on the tape of its folder.
-    #[tactic(auto, using(crate::proofs::Continuation::follows_opened))]
+    #[tactic(auto, using(crate::proofs::Continuation::follows_opened, crate::proofs::Cause::no_next_run))]
     fn open_process<F: NodeFolder<T>>(
         &self,
         alloc: Global,
@@ -104,6 +111,12 @@ impl<T: Tape + Drop> Voter<T> {
         ensures follows { IfOk result (λ process. self.now.process.actor.node.halted ≡ true →
             IsNextRun T.Tape self.now.process.actor process.actor) }
         ensures stands { F.stands folder.new ≡ F.stands folder.old }
+        ensures farm { F.farm folder.new ≡ F.farm folder.old }
+        ensures attempted { F.attempted folder.new ≡ F.attempted folder.old }
+        ensures after { IsAfter (F.calls folder.old) (F.calls folder.new) }
+        ensures err { IfErr result (λ why. IsWhyNoNextRun why (F.stands folder.old).starts
+            (F.farm folder.old) (F.attempted folder.old)
+            (F.calls folder.old) (F.calls folder.new)) }
     {
         match folder.open() {
             Ok(tape) => match self.process.reopen(alloc, tape) {

@@ -1,11 +1,12 @@
 //! A node whose tape has failed opens it again, as the node that it was.
-ghost use Rattle.std.specs.Prelude.{◌≡◌, ◌+◌, ◌⊎◌, IfOk, List, OnErr, OnOk, Some};
+ghost use Rattle.std.specs.Prelude.{◌≡◌, ◌+◌, ◌⊎◌, IfErr, IfOk, List, None, OnErr, OnOk, Option, Some};
 ghost use Rattle.wf_folder.specs.Reach.{IsReachNoLess};
 ghost use Rattle.wf_folder.specs.declared.node_file.NodeFile.{NodeFile};
 ghost use Rattle.wf_peer.specs.PeerProgressText.{peer_progress_text};
 ghost use Rattle.wf_rejoin.specs.ReplacementsText.{replaced_text};
-ghost use Rattle.wf_store.specs.Call.{Call};
+ghost use Rattle.wf_store.specs.Call.{Call, IsAfter};
 ghost use Rattle.wf_store.specs.Texts.{is_replaced, text_in};
+ghost use Rattle.wf_voter.specs.Cause.{IsCausedBy, IsWhyHalted, IsWhyJoining, IsWhyUntold, IsWhyFarmUnwritten};
 ghost use Rattle.wf_voter.specs.Folder.{HasFarmText, IsHeardPut, IsTold, JoinsNoMore, Stand, counted};
 
 use std::fmt;
@@ -65,7 +66,8 @@ impl NotReopened {
     }
 }
 
-/// The folder of a node, which its process has locked.
+/// The folder of a node, which its process has locked. An error says what the last call of the
+/// folder showed (`specs/Cause.antt`), or that an allocation failed.
 pub trait NodeFolder<T> {
     /// How many starts the file `farm` counts, as this process wrote it last, the calls of the
     /// folder before the node ran, and what the file `heard` has.
@@ -77,11 +79,19 @@ pub trait NodeFolder<T> {
     /// The file `farm`, as this process wrote it last.
     ghost farm: { Self → NodeFile };
 
+    /// A later one, whose writing failed: it may be there.
+    ghost attempted: { Self → Option NodeFile };
+
     /// Opens the node's tape, if the folder at its path is the one that is locked, and its file
-    /// `farm` the one that this process wrote last. No file is made: a tape that is absent is an
-    /// error.
+    /// `farm` one that this process wrote: the last one, or a later one whose writing failed. No
+    /// file is made: a tape that is absent is an error.
     fn open(&mut self) -> Result<T, NotReopened>
-        ensures { stands self.new ≡ stands self.old };
+        ensures stands { stands self.new ≡ stands self.old }
+        ensures farm { farm self.new ≡ farm self.old }
+        ensures attempted { attempted self.new ≡ attempted self.old }
+        ensures after { IsAfter (calls self.old) (calls self.new) }
+        ensures err { IfErr result (λ why. IsWhyHalted why (stands self.old).starts
+            (farm self.old) (attempted self.old) (calls self.old) (calls self.new)) };
 
     /// Counts one start more in the file `farm`, synced. Ok is their number. After an error the
     /// file may count it or not; the next call counts the same start.
@@ -90,29 +100,40 @@ pub trait NodeFolder<T> {
         ensures counted { OnOk result (stands self.new ≡ counted (stands self.old)) }
         ensures same { OnErr result (stands self.new ≡ stands self.old) }
         ensures file { IfOk result (λ number. (farm self.new).starts ≡ number) }
-        ensures written { OnOk result (HasFarmText (farm self.new) (calls self.new)) };
+        ensures written { OnOk result (HasFarmText (farm self.new) (calls self.new)) }
+        ensures err { IfErr result (λ why. IsWhyHalted why (stands self.old).starts
+            (farm self.old) (attempted self.old) (calls self.old) (calls self.new)) };
 
     /// Raises in the file `farm` how far the node is known to have been, with the digest of its
     /// history up to its last published sequence, if that is more than the file has: synced, with
-    /// the folder. Where the file that was written last says so much, nothing is called.
+    /// the folder. Where the file that was written last says so much, and no later writing failed,
+    /// nothing is called.
     fn keep(&mut self, reach: &Reach, digest: [u8; 32]) -> Result<(), FolderError>
         ensures stands { stands self.new ≡ stands self.old }
         ensures reach { OnOk result (IsReachNoLess reach.now (farm self.new).known.reach) }
         ensures written { OnOk result (HasFarmText (farm self.new) (calls self.new)
-            ⊎ ((farm self.new ≡ farm self.old) × (calls self.new ≡ calls self.old))) };
+            ⊎ ((farm self.new ≡ farm self.old) × (calls self.new ≡ calls self.old))) }
+        ensures spared { attempted self.old ≡ None →
+            IsReachNoLess reach.now (farm self.old).known.reach →
+            calls self.new ≡ calls self.old }
+        ensures err { IfErr result (λ error. IsWhyFarmUnwritten error
+            (farm self.old) (attempted self.old) (calls self.old) (calls self.new)) };
 
     /// Writes into the file `farm` that a peer has suspended the node: synced, with the folder.
     fn suspend(&mut self, suspension: Suspension) -> Result<(), FolderError>
         ensures stands { stands self.new ≡ stands self.old }
         ensures suspended { OnOk result ((farm self.new).suspension ≡ Some suspension) }
-        ensures written { OnOk result (HasFarmText (farm self.new) (calls self.new)) };
+        ensures written { OnOk result (HasFarmText (farm self.new) (calls self.new)) }
+        ensures err { IfErr result (λ error. IsWhyFarmUnwritten error
+            (farm self.old) (attempted self.old) (calls self.old) (calls self.new)) };
 
     /// Puts what was heard of the peers in the place of the file `heard`: synced, with the folder,
     /// if the folder at its path is the one that is locked. After an error the file has what it had
     /// or this.
     fn keep_heard(&mut self, heard: &PeerProgress) -> Result<(), FolderError>
-        ensures { IsHeardPut result (peer_progress_text heard.now)
-            (stands self.old) (stands self.new) };
+        ensures put { IsHeardPut result (peer_progress_text heard.now)
+            (stands self.old) (stands self.new) }
+        ensures err { IfErr result (λ error. IsCausedBy error (calls self.old) (calls self.new)) };
 
     /// Puts what is known of replacements in the place of the file `replaced`: synced, with the
     /// folder, if the folder at its path is the one that is locked. After an error the file has
@@ -123,7 +144,9 @@ pub trait NodeFolder<T> {
             (text_in is_replaced (calls self.new) ≡ Some (replaced_text known.now)) }
         ensures err { OnErr result
             ((text_in is_replaced (calls self.new) ≡ text_in is_replaced (calls self.old))
-            ⊎ (text_in is_replaced (calls self.new) ≡ Some (replaced_text known.now))) };
+            ⊎ (text_in is_replaced (calls self.new) ≡ Some (replaced_text known.now))) }
+        ensures cause { IfErr result (λ error.
+            IsCausedBy error (calls self.old) (calls self.new)) };
 
     /// Puts in the place of the file `joins` what it says once the folder, which joins, was told
     /// this: synced, with the folder, if the folder at its path is the one that is locked. After an
@@ -131,7 +154,9 @@ pub trait NodeFolder<T> {
     /// was written before, or never counts: the file stays as it is.
     fn keep_joining(&mut self, step: &JoinStep) -> Result<(), FolderError>
         ensures stands { stands self.new ≡ stands self.old }
-        ensures told { OnOk result (IsTold step.now (calls self.new)) };
+        ensures told { OnOk result (IsTold step.now (calls self.new)) }
+        ensures err { IfErr result (λ error.
+            IsWhyUntold error (calls self.old) (calls self.new)) };
 
     /// Puts an empty text in the place of the file `joins`, synced, with the folder: the folder has
     /// joined, and votes from its next start on. An error is also that it may not, by what its
@@ -139,7 +164,9 @@ pub trait NodeFolder<T> {
     /// After an error the text from before or none is there.
     fn finish_joining(&mut self) -> Result<(), FolderError>
         ensures stands { stands self.new ≡ stands self.old }
-        ensures joined { OnOk result (JoinsNoMore (calls self.new)) };
+        ensures joined { OnOk result (JoinsNoMore (calls self.new)) }
+        ensures err { IfErr result (λ error. IsWhyJoining error
+            (farm self.old) (attempted self.old) (calls self.old) (calls self.new)) };
 }
 
 /// A process that goes on for one whose tape has failed, with the digests of no history yet, and

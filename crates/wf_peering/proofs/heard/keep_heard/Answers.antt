@@ -11,10 +11,10 @@ pub returns-in-Ok : goal.returns-in-Ok
 returns-in-Ok g c =
     let same = rw c.in-Some.is at c.unsaved.ensures in
     let all = subst (λ (known : List (Option Heard)). HearAll c.args.voter.now.kept known) (sym same) c.hold.ensures in
-    record { on = wrote g.T.Tape c.in-Some.heard (peer_progress_text c.in-Some.heard) _ _ c.args.voter.now _ all refl c.in-Ok.ensures refl }
+    record { on = wrote g.T.Tape c.in-Some.heard (peer_progress_text c.in-Some.heard) _ _ c.args.voter.now _ all refl c.in-Ok.ensures.put refl }
 
 pub returns-in-Err : goal.returns-in-Err
 returns-in-Err g c =
     let same = rw c.in-Some.is at c.unsaved.ensures in
     let all = subst (λ (known : List (Option Heard)). HearAll c.args.voter.now.kept known) (sym same) c.hold.ensures in
-    record { on = wrote_or_not g.T.Tape c.in-Some.heard (peer_progress_text c.in-Some.heard) _ _ c.args.voter.now all refl c.in-Err.ensures }
+    record { on = wrote_or_not g.T.Tape c.in-Some.heard (peer_progress_text c.in-Some.heard) _ _ c.args.voter.now all refl c.in-Err.ensures.put }
