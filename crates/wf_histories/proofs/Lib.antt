@@ -7,6 +7,7 @@ mod Folders
 mod Relay
 mod Farms
 mod Agreement
+mod Told
 mod Replicas
 mod Advance
 mod Answers

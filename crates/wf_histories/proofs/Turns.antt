@@ -24,10 +24,10 @@ pub in_second : (m : Message) (xs ys : List Message) → IsIn m ys → IsIn m (x
 in_second m [] ys is = is
 in_second m (x ∷ xs) ys is = inr (in_second m xs ys is)
 
-pub in_either : (m : Message) (xs ys : List Message) → IsIn m (xs ++ ys) → IsIn m xs ⊎ IsIn m ys
-in_either m [] ys is = inr is
-in_either m (x ∷ xs) ys (inl same) = inl (inl same)
-in_either m (x ∷ xs) ys (inr later) = elim (in_either m xs ys later) [
+pub in_either : {A : Type 0} (x : A) (xs ys : List A) → IsIn x (xs ++ ys) → IsIn x xs ⊎ IsIn x ys
+in_either x [] ys is = inr is
+in_either x (y ∷ xs) ys (inl same) = inl (inl same)
+in_either x (y ∷ xs) ys (inr later) = elim (in_either x xs ys later) [
   | inl front ↦ inl (inr front)
   | inr back ↦ inr back
 ]

@@ -2,6 +2,7 @@ pub mod Carried
 pub mod Runs
 pub mod Nodes
 pub mod Theorems
+pub mod Told
 pub mod Replicas
 pub mod Advance
 pub mod Answers

@@ -9,6 +9,7 @@ ghost use Rattle.wf_histories.specs.Lifetimes.{LifetimesAnswerAlike, LifetimesAn
 ghost use Rattle.wf_histories.specs.LivesAdvance.{FirstStarts, FolderTakesPlace, LifeGoesOn, NothingLives};
 ghost use Rattle.wf_histories.specs.Replicas.{ReplicasAgree};
 ghost use Rattle.wf_histories.specs.Theorems.{NodesAgree, NodesAreOneFarm, ProcessesShowLives, ProcessesShowWhatCame};
+ghost use Rattle.wf_histories.specs.Told.{ReplicasAreTold};
 
 use wf_actor::{processes_respond_alike, runs_receive_their_own};
 use wf_execution::{
@@ -18,7 +19,7 @@ use wf_journal::records_are_read_one_way;
 use wf_node_folder::farm_files_are_kept;
 use wf_rejoin_guard::learners_may_rejoin;
 use wf_replacement::{published_lists_grow, timelines_agree, timelines_answer_alike};
-use wf_replica::{a_replica_never_goes_back, what_is_learned_is_served};
+use wf_replica::{a_replica_never_goes_back, what_is_heard_is_reported, what_is_learned_is_served};
 use wf_tape::Tape;
 use wf_wire::only_posted_messages_come;
 
@@ -126,7 +127,7 @@ pub fn node_processes_go_on<T: Tape>()
 /// told by lists of nodes and of replicas of the farm.
 ///
 /// `AreFarm` is met by [`nodes_are_one_farm`], `HasServed` by `run` of `wf_replica_command`, and
-/// `AreReported` by [`wf_replica::what_is_heard_is_reported`].
+/// `AreReported` by [`replicas_are_told`].
 pub fn replicas_are_of_the_farm<N: Tape, R: Tape>()
     ensures { ReplicasAgree N.Tape R.Tape }
 {
@@ -134,6 +135,18 @@ pub fn replicas_are_of_the_farm<N: Tape, R: Tape>()
     replicas_agree::<N>();
     replicas_answer_alike::<N>();
     a_replica_never_goes_back();
+}
+
+/// All that a replica has heard was told by lists of nodes and of replicas of the farm, if each
+/// connection on which a reply came is one to a readers' port of theirs.
+///
+/// `HasServed` has what was sent on those connections and what came; of a port, `always_replied`
+/// and `on_ready` of `wf_readers_port` say it. That the two ends are of one connection is TCP's
+/// promise, of which no call speaks.
+pub fn replicas_are_told<N, R: Tape>()
+    ensures { ReplicasAreTold N R.Tape }
+{
+    what_is_heard_is_reported::<N>();
 }
 
 /// The processes of a folder that joins have learned what the next one on it reads of its tape:

@@ -1,14 +1,17 @@
 -- What came from a reader and was sent to it, as it asks and is replied to.
 use Rattle.std.proofs.Common.{◌≡◌, ℕ, List, [], ◌∷◌, ◌++◌, length, take, drop, refl, sym, ap, ◌∙◌, arith, Vec}
 use Rattle.std.proofs.lemmas.List.{append-nil, append_assoc, drop-drop, take-append-drop}
+use Rattle.std.specs.Prelude.{Result, Ok}
 use Rattle.std.specs.declared.alloc.Global.{Global}
 use Rattle.wf_client.specs.ResponseBuffer.{Outgoing, IsTakenUp, rest_of}
 use Rattle.wf_def.specs.Definition.{Definition}
 use Rattle.wf_digest.specs.Digest.{AreDigestsOf}
-use Rattle.wf_reader.specs.Question.{question_length}
+use Rattle.wf_reader.specs.Question.{IsQuestion, question_bytes, question_length}
 use Rattle.wf_reader.specs.declared.answerer.Answerer.{Answerer}
+use Rattle.wf_reader.specs.declared.fault.QuestionFault.{QuestionFault}
+use Rattle.wf_reader.specs.declared.question.Question.{Question}
 use Rattle.wf_readers_port.specs.Exchanges.{AreRepliedBy, Exchange, HasConversed, questions_of, replies_of}
-use Rattle.wf_readers_port.specs.QuestionReplies.{RepliesTo}
+use Rattle.wf_readers_port.specs.QuestionReplies.{BeginsWithQuestion, RepliesTo}
 
 -- ---- bytes
 
@@ -79,6 +82,15 @@ received came came' front question question' piece came_is question_is is =
 -- none came
 pub received_none : (came came' front question : List ℕ) → came' ≡ came ++ [] → came ≡ front ++ question → came' ≡ front ++ question
 received_none came came' front question came_is is = came_is ∙ append-nil came ∙ is
+
+-- bytes that are read as a question begin with no other
+pub begins_with : (bytes : List ℕ) (result : Result Question QuestionFault) (question : Question) → result ≡ Ok question → (rest : List ℕ) × (bytes ≡ question_bytes question ++ rest)
+    → ((other : Question) (after : List ℕ) → IsQuestion other → bytes ≡ question_bytes other ++ after → result ≡ Ok other) → BeginsWithQuestion bytes question
+begins_with bytes result question read front each = record {
+  rest = front.0;
+  begins = front.1;
+  only = λ other after is begins. let same : Ok question ≡ Ok other = sym read ∙ each other after is begins in cc;
+}
 
 -- ---- exchanges
 

@@ -2,8 +2,8 @@
 use Rattle.std.specs.Prelude.{◌≡◌, ◌⊎◌, ℕ, ⊤, List, ◌++◌}
 use Rattle.wf_def.specs.Definition.{Definition}
 use Rattle.wf_reader.specs.Answerer.{IsReplyTo}
-use Rattle.wf_reader.specs.Question.{IsOfOtherVersion, question_bytes}
-use Rattle.wf_reader.specs.Reply.{reply_bytes}
+use Rattle.wf_reader.specs.Question.{IsOfOtherVersion, IsQuestion, question_bytes}
+use Rattle.wf_reader.specs.Reply.{IsReply, reply_bytes}
 use Rattle.wf_reader.specs.declared.answerer.Answerer.{Answerer}
 use Rattle.wf_reader.specs.declared.question.Question.{Question}
 use Rattle.wf_reader.specs.declared.rejection.QuestionRejection.TheVariants.{OtherVersion}
@@ -19,9 +19,16 @@ IfReplied (answered.Replied why) P = P
 IfReplied answered.Malformed P = ⊤
 IfReplied answered.Memory P = ⊤
 
+-- The bytes begin with this question, and with no other.
+pub record BeginsWithQuestion (bytes : List ℕ) (question : Question) : Type 0 where
+  pub rest : List ℕ
+  pub begins : bytes ≡ question_bytes question ++ rest
+  pub only : (other : Question) (after : List ℕ) → IsQuestion other → bytes ≡ question_bytes other ++ after → other ≡ question
+
 -- The reply that the question has by that history was appended.
 pub record Replies (own : Answerer) (history : List Definition) (question : Question) (old new : List ℕ) : Type 0 where
   pub reply : Reply
+  pub is_encoded : IsReply reply
   pub is_reply : IsReplyTo own history question reply
   pub written : new ≡ old ++ reply_bytes reply
 
@@ -29,5 +36,5 @@ pub record Replies (own : Answerer) (history : List Definition) (question : Ques
 -- and that was said.
 abbrev pub RepliesTo : Answerer → List Definition → List ℕ → List ℕ → List ℕ → Type 0
 RepliesTo own history bytes old new =
-    ((question : Question) × (rest : List ℕ) × (bytes ≡ question_bytes question ++ rest) × Replies own history question old new)
+    ((question : Question) × BeginsWithQuestion bytes question × Replies own history question old new)
     ⊎ (IsOfOtherVersion bytes × (new ≡ old ++ reply_bytes (Rejected OtherVersion)))

@@ -1,7 +1,7 @@
 //! What is replied to a reader.
 ghost use Rattle.std.specs.Prelude.{◌≡◌, ◌++◌, true};
 ghost use Rattle.wf_digest.specs.Digest.{AreDigestsOf};
-ghost use Rattle.wf_reader.specs.Reply.{reply_bytes};
+ghost use Rattle.wf_reader.specs.Reply.{IsReply, reply_bytes};
 ghost use Rattle.wf_reader.specs.declared.rejection.QuestionRejection.TheVariants as cause;
 ghost use Rattle.wf_reader.specs.declared.reply.Reply.TheVariants as replies;
 ghost use Rattle.wf_readers_port.specs.QuestionReplies.{IfReplied, Replies, RepliesTo};
@@ -27,6 +27,7 @@ pub(crate) enum QuestionOutcome {
 
 /// Replies to the question that bytes begin with. What is written is the reply that the question
 /// has by the history, if the digests are the history's.
+#[tactic(auto, using(crate::proofs::Exchanged::begins_with))]
 pub(crate) fn answer(
     alloc: Global,
     published: &PortView<'_>,
@@ -101,7 +102,8 @@ fn rejection_of(reply: &Reply) -> Option<QuestionRejection> {
 
 /// Appends a reply. Returns whether there was memory for it.
 fn put(reply: &Reply, out: &mut Vec<u8>) -> bool
-    ensures { result ≡ true → out.new.items ≡ out.old.items ++ reply_bytes reply.now }
+    ensures reply { IsReply reply.now }
+    ensures put { result ≡ true → out.new.items ≡ out.old.items ++ reply_bytes reply.now }
 {
     encode_reply(reply, out).is_ok()
 }

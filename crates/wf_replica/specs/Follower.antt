@@ -34,3 +34,4 @@ pub record HasLearnedNothing {T : Type 0} {tapes : Tape T} (old new : Follower T
   pub list : list_of new ≡ list_of old
   pub received : received_by new ≡ received_by old
   pub answers : answers_of new ≡ answers_of old
+  pub read : read_by new ≡ read_by old

@@ -1,7 +1,7 @@
 //! A replica serves the public.
 
 ghost use Rattle.std.specs.Prelude.{◌≡◌, IsTrue};
-ghost use Rattle.wf_replica.specs.Follower.{HasLearnedNothing, list_of, read_by};
+ghost use Rattle.wf_replica.specs.Follower.{HasLearnedNothing, list_of};
 ghost use Rattle.wf_replica.specs.MapList.{heard_by, maps_of};
 ghost use Rattle.wf_replica.specs.Service.{AsksToPublish, IsInputServed, IsUnsent};
 
@@ -27,7 +27,6 @@ impl<T: Tape> Follower<T> {
             outgoing.old.bytes outgoing.new.bytes result }
         ensures unsent { IsUnsent result outgoing.old outgoing.new }
         ensures same { HasLearnedNothing self.old self.new }
-        ensures read { read_by self.new ≡ read_by self.old }
     {
         self.maps.serve(alloc, incoming, outgoing)
     }

@@ -8,12 +8,15 @@ use Rattle.wf_reader.specs.declared.rejection.QuestionRejection.{QuestionRejecti
 use Rattle.wf_reader.specs.declared.reply.Reply.{Reply}
 use Rattle.wf_reader.specs.declared.reply.Reply.TheVariants as replies
 use Rattle.wf_replica.specs.Fit.{IsOtherHistory, AnswerLeaves}
-use Rattle.wf_replica.specs.Follower.{HasLearnedNothing, answers_of, list_of}
+use Rattle.wf_replica.specs.Follower.{HasLearnedNothing, answers_of, list_of, read_by, received_by}
+use Rattle.wf_replica.specs.Heard.{CameByAnswers}
+use Rattle.wf_replica.specs.LearnedList.{numbered}
 use Rattle.wf_replica.specs.declared.follower.Follower.{Follower}
 use Rattle.wf_replica.specs.declared.misfit.AnswerFault.{AnswerFault}
 use Rattle.wf_replica_command.specs.Continuation.{IsLaterReplica}
 use Rattle.wf_replica_command.specs.Heard.{AreHeard, Course, Hears, IsFewer, IsAnswerGiven, IsReplyHeard, IsKept, IsNoted, IsRefusal, IsRefusing, IsQuiet, IsReplyTaken, course_of}
-use Rattle.wf_replica_command.specs.ReplicaLoop.{HasHeardNothing, state_of}
+use Rattle.wf_replica_command.specs.Conversation.{AreHeardOn, conversations_on}
+use Rattle.wf_replica_command.specs.ReplicaLoop.{HasBeenTold, HasHeardNothing, state_of}
 use Rattle.wf_replica_command.specs.declared.asked.Asked.{Asked}
 use Rattle.wf_replica_command.specs.declared.upstream.Upstream.{Upstream}
 use Rattle.wf_replica_command.specs.declared.event_loop.ReplicaLoop.{ReplicaLoop}
@@ -92,35 +95,35 @@ module _ {T : Type 0} {tapes : Tape T} where
 
 module _ {T N C L : Type 0} {tapes : Tape T} {connections : Connection C} where
   -- no reply came
-  hears_none : (upstream upstream' : Upstream N C L connections) (old new : Follower T tapes) → HasLearnedNothing old new → upstream'.heard.items ≡ upstream.heard.items → IsFewer upstream.refusals upstream'.refusals →
+  hears_none : (upstream upstream' : Upstream N C L connections) (old new : Follower T tapes) → HasLearnedNothing old new → upstream'.heard.replies.items ≡ upstream.heard.replies.items → IsFewer upstream.refusals upstream'.refusals →
       Hears upstream old upstream' new
   hears_none upstream upstream' old new same log fewer = record {
     goes_on = stays_same old new same;
     heard = [];
-    logged = log ∙ sym (append-nil upstream.heard.items);
+    logged = log ∙ sym (append-nil upstream.heard.replies.items);
     are = none_heard (course_of old upstream.refusals) (course_of new upstream'.refusals) (record { kept = record { list = same.list; answers = same.answers }; refusals = fewer });
   }
 
   -- of the replica nothing has changed
-  hears_quiet : (upstream upstream' : Upstream N C L connections) (replica : Follower T tapes) → upstream'.heard.items ≡ upstream.heard.items → IsFewer upstream.refusals upstream'.refusals → Hears upstream replica upstream' replica
+  hears_quiet : (upstream upstream' : Upstream N C L connections) (replica : Follower T tapes) → upstream'.heard.replies.items ≡ upstream.heard.replies.items → IsFewer upstream.refusals upstream'.refusals → Hears upstream replica upstream' replica
   hears_quiet upstream upstream' replica log fewer =
-      hears_none upstream upstream' replica replica (record { list = refl; received = refl; answers = refl }) log fewer
+      hears_none upstream upstream' replica replica (record { list = refl; received = refl; answers = refl; read = refl }) log fewer
 
   pub hears_nothing : (upstream : Upstream N C L connections) (replica : Follower T tapes) → Hears upstream replica upstream replica
   hears_nothing upstream replica =
-      hears_none upstream upstream replica replica (record { list = refl; received = refl; answers = refl }) refl (fewer_itself upstream.refusals)
+      hears_none upstream upstream replica replica (record { list = refl; received = refl; answers = refl; read = refl }) refl (fewer_itself upstream.refusals)
 
   -- nothing came, or nothing that counts
-  pub hears_still : (upstream upstream' : Upstream N C L connections) (replica : Follower T tapes) → upstream'.heard.items ≡ upstream.heard.items → upstream'.refusals ≡ upstream.refusals → Hears upstream replica upstream' replica
+  pub hears_still : (upstream upstream' : Upstream N C L connections) (replica : Follower T tapes) → upstream'.heard.replies.items ≡ upstream.heard.replies.items → upstream'.refusals ≡ upstream.refusals → Hears upstream replica upstream' replica
   hears_still upstream upstream' replica log refusals = hears_quiet upstream upstream' replica log (fewer_same upstream.refusals upstream'.refusals refusals)
 
   -- the connection ended
   pub hears_end : (source : ℕ) (upstream upstream' : Upstream N C L connections) (items : List (Reply × Asked)) (replica : Follower T tapes) → IsNoted source (IsSome {T = QuestionRejection} None) upstream.refusals upstream'.refusals →
-      upstream'.heard.items ≡ items → items ≡ upstream.heard.items → Hears upstream replica upstream' replica
+      upstream'.heard.replies.items ≡ items → items ≡ upstream.heard.replies.items → Hears upstream replica upstream' replica
   hears_end source upstream upstream' items replica noted log before =
       hears_quiet upstream upstream' replica (log ∙ before) (noted_fewer source upstream.refusals upstream.refusals upstream'.refusals noted refl)
 
-  hears_once : (upstream upstream' : Upstream N C L connections) (old new : Follower T tapes) (reply : Reply) (asked : Asked) → IsLaterReplica old new → upstream'.heard.items ≡ upstream.heard.items ++ (reply, asked) ∷ [] →
+  hears_once : (upstream upstream' : Upstream N C L connections) (old new : Follower T tapes) (reply : Reply) (asked : Asked) → IsLaterReplica old new → upstream'.heard.replies.items ≡ upstream.heard.replies.items ++ (reply, asked) ∷ [] →
       IsReplyHeard reply asked (course_of old upstream.refusals) (course_of new upstream'.refusals) → Hears upstream old upstream' new
   hears_once upstream upstream' old new reply asked goes_on log heard = record {
     goes_on = goes_on;
@@ -133,22 +136,22 @@ module _ {T N C L : Type 0} {tapes : Tape T} {connections : Connection C} where
   hears_twice first second third a b c one two = record {
     goes_on = goes_on_twice a b c one.goes_on two.goes_on;
     heard = one.heard ++ two.heard;
-    logged = two.logged ∙ ap (λ (l : List (Reply × Asked)). l ++ two.heard) one.logged ∙ append_assoc first.heard.items one.heard two.heard;
+    logged = two.logged ∙ ap (λ (l : List (Reply × Asked)). l ++ two.heard) one.logged ∙ append_assoc first.heard.replies.items one.heard two.heard;
     are = are_heard_twice (course_of a first.refusals) (course_of b second.refusals) (course_of c third.refusals) one.heard two.heard one.are two.are;
   }
 
   pub hears_reply : (upstream upstream' : Upstream N C L connections) (items : List (Reply × Asked)) (old new : Follower T tapes) (reply : Reply) (asked : Asked) → IsLaterReplica old new →
-      IsReplyHeard reply asked (course_of old upstream.refusals) (course_of new upstream'.refusals) → items ≡ upstream.heard.items ++ (reply, asked) ∷ [] → upstream'.heard.items ≡ items → Hears upstream old upstream' new
+      IsReplyHeard reply asked (course_of old upstream.refusals) (course_of new upstream'.refusals) → items ≡ upstream.heard.replies.items ++ (reply, asked) ∷ [] → upstream'.heard.replies.items ≡ items → Hears upstream old upstream' new
   hears_reply upstream upstream' items old new reply asked goes_on heard before log = hears_once upstream upstream' old new reply asked goes_on (log ∙ before) heard
 
   -- what came, then who was silent, then what was asked
-  pub hears_turn : (first second third fourth : Upstream N C L connections) (a b c : Follower T tapes) → Hears first a second b → third.heard.items ≡ second.heard.items → IsFewer second.refusals third.refusals →
+  pub hears_turn : (first second third fourth : Upstream N C L connections) (a b c : Follower T tapes) → Hears first a second b → third.heard.replies.items ≡ second.heard.replies.items → IsFewer second.refusals third.refusals →
       Hears third b fourth c → Hears first a fourth c
   hears_turn first second third fourth a b c one log fewer two =
       hears_twice first third fourth a b c (hears_twice first second third a b b one (hears_quiet second third b log fewer)) two
 
   -- a question was put, and then something came
-  pub hears_asked : (first second third : Upstream N C L connections) (a b c : Follower T tapes) → HasLearnedNothing a b → second.heard.items ≡ first.heard.items → IsFewer first.refusals second.refusals →
+  pub hears_asked : (first second third : Upstream N C L connections) (a b c : Follower T tapes) → HasLearnedNothing a b → second.heard.replies.items ≡ first.heard.replies.items → IsFewer first.refusals second.refusals →
       Hears second b third c → Hears first a third c
   hears_asked first second third a b c same log fewer after = hears_twice first second third a b c (hears_none first second a b same log fewer) after
 
@@ -163,7 +166,17 @@ module _ {T N C L : Type 0} {tapes : Tape T} {connections : Connection C} where
       subst (λ (r : Renderer T tapes). Hears first a.follower second r.follower) (sym kept)
       (hears_then first second a.follower c.follower d.follower (subst (λ (r : Renderer T tapes). Hears first a.follower second r.follower) (sym same) heard) served)
 
--- an event loop whose replica hasn't asked yet
-pub nothing_heard : {T N C L : Type 0} (tapes : Tape T) {connections : Connection C} (event_loop : ReplicaLoop T N C L tapes connections) (upstream : Upstream N C L connections) → event_loop.upstream ≡ upstream → upstream.heard.items ≡ [] → IsFewer [] upstream.refusals → HasHeardNothing tapes (state_of event_loop)
-nothing_heard {N = N} {C = C} {L = L} tapes {connections = connections} event_loop upstream is heard refusals =
-    record { heard = ap (λ (a : Upstream N C L connections). a.heard.items) is ∙ heard; refusals = subst (λ (a : Upstream N C L connections). IsFewer [] a.refusals) (sym is) refusals }
+module _ {T N C L : Type 0} (tapes : Tape T) {connections : Connection C} (event_loop : ReplicaLoop T N C L tapes connections) where
+  -- its replica hasn't asked yet
+  pub nothing_heard : (upstream : Upstream N C L connections) (follower : Follower T tapes) → event_loop.upstream ≡ upstream → event_loop.clients.renderer.follower ≡ follower → upstream.heard.replies.items ≡ [] → IsFewer [] upstream.refusals →
+      answers_of follower ≡ [] → read_by follower ≡ numbered 1 (list_of follower) → HasHeardNothing tapes (state_of event_loop)
+  nothing_heard upstream follower is of heard refusals answers read = record {
+    heard = ap (λ (a : Upstream N C L connections). a.heard.replies.items) is ∙ heard;
+    refusals = subst (λ (a : Upstream N C L connections). IsFewer [] a.refusals) (sym is) refusals;
+    answers = ap (λ (f : Follower T tapes). answers_of f) of ∙ answers;
+    read = subst (λ (f : Follower T tapes). read_by f ≡ numbered 1 (list_of f)) (sym of) read;
+  }
+
+  pub been_told : ∥ AreHeardOn (conversations_on connections event_loop.upstream.heard.connections.items) event_loop.upstream.heard.replies.items ∥₁ →
+      ∥ CameByAnswers (read_by event_loop.clients.renderer.follower) (answers_of event_loop.clients.renderer.follower) (received_by event_loop.clients.renderer.follower) ∥₁ → HasBeenTold tapes (state_of event_loop)
+  been_told come taken = record { come = come; taken = taken }

@@ -1,6 +1,7 @@
 mod Answers
 mod Faults
 mod Continuation
+mod Conversing
 mod Order
 mod Hearing
 mod Noting

@@ -53,7 +53,7 @@ module _ {T : Type 0} (tapes : Tape T) where
   -- where nobody was answered
   pub kept : (before after : Renderer T tapes) → (after ≡ before) ⊎ HasLearnedNothing before.follower after.follower → HasLearnedNothing before.follower after.follower
   kept before after why = elim why [
-    | inl is ↦ subst (λ (r : Renderer T tapes). HasLearnedNothing before.follower r.follower) (sym is) (record { list = refl; received = refl; answers = refl })
+    | inl is ↦ subst (λ (r : Renderer T tapes). HasLearnedNothing before.follower r.follower) (sym is) (record { list = refl; received = refl; answers = refl; read = refl })
     | inr same ↦ same
   ]
 

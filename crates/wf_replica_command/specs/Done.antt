@@ -2,7 +2,7 @@
 use Rattle.std.specs.Prelude.{ℕ, Result, Ok, Err}
 use Rattle.wf_line.specs.declared.replica_line.ReplicaLine.{ReplicaLine}
 use Rattle.wf_replica_command.specs.Fault.{IsReplicaSystemFault, IsReplicaFault, fault_status}
-use Rattle.wf_replica_command.specs.ReplicaLoop.{HasAnsweredByList, HasHeard, HasHeardNothing, HasLearned, HasOnlyGrown, IsOfFarm, IsListOnTape, IsRefused, ReplicaState}
+use Rattle.wf_replica_command.specs.ReplicaLoop.{HasAnsweredByList, HasBeenTold, HasHeard, HasHeardNothing, HasLearned, HasOnlyGrown, IsOfFarm, IsListOnTape, IsRefused, ReplicaState}
 use Rattle.wf_replica_command.specs.declared.fault.ReplicaFault.{ReplicaFault}
 use Rattle.wf_replica_command.specs.declared.fault.ReplicaFault.TheVariants as faults
 use Rattle.wf_replica_command.specs.declared.event_loop.Turn.{Turn}
@@ -12,14 +12,15 @@ use Rattle.wf_tape.specs.declared.tape.Tape.{Ghosts as Tape}
 
 module _ {T : Type 0} (tapes : Tape T) where
   -- It has served. From the list with which it began it went on by what it heard of its sources,
-  -- and by nothing else; its list is what it heard, which is the farm's if all that it heard was,
-  -- and what its tape has; each client was answered from the list as it then was; and the list
-  -- never went back.
+  -- and by nothing else: that came on its connections to them. Its list is what it heard, which is
+  -- the farm's if all that it heard was, and what its tape has; each client was answered from the
+  -- list as it then was; and the list never went back.
   pub record HasServed : Type 0 where
     pub begun : ReplicaState tapes
     pub unheard : HasHeardNothing tapes begun
     pub event_loop : ReplicaState tapes
     pub heard : HasHeard tapes begun event_loop
+    pub told : HasBeenTold tapes event_loop
     pub lived : HasLearned tapes event_loop
     pub recorded : IsListOnTape tapes event_loop
     pub of_farm : IsOfFarm tapes event_loop

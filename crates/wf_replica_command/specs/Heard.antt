@@ -82,5 +82,5 @@ AreHeard old (x ∷ heard) new = (next : Course) × IsReplyHeard x.0 x.1 old nex
 pub record Hears {T N C L : Type 0} {tapes : Tape T} {connections : Connection C} (old_upstream : Upstream N C L connections) (old : Follower T tapes) (new_upstream : Upstream N C L connections) (new : Follower T tapes) : Type 0 where
   pub goes_on : IsLaterReplica old new
   pub heard : List (Reply × Asked)
-  pub logged : new_upstream.heard.items ≡ old_upstream.heard.items ++ heard
+  pub logged : new_upstream.heard.replies.items ≡ old_upstream.heard.replies.items ++ heard
   pub are : AreHeard (course_of old old_upstream.refusals) heard (course_of new new_upstream.refusals)

@@ -5,4 +5,5 @@ pub mod Continuation
 pub mod ReplicaLoop
 pub mod Heard
 pub mod Source
+pub mod Conversation
 pub mod Start

@@ -4,14 +4,16 @@ use Rattle.wf_execution.specs.Execution.{Execution}
 use Rattle.wf_execution.specs.Replica.{IsListOfFarm}
 use Rattle.wf_client.specs.Client.{Client}
 use Rattle.wf_reader.specs.declared.reply.Reply.{Reply}
-use Rattle.wf_replica.specs.Follower.{received_by, list_of}
+use Rattle.wf_replica.specs.Follower.{answers_of, list_of, read_by, received_by}
+use Rattle.wf_replica.specs.Heard.{CameByAnswers}
 use Rattle.wf_replica.specs.Recorded.{IsRecorded}
 use Rattle.wf_replica.specs.Theorems.{AreReported}
-use Rattle.wf_replica.specs.LearnedList.{learned}
+use Rattle.wf_replica.specs.LearnedList.{learned, numbered}
 use Rattle.wf_replica.specs.Refusals.{all_refuse}
 use Rattle.wf_replica.specs.declared.follower.Follower.{Follower}
 use Rattle.wf_replica_command.specs.Answer.{AreAnswered, AreInOrder}
 use Rattle.wf_replica_command.specs.Continuation.{IsLaterReplica}
+use Rattle.wf_replica_command.specs.Conversation.{AreHeardOn, Conversation, conversations_on}
 use Rattle.wf_replica_command.specs.Heard.{AreHeard, IsFewer, course_of}
 use Rattle.wf_replica_command.specs.declared.asked.Asked.{Asked}
 use Rattle.wf_replica_command.specs.declared.event_loop.ReplicaLoop.{ReplicaLoop}
@@ -22,19 +24,22 @@ use Rattle.wf_sockets.specs.declared.connection.Connection.{Ghosts as Connection
 use Rattle.wf_tape.specs.declared.tape.Tape.{Ghosts as Tape}
 use Rattle.wf_visitors.specs.Visitors.{responses_of}
 
--- All of an event loop but its sockets: the replica, the replies that it heard, which of its
--- sources refuse it, and each client that was answered, with the replica as it then was.
+-- All of an event loop but its sockets: the replica; the replies that it heard, and of each the
+-- connection on which it came, as that then was; which of its sources refuse it; and each client
+-- that was answered, with the replica as it then was.
 pub record ReplicaState {T : Type 0} (tapes : Tape T) : Type 0 where
   pub follower : Follower T tapes
   pub heard : List (Reply × Asked)
+  pub conversations : List Conversation
   pub refusals : List Bool
   pub asked : List (Renderer T tapes × ℕ)
   pub responses : List (Client × ℕ)
 
 abbrev pub state_of : {T N C L : Type 0} {tapes : Tape T} {connections : Connection C} → ReplicaLoop T N C L tapes connections → ReplicaState tapes
-state_of event_loop = record {
+state_of {connections = connections} event_loop = record {
   follower = event_loop.clients.renderer.follower;
-  heard = event_loop.upstream.heard.items;
+  heard = event_loop.upstream.heard.replies.items;
+  conversations = conversations_on connections event_loop.upstream.heard.connections.items;
   refusals = event_loop.upstream.refusals;
   asked = event_loop.clients.asked.items;
   responses = responses_of event_loop.clients.visitors;
@@ -66,10 +71,19 @@ HasAnsweredByList tapes event_loop = ∥ AreAnswered tapes event_loop.asked even
 abbrev pub HasOnlyGrown : {T : Type 0} (tapes : Tape T) → ReplicaState tapes → Type 0
 HasOnlyGrown tapes event_loop = ∥ AreInOrder tapes event_loop.asked (follower_of event_loop) ∥₁
 
--- it has heard nothing of its sources yet: none of them refuses it
+-- Each reply that it heard came on a connection to a source, whole, to a question that was asked
+-- there; and all that it has heard is what it read of its tape, and what it took of the answers.
+pub record HasBeenTold {T : Type 0} (tapes : Tape T) (event_loop : ReplicaState tapes) : Type 0 where
+  pub come : ∥ AreHeardOn event_loop.conversations event_loop.heard ∥₁
+  pub taken : ∥ CameByAnswers (read_by event_loop.follower) (answers_of event_loop.follower) (received_by event_loop.follower) ∥₁
+
+-- It has heard nothing of its sources yet: none of them refuses it, and it was given no answer. Its
+-- list is what it read of its tape.
 pub record HasHeardNothing {T : Type 0} (tapes : Tape T) (event_loop : ReplicaState tapes) : Type 0 where
   pub heard : event_loop.heard ≡ []
   pub refusals : IsFewer [] event_loop.refusals
+  pub answers : answers_of event_loop.follower ≡ []
+  pub read : read_by event_loop.follower ≡ numbered 1 (list_of event_loop.follower)
 
 -- it goes on by what it hears of its sources
 pub record HasHeard {T : Type 0} (tapes : Tape T) (old new : ReplicaState tapes) : Type 0 where

@@ -1,7 +1,8 @@
 //! A replica and its clients.
 
 ghost use Rattle.std.specs.Prelude.{◌≡◌};
-ghost use Rattle.wf_replica.specs.Follower.{HasLearnedNothing, received_by, list_of};
+ghost use Rattle.wf_replica.specs.Follower.{HasLearnedNothing, answers_of, list_of, read_by, received_by};
+ghost use Rattle.wf_replica.specs.Heard.{CameByAnswers};
 ghost use Rattle.wf_replica.specs.LearnedList.{learned};
 ghost use Rattle.wf_replica.specs.Recorded.{IsRecorded};
 ghost use Rattle.wf_replica_command.specs.Answer.{AreAnswered, AreInOrder};
@@ -57,6 +58,8 @@ impl<T: Tape + Drop, N: Network> ReplicaClients<T, N> {
     pub(crate) fn always_served(&self)
         ensures lived { learned [] (received_by self.now.renderer.follower) ≡
             list_of self.now.renderer.follower }
+        ensures taken { ∥ CameByAnswers (read_by self.now.renderer.follower)
+            (answers_of self.now.renderer.follower) (received_by self.now.renderer.follower) ∥₁ }
         ensures recorded { IsRecorded T.Tape self.now.renderer.follower.tape
             (list_of self.now.renderer.follower) }
         ensures answered { ∥ AreAnswered T.Tape self.now.asked.items

@@ -9,7 +9,9 @@ ghost use Rattle.wf_replica_command.specs.Continuation.{IsLaterReplica};
 ghost use Rattle.wf_replica_command.specs.Heard.{Hears, IsFewer, IsAnswerGiven, IsReplyHeard, IsNoted, IsRefusing, course_of};
 
 use crate::event::{ReplicaEvent, SourceEnd};
-use crate::source::{SourceConnection, SourceTurn};
+use crate::heard::HeardLog;
+use crate::source::SourceTurn;
+use crate::source_connection::SourceConnection;
 use crate::upstream::Upstream;
 use std::alloc::{AllocError, Global};
 use std::net::{Net, SocketAddr};
@@ -17,7 +19,6 @@ use std::time::Clock;
 use wf_ballot::Seq;
 use wf_folder::FarmName;
 use wf_folder_log::FolderEvent;
-use wf_past::Past;
 use wf_reader::{Answerer, MOST_DISTANCE, Question, QuestionRejection, ReaderAnswer, Reply};
 use wf_replica::{AnswerFault, Asking, Follower, Misfit, Refusals};
 use wf_sockets::Network;
@@ -36,7 +37,7 @@ impl<N: Network> Upstream<N> {
         is_new: bool,
         time: u64,
     ) -> Result<Self, AllocError>
-        ensures heard { IfOk result (λ upstream. upstream.heard.items ≡ []) }
+        ensures heard { IfOk result (λ upstream. upstream.heard.replies.items ≡ []) }
         ensures refusals { IfOk result (λ upstream. IsFewer [] upstream.refusals) }
     {
         let count = sources.len();
@@ -53,7 +54,7 @@ impl<N: Network> Upstream<N> {
             source: None,
             of: 0,
             is_named: false,
-            heard: Past::new(),
+            heard: HeardLog::new(),
             refusals,
             answerer: Answerer {
                 farm,
@@ -99,7 +100,7 @@ impl<N: Network> Upstream<N> {
     /// Leaves a source that was silent for too long.
     #[tactic(auto, using(crate::proofs::Noting::noted_fewer, crate::proofs::Noting::fewer_same))]
     fn give_up<R: Clock + Eprint>(&mut self, context: &Context<'_, '_, R, N>)
-        ensures heard { self.new.heard.items ≡ self.old.heard.items }
+        ensures heard { self.new.heard.replies.items ≡ self.old.heard.replies.items }
         ensures refusals { IsFewer self.old.refusals self.new.refusals }
     {
         if self.asking.is_silent(context.time) {
@@ -116,14 +117,13 @@ impl<N: Network> Upstream<N> {
     )
         ensures { Hears self.old follower.old self.new follower.new }
     {
-        let Some(mut source) = self.source.take() else {
+        let Some(source) = self.source.take() else {
             return;
         };
-        let turned = source.on_ready(context.alloc(), context.network, self.of, &mut self.heard);
-        self.source = Some(source);
-        match turned {
-            SourceTurn::Same => {}
-            SourceTurn::Replied(question, reply) => {
+        match source.on_ready(context.alloc(), context.network, self.of, &mut self.heard) {
+            SourceTurn::Same(source) => self.source = Some(source),
+            SourceTurn::Replied(source, question, reply) => {
+                self.source = Some(source);
                 self.take_reply(context, follower, &question, reply);
             }
             SourceTurn::Ended(why) => self.leave(context, why, None),
@@ -140,7 +140,7 @@ impl<N: Network> Upstream<N> {
         reply: Reply,
     )
         ensures goes_on { IsLaterReplica follower.old follower.new }
-        ensures heard { self.new.heard.items ≡ self.old.heard.items }
+        ensures heard { self.new.heard.replies.items ≡ self.old.heard.replies.items }
         ensures reply { IsReplyHeard reply
             (record { source = self.old.of; question = question.now })
             (course_of follower.old self.old.refusals) (course_of follower.new self.new.refusals) }
@@ -168,7 +168,7 @@ impl<N: Network> Upstream<N> {
         answer: &ReaderAnswer,
     )
         ensures goes_on { IsLaterReplica follower.old follower.new }
-        ensures heard { self.new.heard.items ≡ self.old.heard.items }
+        ensures heard { self.new.heard.replies.items ≡ self.old.heard.replies.items }
         ensures given { IsAnswerGiven question.now answer.now
             (course_of follower.old self.old.refusals) (course_of follower.new self.new.refusals) }
         ensures noted { IsNoted self.old.of (IsOtherHistory (list_of follower.old) answer.now)
@@ -197,7 +197,7 @@ impl<N: Network> Upstream<N> {
         published: Seq,
         answer: &ReaderAnswer,
     )
-        ensures heard { self.new.heard.items ≡ self.old.heard.items }
+        ensures heard { self.new.heard.replies.items ≡ self.old.heard.replies.items }
         ensures noted { IsNoted self.old.of ⊥ self.old.refusals self.new.refusals }
     {
         self.note(None);
@@ -229,7 +229,7 @@ impl<N: Network> Upstream<N> {
         why: SourceEnd,
         refusal: Option<QuestionRejection>,
     )
-        ensures heard { self.new.heard.items ≡ self.old.heard.items }
+        ensures heard { self.new.heard.replies.items ≡ self.old.heard.replies.items }
         ensures noted { IsNoted self.old.of (IsSome refusal) self.old.refusals self.new.refusals }
     {
         let stays = is_unasked(&why) && self.asking.asked.is_none();
@@ -243,7 +243,7 @@ impl<N: Network> Upstream<N> {
 
     /// Logs that the connection to the source has ended.
     fn log_lost<R: Clock + Eprint>(&mut self, context: &Context<'_, '_, R, N>, why: SourceEnd)
-        ensures heard { self.new.heard.items ≡ self.old.heard.items }
+        ensures heard { self.new.heard.replies.items ≡ self.old.heard.replies.items }
         ensures refusals { self.new.refusals ≡ self.old.refusals }
         ensures of { self.new.of ≡ self.old.of }
     {
@@ -258,7 +258,7 @@ impl<N: Network> Upstream<N> {
     /// be reached, or is silent, doesn't.
     #[tactic(auto, using(crate::proofs::Noting::noted_by, crate::proofs::Noting::set_length))]
     fn note(&mut self, refusal: Option<QuestionRejection>)
-        ensures heard { self.new.heard.items ≡ self.old.heard.items }
+        ensures heard { self.new.heard.replies.items ≡ self.old.heard.replies.items }
         ensures noted { IsNoted self.old.of (IsSome refusal) self.old.refusals self.new.refusals }
         ensures of { self.new.of ≡ self.old.of }
     {
@@ -299,7 +299,7 @@ impl<N: Network> Upstream<N> {
         follower: &mut Follower<T>,
     )
         ensures same { HasLearnedNothing follower.old follower.new }
-        ensures heard { self.new.heard.items ≡ self.old.heard.items }
+        ensures heard { self.new.heard.replies.items ≡ self.old.heard.replies.items }
         ensures refusals { IsFewer self.old.refusals self.new.refusals }
     {
         self.asking.ask(context.time);
@@ -316,7 +316,7 @@ impl<N: Network> Upstream<N> {
 
     /// Writes a question to the source, as far as memory allows.
     fn write_question(&mut self, alloc: Global, question: &Question)
-        ensures heard { self.new.heard.items ≡ self.old.heard.items }
+        ensures heard { self.new.heard.replies.items ≡ self.old.heard.replies.items }
         ensures refusals { self.new.refusals ≡ self.old.refusals }
     {
         if let Some(source) = &mut self.source {
@@ -330,7 +330,7 @@ impl<N: Network> Upstream<N> {
         &mut self,
         context: &Context<'_, '_, R, N>,
     ) -> bool
-        ensures heard { self.new.heard.items ≡ self.old.heard.items }
+        ensures heard { self.new.heard.replies.items ≡ self.old.heard.replies.items }
         ensures refusals { self.new.refusals ≡ self.old.refusals }
     {
         if self.source.is_some() {

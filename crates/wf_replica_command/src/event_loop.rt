@@ -2,7 +2,7 @@
 ghost use Rattle.std.specs.Prelude.{◌≡◌, ◌≤◌, [], IfErr, IfOk};
 ghost use Rattle.wf_replica_command.specs.Fault.{IsReplicaSystemFault};
 ghost use Rattle.wf_replica_command.specs.Heard.{Hears};
-ghost use Rattle.wf_replica_command.specs.ReplicaLoop.{HasAnsweredByList, HasHeardNothing, HasLearned, HasOnlyGrown, IsOfFarm, IsListOnTape, IsTurn, state_of};
+ghost use Rattle.wf_replica_command.specs.ReplicaLoop.{HasAnsweredByList, HasBeenTold, HasHeardNothing, HasLearned, HasOnlyGrown, IsOfFarm, IsListOnTape, IsTurn, state_of};
 ghost use Rattle.wf_visitors.specs.Visitors.{responses_of};
 
 use crate::clients::ReplicaClients;
@@ -92,8 +92,10 @@ impl<T: Tape + Drop> ReplicaLoop<T> {
         rt: &R,
         log: &Log<'_, R>,
     ) -> Turn
-        // Whatever came, the list is what was heard, message after message, and what the tape has.
+        // Whatever came, the list is what was heard, message after message, and what the tape has;
+        // and what was heard came on connections.
         ensures lived { HasLearned T.Tape (state_of self.new) }
+        ensures told { HasBeenTold T.Tape (state_of self.new) }
         ensures recorded { IsListOnTape T.Tape (state_of self.new) }
         ensures of_farm { IsOfFarm T.Tape (state_of self.new) }
         // Each response that any client was sent is the one to exactly what had come of its
@@ -177,17 +179,20 @@ impl<T: Tape + Drop, N: Network + Drop> ReplicaLoop<T, N> {
         self.clients.renderer.follower.has_tape()
     }
 
-    /// The replica's list is what it has heard and what its tape has, each client that was answered
-    /// was answered from it as it then was, and it never went back, always. The call does nothing.
-    #[tactic(auto, using(crate::proofs::Faults::of_farm))]
+    /// The replica's list is what it has heard and what its tape has, what it has heard came on its
+    /// connections, each client that was answered was answered from it as it then was, and it never
+    /// went back, always. The call does nothing.
+    #[tactic(auto, using(crate::proofs::Faults::of_farm, crate::proofs::Hearing::been_told))]
     pub(crate) fn always_lived(&self)
         ensures lived { HasLearned T.Tape (state_of self.now) }
+        ensures told { HasBeenTold T.Tape (state_of self.now) }
         ensures recorded { IsListOnTape T.Tape (state_of self.now) }
         ensures of_farm { IsOfFarm T.Tape (state_of self.now) }
         ensures answered { HasAnsweredByList T.Tape (state_of self.now) }
         ensures stayed { HasOnlyGrown T.Tape (state_of self.now) }
     {
         what_is_learned_is_served::<T>();
+        self.upstream.heard.always_come();
         self.clients.always_served();
     }
 
@@ -214,6 +219,7 @@ impl<T: Tape + Drop, N: Network + Drop> ReplicaLoop<T, N> {
         time: u64,
     ) -> Turn
         ensures lived { HasLearned T.Tape (state_of self.new) }
+        ensures told { HasBeenTold T.Tape (state_of self.new) }
         ensures recorded { IsListOnTape T.Tape (state_of self.new) }
         ensures of_farm { IsOfFarm T.Tape (state_of self.new) }
         ensures answered { HasAnsweredByList T.Tape (state_of self.new) }
@@ -288,7 +294,8 @@ fn assemble<T: Tape + Drop, N: Network>(
     time: u64,
 ) -> ReplicaLoop<T, N>
     requires { responses_of begun.visitors ≡ [] }
-    ensures { result.upstream ≡ upstream }
+    ensures upstream { result.upstream ≡ upstream }
+    ensures follower { result.clients.renderer.follower ≡ follower }
 {
     let ReplicaStart {
         network,

@@ -18,8 +18,10 @@
 //! - The list never went back: that by which a client was answered is a beginning of the next
 //!   one's, and of what it is now.
 //! - A durable tape of it has the records of the list, in their order, and nothing else.
-//! - Each reply is one to a question that was open. From the list with which it began, reply by
-//!   reply (`specs/Heard.antt`): an answer that fits its question is taken whole, as far as memory
+//! - Each reply is one to a question that was open, and came whole on the connection where that was
+//!   sent: by then replies alone had come there, and only the questions to them had been sent
+//!   (`specs/Conversation.antt`). From the list with which it began, reply by reply
+//!   (`specs/Heard.antt`): an answer that fits its question is taken whole, as far as memory
 //!   allows, and any other, as any rejection, leaves the list as it was.
 //! - It ends by itself only where all of its sources, as each last replied, are of another farm or
 //!   another history.
@@ -45,6 +47,7 @@ mod event_loop;
 mod facts;
 mod fault;
 mod folder;
+mod heard;
 mod open_question;
 mod parts;
 mod plan;
@@ -52,6 +55,7 @@ mod ready;
 mod renderer;
 mod running_replica;
 mod source;
+mod source_connection;
 mod start;
 mod token;
 mod upstream;

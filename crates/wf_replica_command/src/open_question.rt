@@ -1,7 +1,7 @@
 //! A question that has no reply yet.
 
-ghost use Rattle.std.specs.Prelude.{◌≡◌, IfOk};
-ghost use Rattle.wf_reader.specs.Question.{question_bytes};
+ghost use Rattle.std.specs.Prelude.{◌≡◌, ◌+◌, ◌≤◌, IfOk, IsTrue, drop, length, take};
+ghost use Rattle.wf_reader.specs.Question.{IsQuestion, question_bytes};
 
 use std::alloc::{AllocError, Global};
 use wf_reader::{Question, encode_question};
@@ -12,13 +12,16 @@ pub(crate) struct OpenQuestion {
     question: Question,
     bytes: Vec<u8>,
     written: usize,
+    ghost is_question: { IsQuestion question },
     ghost encoded: { bytes.items ≡ question_bytes question },
+    ghost within: { written ≤ length bytes.items },
 }
 
 impl OpenQuestion {
     /// Nothing of it is written. The only error is allocation failure.
     pub(crate) fn new(alloc: Global, question: &Question) -> Result<OpenQuestion, AllocError>
-        ensures { IfOk result (λ asked. asked.question ≡ question.now) }
+        ensures question { IfOk result (λ asked. asked.question ≡ question.now) }
+        ensures written { IfOk result (λ asked. asked.written ≡ 0) }
     {
         let mut bytes = Vec::new(alloc);
         encode_question(question, &mut bytes)?;
@@ -31,23 +34,35 @@ impl OpenQuestion {
 
     /// The question.
     pub(crate) fn question(&self) -> Question
-        ensures { result ≡ self.now.question }
+        ensures value { result ≡ self.now.question }
+        ensures question { IsQuestion result }
     {
         self.question
     }
 
     /// The bytes that are still to be written.
-    pub(crate) fn rest(&self) -> &[u8] {
-        self.bytes
-            .as_slice()
-            .split_at(self.written.min(self.bytes.len()))
-            .1
+    pub(crate) fn rest(&self) -> &[u8]
+        ensures { result.now ≡ drop self.now.written self.now.bytes.items }
+    {
+        self.bytes.as_slice().split_at(self.written).1
+    }
+
+    /// Whether all of them were written.
+    #[tactic(auto, using(crate::proofs::Conversing::all_written))]
+    pub(crate) fn is_written(&self) -> bool
+        ensures { IsTrue result →
+            take self.now.written self.now.bytes.items ≡ question_bytes self.now.question }
+    {
+        self.bytes.len() <= self.written
     }
 
     /// So many more bytes were written.
     pub(crate) fn advance(&mut self, count: usize)
-        ensures { self.new.question ≡ self.old.question }
+        requires { self.old.written + count ≤ length self.old.bytes.items }
+        ensures question { self.new.question ≡ self.old.question }
+        ensures bytes { self.new.bytes ≡ self.old.bytes }
+        ensures written { self.new.written ≡ self.old.written + count }
     {
-        self.written = self.written.saturating_add(count);
+        self.written += count;
     }
 }

@@ -1,5 +1,9 @@
 //! A replica that is ready to be served.
 
+ghost use Rattle.std.specs.Prelude.{◌≡◌, []};
+ghost use Rattle.wf_replica.specs.Follower.{answers_of, list_of, read_by};
+ghost use Rattle.wf_replica.specs.LearnedList.{numbered};
+
 use crate::plan::ReplicaPlan;
 use wf_replica::Follower;
 use wf_tape::Tape;
@@ -14,4 +18,6 @@ pub(crate) struct ReadyReplica<T: Tape> {
     pub(crate) tape: String,
     // the number of the source that it asks first, counted round
     pub(crate) first: usize,
+    ghost unanswered: { answers_of follower ≡ [] },
+    ghost read: { read_by follower ≡ numbered 1 (list_of follower) },
 }

@@ -5,7 +5,7 @@ ghost use Rattle.wf_line.specs.ProcessLine.{IsReplicaInRange};
 ghost use Rattle.wf_replica.specs.FarmFile.{replica_text};
 ghost use Rattle.wf_replica_command.specs.Fault.{IsReplicaSystemFault, IsReplicaFault};
 ghost use Rattle.wf_replica_command.specs.Heard.{Hears};
-ghost use Rattle.wf_replica_command.specs.ReplicaLoop.{HasAnsweredByList, HasHeardNothing, HasLearned, HasOnlyGrown, IsOfFarm, IsListOnTape, IsTurn, state_of};
+ghost use Rattle.wf_replica_command.specs.ReplicaLoop.{HasAnsweredByList, HasBeenTold, HasHeardNothing, HasLearned, HasOnlyGrown, IsOfFarm, IsListOnTape, IsTurn, state_of};
 ghost use Rattle.wf_replica_command.specs.Start.{IsReplicaStartCause, IsStarted, IsUnstarted};
 ghost use Rattle.wf_store.specs.Call.{locked};
 
@@ -101,10 +101,12 @@ impl<T: Tape + Drop, N: Network + Drop> RunningReplica<T, N> {
         self.event_loop.has_tape()
     }
 
-    /// The replica's list is what it has heard and what its tape has, each client that was answered
-    /// was answered from it as it then was, and it never went back, always. The call does nothing.
+    /// The replica's list is what it has heard and what its tape has, what it has heard came on its
+    /// connections, each client that was answered was answered from it as it then was, and it never
+    /// went back, always. The call does nothing.
     pub fn always_lived(&self)
         ensures lived { HasLearned T.Tape (state_of self.now.event_loop) }
+        ensures told { HasBeenTold T.Tape (state_of self.now.event_loop) }
         ensures recorded { IsListOnTape T.Tape (state_of self.now.event_loop) }
         ensures of_farm { IsOfFarm T.Tape (state_of self.now.event_loop) }
         ensures answered { HasAnsweredByList T.Tape (state_of self.now.event_loop) }
@@ -131,6 +133,7 @@ impl<T: Tape + Drop, N: Network + Drop> RunningReplica<T, N> {
         time: u64,
     ) -> Turn
         ensures lived { HasLearned T.Tape (state_of self.new.event_loop) }
+        ensures told { HasBeenTold T.Tape (state_of self.new.event_loop) }
         ensures recorded { IsListOnTape T.Tape (state_of self.new.event_loop) }
         ensures of_farm { IsOfFarm T.Tape (state_of self.new.event_loop) }
         ensures answered { HasAnsweredByList T.Tape (state_of self.new.event_loop) }
@@ -168,6 +171,7 @@ impl<T: Tape + Drop> RunningReplica<T> {
         log: &Log<'_, R>,
     ) -> Turn
         ensures lived { HasLearned T.Tape (state_of self.new.event_loop) }
+        ensures told { HasBeenTold T.Tape (state_of self.new.event_loop) }
         ensures recorded { IsListOnTape T.Tape (state_of self.new.event_loop) }
         ensures of_farm { IsOfFarm T.Tape (state_of self.new.event_loop) }
         ensures answered { HasAnsweredByList T.Tape (state_of self.new.event_loop) }

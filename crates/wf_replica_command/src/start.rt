@@ -1,8 +1,10 @@
 //! A replica starts on its folder.
-ghost use Rattle.std.specs.Prelude.{◌≡◌, ◌≤◌, ◌⊎◌, ◌∷◌, IfErr, IfOk, OnErr, OnOk};
+ghost use Rattle.std.specs.Prelude.{◌≡◌, ◌≤◌, ◌⊎◌, ◌∷◌, [], IfErr, IfOk, OnErr, OnOk};
 ghost use Rattle.wf_folder.specs.Name.{pad};
 ghost use Rattle.wf_line.specs.ProcessLine.{IsReplicaInRange};
 ghost use Rattle.wf_replica.specs.FarmFile.{replica_text};
+ghost use Rattle.wf_replica.specs.Follower.{answers_of, list_of, read_by};
+ghost use Rattle.wf_replica.specs.LearnedList.{numbered};
 ghost use Rattle.wf_replica_command.specs.Fault.{IsReplicaPlanOf, IsReplicaFault};
 ghost use Rattle.wf_replica_command.specs.Start.{IsReplicaFolderCause, IsReplicaStartCause, IsStarted, IsTapeLookedFor, IsUnclaimed, IsUnstarted};
 ghost use Rattle.wf_store.specs.Call.{OnlyReads, locked};
@@ -109,6 +111,8 @@ fn ready_with<R: Clock + AllocGlobal, T: Tape + Drop>(
     folder: &str,
     follower: Follower<T>,
 ) -> Result<ReadyReplica<T>, ReplicaFault>
+    requires unanswered { answers_of follower ≡ [] }
+    requires read { read_by follower ≡ numbered 1 (list_of follower) }
     ensures plan { IfOk result (λ ready. ready.plan ≡ plan) }
     ensures memory { IfErr result (λ fault. fault ≡ ReplicaFault.Memory) }
 {
@@ -137,6 +141,8 @@ fn open<R: Clock + Eprint + AllocGlobal, S: Store>(
 ) -> Result<Follower<S::Tape>, ReplicaFault>
     requires least { 1 ≤ pictures }
     requires most { pictures ≤ 64 }
+    ensures unanswered { IfOk result (λ follower. answers_of follower ≡ []) }
+    ensures read { IfOk result (λ follower. read_by follower ≡ numbered 1 (list_of follower)) }
     ensures tape { IsTapeLookedFor (S.calls store.old) (S.calls store.new) }
     ensures memory { IfErr result (λ fault. fault ≡ ReplicaFault.Memory) }
 {

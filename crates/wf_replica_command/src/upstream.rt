@@ -4,16 +4,14 @@ ghost use Rattle.std.specs.Prelude.{◌≡◌, length, true};
 ghost use Rattle.std.specs.Option.{ForSome};
 ghost use Rattle.wf_replica.specs.Refusals.{all_refuse};
 
-use crate::asked::Asked;
-use crate::source::SourceConnection;
+use crate::heard::HeardLog;
+use crate::source_connection::SourceConnection;
 use std::net::SocketAddr;
-use wf_past::Past;
-use wf_reader::{Answerer, QuestionRejection, Reply};
+use wf_reader::{Answerer, QuestionRejection};
 use wf_replica::{Asking, Refusals};
 use wf_sockets::Network;
 
-/// Whom a replica asks, and what it has heard of the farm. A clause sees a log that only proofs
-/// read: each reply to a question that was open, with that question.
+/// Whom a replica asks, and what it has heard of the farm.
 #[derive(Drop)]
 pub(crate) struct Upstream<N: Network> {
     pub(crate) sources: Vec<SocketAddr>,
@@ -23,7 +21,7 @@ pub(crate) struct Upstream<N: Network> {
     // one is asked: where it goes on to the next one it says nothing
     pub(crate) of: usize,
     pub(crate) is_named: bool,
-    pub(crate) heard: Past<Reply, Asked>,
+    pub(crate) heard: HeardLog<N::Connection>,
     pub(crate) refusals: Refusals,
     pub(crate) answerer: Answerer,
     pub(crate) received: u16,
