@@ -1,8 +1,10 @@
 -- What came on a replica's connections is what readers' ports of the farm replied.
 use Rattle.std.proofs.Common.{◌≡◌, ◌∙◌, ℕ, ◌+◌, ◌≤◌, List, [], ◌∷◌, ◌++◌, length, take, drop, refl, sym, ap, subst, arith, inl, inr, append_assoc, append-nil, length-append}
-use Rattle.std.proofs.Math.Logic.{∥∥₁_elim, ∥∥₁_prop}
+use Rattle.std.proofs.Math.Logic.{∥∥₁_elim, ∥∥₁_map, ∥∥₁_prop}
+use Rattle.std.proofs.Math.Seq.{take-length}
 use Rattle.std.proofs.lemmas.List.{drop_at, take-append-le, take_at}
 use Rattle.std.specs.Int.{w16, w32, from_be_bytes, to_be_bytes}
+use Rattle.wf_client.specs.ResponseBuffer.{rest_of}
 use Rattle.wf_execution.specs.Execution.{Execution}
 use Rattle.wf_execution.specs.Replica.{IsListOfFarm}
 use Rattle.wf_def.specs.Definition.{Definition}
@@ -21,16 +23,18 @@ use Rattle.wf_reader.specs.declared.reply.Reply.TheVariants as replies
 use Rattle.wf_readers_port.specs.Exchanges.{Exchange, questions_of, replies_of}
 use Rattle.wf_readers_port.specs.QuestionReplies.{RepliesTo}
 use Rattle.wf_replica.specs.Follower.{answers_of, list_of, read_by, received_by}
-use Rattle.wf_replica.specs.LearnedList.{numbered}
-use Rattle.wf_replica.specs.Theorems.{AreAnsweredByFarm, AreReported, HeardAreReported, IsAnsweredByFarm, ReadAreReported}
+use Rattle.wf_replica.specs.LearnedList.{learned}
+use Rattle.wf_replica.specs.Theorems.{AreAnsweredByFarm, AreReported, BeginningsAreServed, HeardAreReported, IsAnsweredByFarm, LearnedAreServed, ReadAreReported}
 use Rattle.wf_replica_command.specs.Conversation.{AreHeardOn, AreReadReplies, Conversation, IsHeardOn, IsOneReply, asked_bytes, replied_bytes}
 use Rattle.wf_replica_command.specs.Done.{HasServed}
 use Rattle.wf_replica_command.specs.Heard.{AreHeard, Course, IsReplyTaken, course_of}
 use Rattle.wf_replica_command.specs.ReplicaLoop.{follower_of}
 use Rattle.wf_replica_command.specs.declared.asked.Asked.{Asked}
+use Rattle.wf_safety.specs.Theorems.{IsBeginning}
+use Rattle.wf_sockets.specs.declared.connection.Connection.{Ghosts as Connection}
 use Rattle.wf_tape.specs.declared.tape.Tape.{Ghosts as Tape}
 use Rattle.wf_histories.proofs.Turns.{in_either}
-use Rattle.wf_histories.specs.Told.{AreRepliedByFarm, AreToldByFarmOn, IsRepliedByFarm, IsToldByFarmOn, ReplicasAreTold}
+use Rattle.wf_histories.specs.Told.{AreAllReported, AreRepliedByFarm, AreReplicasOnFolder, AreToldByFarmOn, IsRepliedByFarm, IsToldByFarmOn, PortsTell, ReplicasAreTold}
 
 -- ---- bytes
 
@@ -177,9 +181,43 @@ module _ {N R : Type 0} (shelves : Tape R) (reported : HeardAreReported N) (read
   read_told : AreReported n executions (read_by (follower_of served.event_loop))
   read_told = subst (AreReported n executions) (sym (served.heard.goes_on.read ∙ served.unheard.read)) (read_reported n executions (list_of (follower_of served.begun)) begun)
 
-  pub all_reported : ∥ AreReported n executions (received_by (follower_of served.event_loop)) ∥₁
+  all_reported : ∥ AreReported n executions (received_by (follower_of served.event_loop)) ∥₁
   all_reported = ∥∥₁_elim served.told.come ∥∥₁_prop (λ come. reported n executions (read_by (follower_of served.event_loop)) (received_by (follower_of served.event_loop)) (answers_of (follower_of served.event_loop))
       served.told.taken read_told (answered come))
 
-pub replicas_are_told : {N R : Type 0} (shelves : Tape R) → HeardAreReported N → ReadAreReported N → ReplicasAreTold N shelves
-replicas_are_told shelves reported read_reported = λ n executions served begun told. all_reported shelves reported read_reported n executions served begun told
+-- ---- on a folder
+
+module _ {N R : Type 0} (shelves : Tape R) (reported : HeardAreReported N) (read_reported : ReadAreReported N) (learned_served : LearnedAreServed N) (beginning : BeginningsAreServed N) (n : ℕ) (executions : ℕ → Execution N) where
+  none_served : IsListOfFarm n executions []
+  unfolding learned
+  none_served = learned_served n executions [] (λ m none. absurd none) 0
+
+  begun_served : (list left : List Definition) → IsBeginning list left → IsListOfFarm n executions left → IsListOfFarm n executions list
+  begun_served list left begins of_farm = subst (IsListOfFarm n executions) (ap (take (length list)) (sym begins.1) ∙ take_at list begins.0 (length list) refl) (beginning n executions left of_farm (length list))
+
+  list_served : (served : HasServed shelves) → AreReported n executions (received_by (follower_of served.event_loop)) → IsListOfFarm n executions (list_of (follower_of served.event_loop))
+  list_served served told =
+      let received : List (Message Definition) = received_by (follower_of served.event_loop) in
+      subst (IsListOfFarm n executions) (ap (learned []) (take-length received) ∙ served.lived) (learned_served n executions received told (length received))
+
+  on_folder : (left : List Definition) (processes : List (HasServed shelves)) → ∥ IsListOfFarm n executions left ∥₁ → AreReplicasOnFolder shelves n executions left processes → AreAllReported shelves n executions processes
+  unfolding AreReplicasOnFolder AreAllReported
+  on_folder left [] of_farm are = tt
+  on_folder left (served ∷ later) of_farm are =
+      let told : ∥ AreReported n executions (received_by (follower_of served.event_loop)) ∥₁ =
+      ∥∥₁_elim of_farm ∥∥₁_prop (λ is. all_reported shelves reported read_reported n executions served (begun_served (list_of (follower_of served.begun)) left are.0 is) are.1) in
+      (told, on_folder (list_of (follower_of served.event_loop)) later (∥∥₁_map told (list_served served)) are.2)
+
+pub replicas_are_told : {N R : Type 0} (shelves : Tape R) → HeardAreReported N → ReadAreReported N → LearnedAreServed N → BeginningsAreServed N → ReplicasAreTold N shelves
+replicas_are_told shelves reported read_reported learned_served beginning = λ n executions processes are.
+    on_folder shelves reported read_reported learned_served beginning n executions [] processes ∣ none_served shelves reported read_reported learned_served beginning n executions ∣₁ are
+
+-- ---- at the other end
+
+pub ports_tell : {C : Type 0} (N : Type 0) (connections : Connection C) → PortsTell N connections
+ports_tell N connections = λ n executions all reader conversation is by_farm came asked. record {
+  exchanges = reader.exchanges.items;
+  by_farm = by_farm;
+  came = (came.0 ++ rest_of reader.reply, sym (append_assoc conversation.came came.0 (rest_of reader.reply)) ∙ ap (λ (s : List ℕ). s ++ rest_of reader.reply) came.1 ∙ is.replied);
+  asked = (reader.question.items ++ asked.0, sym (append_assoc (questions_of reader.exchanges.items) reader.question.items asked.0) ∙ ap (λ (s : List ℕ). s ++ asked.0) (sym is.asked) ∙ asked.1);
+}

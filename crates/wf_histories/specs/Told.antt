@@ -6,11 +6,15 @@ use Rattle.wf_def.specs.Definition.{Definition}
 use Rattle.wf_mail.specs.Mail.{IsFirstPart}
 use Rattle.wf_reader.specs.declared.answerer.Answerer.{Answerer}
 use Rattle.wf_readers_port.specs.Exchanges.{Exchange, IsRepliedBy, questions_of, replies_of}
+use Rattle.wf_readers_port.specs.Readers.{IsReplied}
+use Rattle.wf_readers_port.specs.declared.reader.Reader.{Reader}
 use Rattle.wf_replica.specs.Follower.{list_of, received_by}
 use Rattle.wf_replica.specs.Theorems.{AreReported}
 use Rattle.wf_replica_command.specs.Conversation.{Conversation}
 use Rattle.wf_replica_command.specs.Done.{HasServed}
 use Rattle.wf_replica_command.specs.ReplicaLoop.{follower_of}
+use Rattle.wf_safety.specs.Theorems.{IsBeginning}
+use Rattle.wf_sockets.specs.declared.connection.Connection.{Ghosts as Connection}
 use Rattle.wf_tape.specs.declared.tape.Tape.{Ghosts as Tape}
 
 module _ {T : Type 0} (n : ℕ) (executions : ℕ → Execution T) where
@@ -30,9 +34,8 @@ module _ {T : Type 0} (n : ℕ) (executions : ℕ → Execution T) where
   -- ---- the premise
 
   -- The replica's connection is one to a readers' port of the farm, where these exchanges were made
-  -- by then, as `always_replied` and `on_ready` of `wf_readers_port` say it. TCP's promise, of both
-  -- directions: what had come at the replica is a beginning of what was sent there, and what had
-  -- come there of what the replica had sent.
+  -- by then (`on_ready` of `wf_readers_port`): what had come at the replica is a beginning of the
+  -- replies, and the questions are a beginning of what the replica had sent.
   pub record IsToldByFarmOn (conversation : Conversation) : Type 0 where
     pub exchanges : List Exchange
     pub by_farm : AreRepliedByFarm exchanges
@@ -44,10 +47,30 @@ module _ {T : Type 0} (n : ℕ) (executions : ℕ → Execution T) where
   AreToldByFarmOn [] = ⊤
   AreToldByFarmOn (conversation ∷ conversations) = IsToldByFarmOn conversation × AreToldByFarmOn conversations
 
--- ---- the theorem
+-- ---- on a folder
 
--- Then lists of the farm told all that the replica has heard, if that with which it began, which it
--- read of its tape, is one of them: the empty one, say.
+module _ {T R : Type 0} (shelves : Tape R) (n : ℕ) (executions : ℕ → Execution T) where
+  -- Processes of a replica, one after the other on its folder: each began with what it read of the
+  -- tape, a beginning of the list that the one before it had; and each was told by the farm on its
+  -- connections. The first one began with a beginning of this list.
+  unfoldable pub AreReplicasOnFolder : List Definition → List (HasServed shelves) → Type 0
+  AreReplicasOnFolder left [] = ⊤
+  AreReplicasOnFolder left (served ∷ later) =
+      IsBeginning (list_of (follower_of served.begun)) left × AreToldByFarmOn n executions served.event_loop.conversations × AreReplicasOnFolder (list_of (follower_of served.event_loop)) later
+
+  -- lists of the farm told all that each of them ever heard
+  unfoldable pub AreAllReported : List (HasServed shelves) → Type 0
+  AreAllReported [] = ⊤
+  AreAllReported (served ∷ later) = ∥ AreReported n executions (received_by (follower_of served.event_loop)) ∥₁ × AreAllReported later
+
+-- ---- the theorems
+
+-- Then lists of the farm told all that such replicas ever heard, if the first one began with none.
 abbrev pub ReplicasAreTold : {R : Type 0} → Type 0 → Tape R → Type 0
-ReplicasAreTold N shelves = (n : ℕ) (executions : ℕ → Execution N) (served : HasServed shelves) → IsListOfFarm n executions (list_of (follower_of served.begun)) →
-    AreToldByFarmOn n executions served.event_loop.conversations → ∥ AreReported n executions (received_by (follower_of served.event_loop)) ∥₁
+ReplicasAreTold N shelves = (n : ℕ) (executions : ℕ → Execution N) (processes : List (HasServed shelves)) → AreReplicasOnFolder shelves n executions [] processes → AreAllReported shelves n executions processes
+
+-- Readers' ports meet the premise on connections, by what `always_replied` says of each reader, if
+-- what had come at either end is a beginning of what had been sent at the other.
+abbrev pub PortsTell : {C : Type 0} → Type 0 → Connection C → Type 0
+PortsTell {C} N connections = (n : ℕ) (executions : ℕ → Execution N) (all : List Exchange) (reader : Reader C connections) (conversation : Conversation) → IsReplied connections all reader → AreRepliedByFarm n executions reader.exchanges.items →
+    IsFirstPart conversation.came (connections.sent reader.connection) → IsFirstPart (connections.came reader.connection) conversation.sent → IsToldByFarmOn n executions conversation

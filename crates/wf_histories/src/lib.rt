@@ -27,7 +27,7 @@
 //! - What replicas learn of such a farm is a beginning of that history, and they answer alike
 //!   ([`replicas_are_of_the_farm`]), if all that they heard was told by lists of it; and so it was
 //!   where their connections led to readers' ports of the farm ([`replicas_are_told`],
-//!   `specs/Told.antt`).
+//!   [`readers_ports_tell`], `specs/Told.antt`).
 //! - A folder that joins in the place of a lost one (`specs/Joiners.antt`) has learned what its
 //!   next process reads of the tape ([`joiners_have_learned`]), and where it ceased to join, that
 //!   process may vote with it ([`joined_folders_may_vote`]), if what that read of the file `farm`
@@ -65,6 +65,7 @@ pub use theorem::{
     answers_are_of_nodes, clients_get_equally, cut_farms_are_kept, folders_join_by_learning,
     joined_folders_may_vote, joiners_go_on, joiners_have_learned, killed_answers_are_of_nodes,
     lifetimes_go_on, node_processes_go_on, nodes_agree, nodes_are_one_farm, processes_show_lives,
-    processes_show_what_came, replaced_nodes_agree, replaced_nodes_are_a_timeline,
-    replicas_are_of_the_farm, replicas_are_told, sent_messages_are_carried,
+    processes_show_what_came, readers_ports_tell, replaced_nodes_agree,
+    replaced_nodes_are_a_timeline, replicas_are_of_the_farm, replicas_are_told,
+    sent_messages_are_carried,
 };

@@ -9,7 +9,7 @@ ghost use Rattle.wf_histories.specs.Lifetimes.{LifetimesAnswerAlike, LifetimesAn
 ghost use Rattle.wf_histories.specs.LivesAdvance.{FirstStarts, FolderTakesPlace, LifeGoesOn, NothingLives};
 ghost use Rattle.wf_histories.specs.Replicas.{ReplicasAgree};
 ghost use Rattle.wf_histories.specs.Theorems.{NodesAgree, NodesAreOneFarm, ProcessesShowLives, ProcessesShowWhatCame};
-ghost use Rattle.wf_histories.specs.Told.{ReplicasAreTold};
+ghost use Rattle.wf_histories.specs.Told.{PortsTell, ReplicasAreTold};
 
 use wf_actor::{processes_respond_alike, runs_receive_their_own};
 use wf_execution::{
@@ -20,6 +20,7 @@ use wf_node_folder::farm_files_are_kept;
 use wf_rejoin_guard::learners_may_rejoin;
 use wf_replacement::{published_lists_grow, timelines_agree, timelines_answer_alike};
 use wf_replica::{a_replica_never_goes_back, what_is_heard_is_reported, what_is_learned_is_served};
+use wf_sockets::Connection;
 use wf_tape::Tape;
 use wf_wire::only_posted_messages_come;
 
@@ -137,17 +138,28 @@ pub fn replicas_are_of_the_farm<N: Tape, R: Tape>()
     a_replica_never_goes_back();
 }
 
-/// All that a replica has heard was told by lists of nodes and of replicas of the farm, if each
-/// connection on which a reply came is one to a readers' port of theirs.
+/// All that replicas have heard was told by lists of nodes and of replicas of the farm, if each
+/// connection on which a reply came led to a readers' port of theirs ([`readers_ports_tell`]):
+/// processes of a replica one after the other on its folder, of which the first began with no map.
 ///
-/// `HasServed` has what was sent on those connections and what came; of a port, `always_replied`
-/// and `on_ready` of `wf_readers_port` say it. That the two ends are of one connection is TCP's
-/// promise, of which no call speaks.
+/// `HasServed` is met by `run` of `wf_replica_command`; that a process reads a beginning of what
+/// the one before it had, by `open` of `wf_replica`'s `Follower`, of a tape that keeps what was
+/// written.
 pub fn replicas_are_told<N, R: Tape>()
     ensures { ReplicasAreTold N R.Tape }
 {
     what_is_heard_is_reported::<N>();
+    what_is_learned_is_served::<N>();
 }
+
+/// A readers' port told what came on a replica's connection, if that led there.
+///
+/// That what had come at one end is a beginning of what had been sent at the other is TCP's
+/// promise, of which no call speaks; `IsReplied` is met by `always_replied` of `wf_readers_port`,
+/// and that a list of the farm gave each reply by its `on_ready`, of a port that is handed one.
+pub fn readers_ports_tell<N, C: Connection>()
+    ensures { PortsTell N C.Connection }
+{}
 
 /// The processes of a folder that joins have learned what the next one on it reads of its tape:
 /// they were given nothing but what says what is published, and returned nothing but questions.

@@ -555,5 +555,11 @@ fn is_exception(response: &[u8]) -> bool {
 
 /// The sequence that stands behind the first of these marks in a text.
 fn sequence_behind(text: &str, mark: &str) -> Option<u16> {
-    u16::try_from(number_behind(text, mark)?).ok()
+    // (`try_from`, and its `ok`, take many times as long to prove)
+    let number = number_behind(text, mark)?;
+    if number <= u32::from(u16::MAX) {
+        Some(number as u16)
+    } else {
+        None
+    }
 }

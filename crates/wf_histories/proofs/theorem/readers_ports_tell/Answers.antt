@@ -1,0 +1,5 @@
+use Rattle.wf_histories.proofs.Told.{ports_tell}
+use Rattle.wf_histories.proofs.theorem.readers_ports_tell.Goals as goal
+
+pub returns : goal.returns
+returns g c = ports_tell g.row.N.Denot g.C.Connection
