@@ -13,14 +13,13 @@ import re
 import subprocess
 import sys
 import tempfile
-import time
 import urllib.request
 
 from farmkit.command import lacks, of_debian, program_parser, tell_missing
 from farmkit.nginx import changed
 from farmkit.processes import free_ports
 from farmkit.repository import EXAMPLES
-from farmkit.wanted import seconds_until
+from farmkit.wanted import is_so_within, seconds_until
 from farmkit.web import ask, loopback
 from try_nginx import RED, Trial
 
@@ -93,8 +92,8 @@ def attempt(trial, proxy, picture):
         kept = [name for name in ("Cache-Control", "ETag", "Last-Modified") if answer.headers[name]]
     trial.see("no browser is told to keep it", not kept, kept)
     trial.publish(re.sub(rb"COLOR [0-9 ]+", b"COLOR 200 30 30 ", (EXAMPLES / "roads.map").read_bytes()))
-    time.sleep(1.1)  # nginx keeps a picture without MAPSEQ for a second
-    trial.see("nor does MapProxy keep it", proxy.ask(TILE)[1] != before)
+    # nginx keeps a picture without MAPSEQ for a second
+    trial.see("nor does MapProxy keep it", is_so_within(lambda: proxy.ask(TILE)[1] != before, 3, 0.2))
     if picture and other is not None:
         both = of_debian("PIL.Image").new("RGB", (2 * SIDE + 8, SIDE), (190, 190, 190))
         both.paste(own, (0, 0))
