@@ -27,7 +27,7 @@ module _ {N R : Type 0} (tapes : Tape N) (shelves : Tape R) (n : ℕ) (before : 
   -- replicas of the farm.
   pub data IsList : List Definition → Type 0 where
     OfNode : (list : List Definition) (node : Node N) → IsEver tapes n before folders node → list ≡ node.parts.history → IsList list
-    OfReplica : (list : List Definition) (served : HasServed shelves) (moment : ℕ) → AreReported n are.executions (received_by (follower_of served.event_loop)) → list ≡ learned_by shelves served moment → IsList list
+    OfReplica : (list : List Definition) (served : HasServed shelves) (moment : ℕ) → ∥ AreReported n are.executions (received_by (follower_of served.event_loop)) ∥₁ → list ≡ learned_by shelves served moment → IsList list
 
   -- There is one history, of which each of these lists is a beginning. Two that are equally long
   -- have one answer to a query of the map service, and so have two that it asks for one map. No
