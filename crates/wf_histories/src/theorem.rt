@@ -156,7 +156,8 @@ pub fn replicas_are_told<N, R: Tape>()
 ///
 /// That what had come at one end is a beginning of what had been sent at the other is TCP's
 /// promise, of which no call speaks; `IsReplied` is met by `always_replied` of `wf_readers_port`,
-/// and that a list of the farm gave each reply by its `on_ready`, of a port that is handed one.
+/// and that a list of the farm gave each reply by its `on_ready`, if the port is handed one, with
+/// its digests.
 pub fn readers_ports_tell<N, C: Connection>()
     ensures { PortsTell N C.Connection }
 {}
