@@ -1,12 +1,14 @@
 #!/usr/bin/env python3
 """Runs all that CI runs: the checks of the Python (tools/check_python.py), and `rt ci`.
 
-    python3 tools/ci.py
+    ./test
 
 What both print is printed as it comes. The last line is `N passed, M failed` over both; the status is 0 where
-nothing failed.
+nothing failed. `rt ci` checks as many crates side by side as there are processors, and memory for; where the
+environment has RT_JOBS, as many as that says.
 """
 
+import os
 import re
 import signal
 import subprocess
@@ -16,7 +18,17 @@ from farmkit.command import parser
 from farmkit.repository import TOP
 
 COMMANDS = ([sys.executable, str(TOP / "tools" / "check_python.py")], ["rt", "ci"])
+# The most memory of a check, in KiB. By its own count `rt ci` plans two to four times that for each of the
+# upper crates, and would check one or two of them at a time.
+MOST_MEMORY = 4_600_000
 COUNT = re.compile(r"(\d+) passed, (\d+) failed")
+
+
+def lanes() -> int:
+    """How many checks go side by side."""
+    with open("/proc/meminfo", encoding="utf-8") as lines:
+        free = next(int(line.split()[1]) for line in lines if line.startswith("MemAvailable:"))
+    return max(1, min(len(os.sched_getaffinity(0)), free // MOST_MEMORY))
 
 
 def run(words: list[str]) -> tuple[int, int]:
@@ -46,6 +58,7 @@ def run(words: list[str]) -> tuple[int, int]:
 def main() -> int:
     parser(__doc__, "").parse_args()
     signal.signal(signal.SIGTERM, signal.default_int_handler)
+    os.environ.setdefault("RT_JOBS", str(lanes()))
     passed, failed = (sum(each) for each in zip(*map(run, COMMANDS)))
     print(f"{passed} passed, {failed} failed")
     return 1 if failed else 0

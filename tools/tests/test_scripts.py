@@ -98,7 +98,7 @@ class Gate(unittest.TestCase):
 
     def test_ci_runs_what_the_readme_says(self) -> None:
         words = (TOP / ".ci" / "run").read_text().strip()
-        self.assertIn(words, ("rt ci", "python3 tools/ci.py"))
+        self.assertTrue(os.access(TOP / words, os.X_OK))
         self.assertIn(f"`{words}`", (TOP / "README.md").read_text(encoding="utf-8"))
 
     def test_a_linter_that_is_not_there(self) -> None:
