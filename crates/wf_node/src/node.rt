@@ -42,7 +42,7 @@ impl<T: Tape> Node<T> {
     ghost use Rattle.wf_node.specs.Node.{stored_of, volatile_of, IsOnTape};
     ghost use Rattle.wf_node.specs.Reopening.{HasStoredAs};
     ghost use Rattle.wf_node.specs.Step.{proposal_step_rejection, retry_step_rejection};
-    ghost use Rattle.wf_proposer.specs.ProposalState.{proposal_state_of};
+    ghost use Rattle.wf_proposer.specs.ProposalState.{proposal_state_of, is_preempted};
     ghost use Rattle.wf_proposer.specs.declared.proposal_state.ProposalState.TheVariants.{None};
     ghost use Rattle.wf_journal.specs.Journal.{IsSettled};
 
@@ -187,6 +187,15 @@ impl<T: Tape> Node<T> {
         } else {
             self.machine.proposer.proposal()
         }
+    }
+
+    /// Whether a Nack has told the running proposal of a promise of its round or a higher one:
+    /// until a retry it can't win. False on a halted node.
+    pub fn is_preempted(&self) -> bool
+        ensures { result ≡ (if self.now.halted then false
+            else is_preempted (volatile_of self.now).proposing) }
+    {
+        !self.machine.journal.is_halted() && self.machine.proposer.is_preempted()
     }
 }
 

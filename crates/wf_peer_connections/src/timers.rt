@@ -1,6 +1,6 @@
 //! What a node does by the clock.
-ghost use Rattle.std.specs.Prelude.{◌≡◌, ◌≤◌, ◌↔◌, IsTrue};
-ghost use Rattle.wf_peer_connections.specs.Alarms.{IsDue};
+ghost use Rattle.std.specs.Prelude.{◌≡◌, ◌≤◌, ◌↔◌, IsTrue, Some};
+ghost use Rattle.wf_peer_connections.specs.Alarms.{IsDue, differs};
 
 use crate::event::{NodeEvent, TapeFailed};
 use crate::peer_connections::PeerConnections;
@@ -44,6 +44,8 @@ pub struct Timers {
     retry: Option<Alarm>,
     // when the round of the running proposal began
     tried_at: u64,
+    // how many maps were published when a preempted proposal last began again without a wait
+    hastened_at: Option<u16>,
     reopenings: Backoff,
     reopening: Option<Alarm>,
     // since when the tape hasn't failed
@@ -64,6 +66,7 @@ impl Timers {
             retries: retry_of(node),
             retry: None,
             tried_at: time,
+            hastened_at: None,
             reopenings: Backoff::new(LEAST_REOPENING, MOST_REOPENING),
             reopening: None,
             stands_since: time,
@@ -145,6 +148,25 @@ impl Timers {
             self.retry = Some(Alarm::after(time, self.retries.wait()));
         }
         is_due
+    }
+
+    /// Whether a preempted proposal is to begin again at once, after this many published maps: the
+    /// first time that one is after as many. A node that only waited would be overtaken each time
+    /// by those whose rounds are higher; one that never waited would preempt them for ever.
+    pub fn is_first_preemption(&mut self, published: u16, time: u64) -> bool
+        ensures result { result ≡ differs self.old.hastened_at published }
+        ensures noted { self.new.hastened_at ≡ Some published }
+    {
+        let is_first = match self.hastened_at {
+            Some(last) => last != published,
+            None => true,
+        };
+        self.hastened_at = Some(published);
+        if is_first {
+            self.tried_at = time;
+            self.retry = Some(Alarm::after(time, self.retries.wait()));
+        }
+        is_first
     }
 
     /// Whether the answers to the round of a running proposal were waited for, where a connection

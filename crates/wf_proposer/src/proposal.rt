@@ -26,7 +26,7 @@ pub struct Proposal {
 }
 
 impl Proposal {
-    ghost use Rattle.std.specs.Prelude.{max, ◌≡◌, ◌==◌, ◌&&◌, ◌+◌, true, Some, Err, IfOk, IsErr, Option};
+    ghost use Rattle.std.specs.Prelude.{max, nat_le, ◌≡◌, ◌==◌, ◌&&◌, ◌+◌, true, Some, Err, IfOk, IsErr, Option};
     ghost use Rattle.wf_codec.specs.Message.{view_votes};
     ghost use Rattle.wf_model.specs.Message.{first_vote};
     ghost use Rattle.wf_model.specs.Table as table;
@@ -65,6 +65,13 @@ impl Proposal {
         let message = Message::Prepare(slot, ballot);
         let change = Change::Becomes(volatile);
         Next::only_sends(alloc, Some(tried), message, change)
+    }
+
+    /// Whether a Nack has told of a promise of the proposal's round or a higher one.
+    pub fn is_preempted(&self) -> bool
+        ensures { result ≡ nat_le self.now.ballot.round self.now.seen }
+    {
+        self.ballot.round() <= self.seen
     }
 
     /// The proposal begins again, in a round above the one tried and each one reported. There may

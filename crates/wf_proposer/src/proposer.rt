@@ -53,7 +53,7 @@ impl Proposer {
     ghost use Rattle.wf_proposer.specs.Next.{accepted_transition, promise_transition, AllocatesOnlyToSend, Returns};
     ghost use Rattle.wf_proposer.specs.Proposer.{begin_step_rejection, propose_transition, retry_step_rejection, retry_transition, transition_of, runs_for, start_step_rejection, volatile_of, ForStored, ForTried};
     ghost use Rattle.wf_proposer.specs.StepRejection.{rejected_by, IsWhyStepRejected};
-    ghost use Rattle.wf_proposer.specs.ProposalState.{proposal_state_of};
+    ghost use Rattle.wf_proposer.specs.ProposalState.{proposal_state_of, is_preempted};
     ghost use Rattle.wf_proposer.specs.VolatileState.{leading_of};
 
     /// The proposer of node `id` in a farm of `n` nodes, with no proposal and no leadership.
@@ -96,6 +96,17 @@ impl Proposer {
             Proposing::Running(_, _) => ProposalState::Running,
             Proposing::Ended(slot, true) => ProposalState::Published(*slot),
             Proposing::Ended(slot, false) => ProposalState::Overtaken(*slot),
+        }
+    }
+
+    /// Whether a Nack has told a running proposal of a promise of its round or a higher one: its
+    /// node then wins only in a new round.
+    pub fn is_preempted(&self) -> bool
+        ensures { result ≡ is_preempted (volatile_of self.now).proposing }
+    {
+        match &self.volatile.proposing {
+            Proposing::Running(proposal, _) => proposal.is_preempted(),
+            _ => false,
         }
     }
 
