@@ -1,4 +1,4 @@
 mod PublishTheorem
 mod RequestTheorem
-mod ServiceTheorem
+pub mod ServiceTheorem
 mod UnavailableTheorem

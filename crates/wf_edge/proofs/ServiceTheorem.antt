@@ -63,7 +63,7 @@ one_page theorem elsewhere texts query history other page another (reject_alike 
 -- ---- the page is the response
 
 -- one input has one head
-one_head : (input rest left : List ℕ) (head other : Head) → Begins input head rest → Begins input other left → head ≡ other
+pub one_head : (input rest left : List ℕ) (head other : Head) → Begins input head rest → Begins input other left → head ≡ other
 one_head input rest left head other first second =
     first.is ∙ ap (λ h. head_of h) (request_unique input first.printed second.printed rest left first.reads second.reads).0 ∙ sym second.is
 
@@ -88,13 +88,13 @@ module _ (input query : List ℕ) (service : AsksMapService input query) where
   no_head_error http_error.NotImplemented none = none
 
   -- the request at the front is what is asked for
-  asked_is : (rest : List ℕ) (head : Head) (asks : RequestedResource) → Begins input head rest → resolved head ≡ Ok asks → asks ≡ asked.Wms
+  pub asked_is : (rest : List ℕ) (head : Head) (asks : RequestedResource) → Begins input head rest → resolved head ≡ Ok asks → asks ≡ asked.Wms
   asked_is rest head asks begins is =
       let same : service.request.head ≡ head = one_head input service.begins.rest rest service.request.head head service.begins.head begins in
       same_asked head asks service.request.asked is (subst (λ h. resolved h ≡ Ok service.request.asked) same service.begins.asks) ∙ service.of_service
 
   -- it isn't rejected
-  no_http_error : (r : HttpError) → IsRejected input r → ⊥
+  pub no_http_error : (r : HttpError) → IsRejected input r → ⊥
   no_http_error r (by_head some none) = no_head_error r none
   no_http_error r (by_check fails) =
       let same : service.request.head ≡ fails.head =
@@ -106,7 +106,7 @@ module _ (input query : List ℕ) (service : AsksMapService input query) where
       absurd (omega arith)
 
   -- a response that isn't 503 is the page
-  page_given : (history : List Definition) (target : List ℕ) (answer : Result Response ErrorResponse) (response : Response) → target ≡ query → response ≡ response_of answer
+  pub page_given : (history : List Definition) (target : List ℕ) (answer : Result Response ErrorResponse) (response : Response) → target ≡ query → response ≡ response_of answer
       → response.status ≢ 503 → IsServiceGiven history target answer → IsServicePage history query response
   page_given history target (Ok page) response same is calm given =
       subst (λ p. IsServicePage history query p) (sym is) (subst (λ q. IsServicePage history q page) same given)
@@ -114,7 +114,7 @@ module _ (input query : List ℕ) (service : AsksMapService input query) where
       let reported : response ≡ response_of (Err error_response.Unavailable) = is ∙ ap (λ (m : ErrorResponse). response_of (Err m)) given in
       absurd (calm (ap (λ (r : Response). r.status) reported))
 
-  no_memory : (answer : Result Response ErrorResponse) (response : Response) → response ≡ response_of answer → response.status ≢ 503 → answer ≡ Err error_response.Unavailable → ⊥
+  pub no_memory : (answer : Result Response ErrorResponse) (response : Response) → response ≡ response_of answer → response.status ≢ 503 → answer ≡ Err error_response.Unavailable → ⊥
   no_memory answer response is calm given = calm (ap (λ (r : Response). r.status) (is ∙ ap (λ (a : Result Response ErrorResponse). response_of a) given))
 
   module _ {T A : Type 0} (tapes : Tape T) where

@@ -1,9 +1,9 @@
 -- The file `farm` that a process reads says no less than what the one before it put there, if a
 -- power cut may have left it.
-use Rattle.std.proofs.Common.{◌≡◌, ℕ, List, [], ◌∷◌, subst, sym}
-use Rattle.std.specs.Prelude.{Option, Some}
+use Rattle.std.proofs.Common.{ℕ, List, [], ◌∷◌, subst, sym}
+use Rattle.std.specs.Prelude.{Option}
 use Rattle.wf_node_folder.proofs.StartedFarm.{says_found}
-use Rattle.wf_node_folder.specs.FarmPut.{HasPut, published_in}
+use Rattle.wf_node_folder.specs.FarmPut.{published_in}
 use Rattle.wf_node_folder.specs.Folder.{IsFoundIn, StaysFrom}
 use Rattle.wf_node_folder.specs.PowerCut.{CutsKeepFarm, CutsSayNoLess, StartsKeepFarm}
 use Rattle.wf_store.specs.Call.{Call, drawn, read}

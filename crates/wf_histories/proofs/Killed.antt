@@ -109,7 +109,7 @@ module _ {T : Type 0} (tapes : Tape T) where
         over_made node first client last is (omega (arith, ap length ended, length-append client.ended.items (run ∷ since), same))
 
     -- one that was answered by a moment within the acts that were made
-    by_then : (node : Node T) (first : List (Node T × ℕ)) (client past : Process T tapes) → client.actor.stood.items ≡ first ++ (node, 0) ∷ [] → IsEarlier tapes client process → IsEarlier tapes past process
+    pub by_then : (node : Node T) (first : List (Node T × ℕ)) (client past : Process T tapes) → client.actor.stood.items ≡ first ++ (node, 0) ∷ [] → IsEarlier tapes client process → IsEarlier tapes past process
         → IsEarlier tapes client past → IsWithinActs tapes p past → IsIn node (values_made (made_by tapes p))
     by_then node first client past last is also earlier (InRunOver less) =
         over_made node first client last is (omega (arith, ap length earlier.ended, length-append client.ended.items earlier.since, less))
@@ -169,7 +169,7 @@ module _ {T : Type 0} (tapes : Tape T) where
     emitted = ([], append-nil _);
   }
 
-  own_moment : (process : Process T tapes) → IsEarlier tapes process process
+  pub own_moment : (process : Process T tapes) → IsEarlier tapes process process
   own_moment process = record { since = []; ended = sym (append-nil process.ended.items); runs = no_later process.actor }
 
   one_later : (past : Process T tapes) (befores : List (Voter T tapes × ℕ)) → AreAllLater tapes past befores → (place count : ℕ) (voter : Voter T tapes) → slice_get befores place ≡ Some (voter, count)

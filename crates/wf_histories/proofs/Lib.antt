@@ -9,9 +9,11 @@ mod Farms
 mod Agreement
 mod Told
 mod Replicas
+mod Responses
 mod Advance
 mod Answers
 mod Killed
+mod Ports
 mod Lessons
 mod Joiners
 mod Emptied

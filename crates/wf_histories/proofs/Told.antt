@@ -1,10 +1,9 @@
 -- What came on a replica's connections is what readers' ports of the farm replied.
-use Rattle.std.proofs.Common.{◌≡◌, ◌∙◌, ℕ, ◌+◌, ◌≤◌, List, [], ◌∷◌, ◌++◌, length, take, drop, refl, sym, ap, subst, arith, inl, inr, append_assoc, append-nil, length-append}
+use Rattle.std.proofs.Common.{◌≡◌, ◌∙◌, ℕ, ◌≤◌, List, [], ◌∷◌, ◌++◌, length, take, drop, refl, sym, ap, subst, arith, inl, inr, append_assoc, append-nil, length-append}
 use Rattle.std.proofs.Math.Logic.{∥∥₁_elim, ∥∥₁_map, ∥∥₁_prop}
 use Rattle.std.proofs.Math.Seq.{take-length}
 use Rattle.std.proofs.lemmas.List.{drop_at, take-append-le, take_at}
 use Rattle.std.specs.Int.{w16, w32, from_be_bytes, to_be_bytes}
-use Rattle.wf_client.specs.ResponseBuffer.{rest_of}
 use Rattle.wf_execution.specs.Execution.{Execution}
 use Rattle.wf_execution.specs.Replica.{IsListOfFarm}
 use Rattle.wf_def.specs.Definition.{Definition}
@@ -12,16 +11,14 @@ use Rattle.wf_model.specs.Chosen.{IsIn}
 use Rattle.wf_model.specs.Message.{Message}
 use Rattle.wf_reader.proofs.Parts.{length_of_body}
 use Rattle.wf_reader.proofs.Sizes.{length_of_reply, stated}
-use Rattle.wf_reader.specs.Answerer.{IsReplyTo}
+use Rattle.wf_reader.specs.Answerer.{TellsNext}
 use Rattle.wf_reader.specs.Question.{IsOfOtherVersion, IsQuestion, question_body, question_bytes, question_mark, reader_version}
 use Rattle.wf_reader.specs.ReaderAnswer.{ReaderAnswer}
 use Rattle.wf_reader.specs.Reply.{IsReply, body_bytes, reply_bytes}
-use Rattle.wf_reader.specs.declared.answerer.Answerer.{Answerer}
 use Rattle.wf_reader.specs.declared.question.Question.{Question}
 use Rattle.wf_reader.specs.declared.reply.Reply.{Reply}
 use Rattle.wf_reader.specs.declared.reply.Reply.TheVariants as replies
 use Rattle.wf_readers_port.specs.Exchanges.{Exchange, questions_of, replies_of}
-use Rattle.wf_readers_port.specs.QuestionReplies.{RepliesTo}
 use Rattle.wf_replica.specs.Follower.{answers_of, list_of, read_by, received_by}
 use Rattle.wf_replica.specs.LearnedList.{learned}
 use Rattle.wf_replica.specs.Theorems.{AreAnsweredByFarm, AreReported, BeginningsAreServed, HeardAreReported, IsAnsweredByFarm, LearnedAreServed, ReadAreReported}
@@ -31,10 +28,9 @@ use Rattle.wf_replica_command.specs.Heard.{AreHeard, Course, IsReplyTaken, cours
 use Rattle.wf_replica_command.specs.ReplicaLoop.{follower_of}
 use Rattle.wf_replica_command.specs.declared.asked.Asked.{Asked}
 use Rattle.wf_safety.specs.Theorems.{IsBeginning}
-use Rattle.wf_sockets.specs.declared.connection.Connection.{Ghosts as Connection}
 use Rattle.wf_tape.specs.declared.tape.Tape.{Ghosts as Tape}
 use Rattle.wf_histories.proofs.Turns.{in_either}
-use Rattle.wf_histories.specs.Told.{AreAllReported, AreRepliedByFarm, AreReplicasOnFolder, AreToldByFarmOn, IsRepliedByFarm, IsToldByFarmOn, PortsTell, ReplicasAreTold}
+use Rattle.wf_histories.specs.Told.{AreAllReported, AreRepliedByFarm, AreReplicasOnFolder, AreToldByFarmOn, IsRepliedByFarm, IsToldByFarmOn, ReplicasAreTold}
 
 -- ---- bytes
 
@@ -77,10 +73,9 @@ not_of_other q is =
 module _ {T : Type 0} (n : ℕ) (executions : ℕ → Execution T) where
   -- a list of the farm gave this reply to the question
   record IsTold (q : Question) (reply : Reply) : Type 0 where
-    own : Answerer
     source : List Definition
     served : IsListOfFarm n executions source
-    is_reply : IsReplyTo own source q reply
+    told : TellsNext source q reply
 
   unfoldable AreTold : List (Question × Reply) → Type 0
   AreTold [] = Unit {0}
@@ -93,7 +88,7 @@ module _ {T : Type 0} (n : ℕ) (executions : ℕ → Execution T) where
   -- the reply that came first is the one to the question that was asked first
   first_told : (q : Question) (reply : Reply) (exchange : Exchange) (rest others : List ℕ) → IsQuestion q → IsOneReply reply → IsRepliedByFarm n executions exchange → exchange.0.items ≡ question_bytes q
       → reply_bytes reply ++ rest ≡ exchange.1.items ++ others → IsFirstTold q reply rest others
-  first_told q reply exchange rest others is one by asked came = elim by.replied.reply [
+  first_told q reply exchange rest others is one by asked came = elim by.replied.replied.reply [
     | inl answered ↦
         let same_question : q ≡ answered.0 = answered.1.only q [] is (asked ∙ sym (append-nil (question_bytes q))) in
         let cut : IsCutAlike (reply_bytes reply) (reply_bytes answered.2.reply) rest others =
@@ -101,10 +96,9 @@ module _ {T : Type 0} (n : ℕ) (executions : ℕ → Execution T) where
         let same_reply : answered.2.reply ≡ reply = one.only answered.2.reply answered.2.is_encoded (sym cut.front) in
         record {
           told = record {
-            own = by.own;
             source = by.source;
             served = by.served;
-            is_reply = subst (λ (r : Reply). IsReplyTo by.own by.source q r) same_reply (subst (λ (p : Question). IsReplyTo by.own by.source p answered.2.reply) (sym same_question) answered.2.is_reply);
+            told = subst (λ (r : Reply). TellsNext by.source q r) same_reply (subst (λ (p : Question). TellsNext by.source p answered.2.reply) (sym same_question) answered.2.told);
           };
           behind = cut.rest;
         }
@@ -119,7 +113,7 @@ module _ {T : Type 0} (n : ℕ) (executions : ℕ → Execution T) where
       absurd (omega (arith, ap length came, length-append (reply_bytes x.1 ++ replied_bytes replied) rest, length-append (reply_bytes x.1) (replied_bytes replied), length_of_reply x.1))
   all_told (x ∷ replied) (exchange ∷ exchanges) rest later read by came asked =
       let questions : IsCutAlike exchange.0.items (question_bytes x.0) (questions_of exchanges ++ later) (asked_bytes replied) =
-      cut_alike exchange.0.items (question_bytes x.0) (questions_of exchanges ++ later) (asked_bytes replied) (by.0.replied.whole ∙ sym (length_of_question x.0 read.0))
+      cut_alike exchange.0.items (question_bytes x.0) (questions_of exchanges ++ later) (asked_bytes replied) (by.0.replied.replied.whole ∙ sym (length_of_question x.0 read.0))
       (sym (append_assoc exchange.0.items (questions_of exchanges) later) ∙ asked) in
       let first : IsFirstTold x.0 x.1 (replied_bytes replied ++ rest) (replies_of exchanges) =
       first_told x.0 x.1 exchange (replied_bytes replied ++ rest) (replies_of exchanges) read.0 read.1 by.0 questions.front (sym (append_assoc (reply_bytes x.1) (replied_bytes replied) rest) ∙ came) in
@@ -158,7 +152,7 @@ module _ {T : Type 0} (n : ℕ) (executions : ℕ → Execution T) where
   ]
 
   taken_told : (q : Question) (reply : Reply) (old new : Course) → IsReplyTaken q reply old new → IsTold q reply → AreAnsweredByFarm n executions old.answers → AreAnsweredByFarm n executions new.answers
-  taken_told q (replies.Answer a) old new taken told are = one_more old.answers new.answers a q taken.answers (record { own = told.own; source = told.source; served = told.served; answers = told.is_reply }) are
+  taken_told q (replies.Answer a) old new taken told are = one_more old.answers new.answers a q taken.answers (record { source = told.source; served = told.served; definitions = told.told }) are
   taken_told q (replies.Rejected why) old new taken told are = subst (AreAnsweredByFarm n executions) (sym taken.answers) are
 
   answers_told : (old new : Course) (heard : List (Reply × Asked)) → AreHeard old heard new → AreRepliesTold heard → AreAnsweredByFarm n executions old.answers → AreAnsweredByFarm n executions new.answers
@@ -187,37 +181,29 @@ module _ {N R : Type 0} (shelves : Tape R) (reported : HeardAreReported N) (read
 
 -- ---- on a folder
 
-module _ {N R : Type 0} (shelves : Tape R) (reported : HeardAreReported N) (read_reported : ReadAreReported N) (learned_served : LearnedAreServed N) (beginning : BeginningsAreServed N) (n : ℕ) (executions : ℕ → Execution N) where
+module _ {N R : Type 0} (shelves : Tape R) (learned_served : LearnedAreServed N) (beginning : BeginningsAreServed N) (n : ℕ) (executions : ℕ → Execution N) where
   none_served : IsListOfFarm n executions []
   unfolding learned
   none_served = learned_served n executions [] (λ m none. absurd none) 0
 
-  begun_served : (list left : List Definition) → IsBeginning list left → IsListOfFarm n executions left → IsListOfFarm n executions list
+  pub begun_served : (list left : List Definition) → IsBeginning list left → IsListOfFarm n executions left → IsListOfFarm n executions list
   begun_served list left begins of_farm = subst (IsListOfFarm n executions) (ap (take (length list)) (sym begins.1) ∙ take_at list begins.0 (length list) refl) (beginning n executions left of_farm (length list))
 
-  list_served : (served : HasServed shelves) → AreReported n executions (received_by (follower_of served.event_loop)) → IsListOfFarm n executions (list_of (follower_of served.event_loop))
+  pub list_served : (served : HasServed shelves) → AreReported n executions (received_by (follower_of served.event_loop)) → IsListOfFarm n executions (list_of (follower_of served.event_loop))
   list_served served told =
       let received : List (Message Definition) = received_by (follower_of served.event_loop) in
       subst (IsListOfFarm n executions) (ap (learned []) (take-length received) ∙ served.lived) (learned_served n executions received told (length received))
 
+module _ {N R : Type 0} (shelves : Tape R) (reported : HeardAreReported N) (read_reported : ReadAreReported N) (learned_served : LearnedAreServed N) (beginning : BeginningsAreServed N) (n : ℕ) (executions : ℕ → Execution N) where
   on_folder : (left : List Definition) (processes : List (HasServed shelves)) → ∥ IsListOfFarm n executions left ∥₁ → AreReplicasOnFolder shelves n executions left processes → AreAllReported shelves n executions processes
   unfolding AreReplicasOnFolder AreAllReported
   on_folder left [] of_farm are = tt
   on_folder left (served ∷ later) of_farm are =
       let told : ∥ AreReported n executions (received_by (follower_of served.event_loop)) ∥₁ =
-      ∥∥₁_elim of_farm ∥∥₁_prop (λ is. all_reported shelves reported read_reported n executions served (begun_served (list_of (follower_of served.begun)) left are.0 is) are.1) in
-      (told, on_folder (list_of (follower_of served.event_loop)) later (∥∥₁_map told (list_served served)) are.2)
+      ∥∥₁_elim of_farm ∥∥₁_prop (λ is. ∥∥₁_elim are.1 ∥∥₁_prop (λ by.
+      all_reported shelves reported read_reported n executions served (begun_served shelves learned_served beginning n executions (list_of (follower_of served.begun)) left are.0 is) by)) in
+      (told, on_folder (list_of (follower_of served.event_loop)) later (∥∥₁_map told (list_served shelves learned_served beginning n executions served)) are.2)
 
 pub replicas_are_told : {N R : Type 0} (shelves : Tape R) → HeardAreReported N → ReadAreReported N → LearnedAreServed N → BeginningsAreServed N → ReplicasAreTold N shelves
 replicas_are_told shelves reported read_reported learned_served beginning = λ n executions processes are.
-    on_folder shelves reported read_reported learned_served beginning n executions [] processes ∣ none_served shelves reported read_reported learned_served beginning n executions ∣₁ are
-
--- ---- at the other end
-
-pub ports_tell : {C : Type 0} (N : Type 0) (connections : Connection C) → PortsTell N connections
-ports_tell N connections = λ n executions all reader conversation is by_farm came asked. record {
-  exchanges = reader.exchanges.items;
-  by_farm = by_farm;
-  came = (came.0 ++ rest_of reader.reply, sym (append_assoc conversation.came came.0 (rest_of reader.reply)) ∙ ap (λ (s : List ℕ). s ++ rest_of reader.reply) came.1 ∙ is.replied);
-  asked = (reader.question.items ++ asked.0, sym (append_assoc (questions_of reader.exchanges.items) reader.question.items asked.0) ∙ ap (λ (s : List ℕ). s ++ asked.0) (sym is.asked) ∙ asked.1);
-}
+    on_folder shelves reported read_reported learned_served beginning n executions [] processes ∣ none_served shelves learned_served beginning n executions ∣₁ are

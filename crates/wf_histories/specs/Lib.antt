@@ -4,6 +4,7 @@ pub mod Nodes
 pub mod Theorems
 pub mod Told
 pub mod Replicas
+pub mod Responses
 pub mod Advance
 pub mod Answers
 pub mod Killed

@@ -25,9 +25,11 @@
 //!   that it made ([`killed_answers_are_of_nodes`], `specs/Killed.antt`). So such clients that ask
 //!   alike get equal bytes ([`clients_get_equally`]).
 //! - What replicas learn of such a farm is a beginning of that history, and they answer alike
-//!   ([`replicas_are_of_the_farm`]), if all that they heard was told by lists of it; and so it was
+//!   ([`replicas_are_of_the_farm`]), their clients and those of nodes with equal bytes
+//!   ([`replicas_respond_alike`]), if all that they heard was told by lists of it; and so it was
 //!   where their connections led to readers' ports of the farm ([`replicas_are_told`],
-//!   [`readers_ports_tell`], `specs/Told.antt`).
+//!   [`readers_ports_tell`], `specs/Told.antt`), whose replies are by lists of it
+//!   ([`ports_reply_by_farm`]).
 //! - A folder that joins in the place of a lost one (`specs/Joiners.antt`) has learned what its
 //!   next process reads of the tape ([`joiners_have_learned`]), and where it ceased to join, that
 //!   process may vote with it ([`joined_folders_may_vote`]), if what that read of the file `farm`
@@ -64,8 +66,8 @@ mod theorem;
 pub use theorem::{
     answers_are_of_nodes, clients_get_equally, cut_farms_are_kept, folders_join_by_learning,
     joined_folders_may_vote, joiners_go_on, joiners_have_learned, killed_answers_are_of_nodes,
-    lifetimes_go_on, node_processes_go_on, nodes_agree, nodes_are_one_farm, processes_show_lives,
-    processes_show_what_came, readers_ports_tell, replaced_nodes_agree,
+    lifetimes_go_on, node_processes_go_on, nodes_agree, nodes_are_one_farm, ports_reply_by_farm,
+    processes_show_lives, processes_show_what_came, readers_ports_tell, replaced_nodes_agree,
     replaced_nodes_are_a_timeline, replicas_are_of_the_farm, replicas_are_told,
-    sent_messages_are_carried,
+    replicas_respond_alike, sent_messages_are_carried,
 };

@@ -8,8 +8,9 @@ ghost use Rattle.wf_histories.specs.Killed.{AnswersByThenAreOfNodes, ClientsGetE
 ghost use Rattle.wf_histories.specs.Lifetimes.{LifetimesAnswerAlike, LifetimesAnswerMapsAlike, LifetimesAreTimeline, LifetimesNeverDiffer, LifetimesNeverGoBack, LifetimesShareHistory};
 ghost use Rattle.wf_histories.specs.LivesAdvance.{FirstStarts, FolderTakesPlace, LifeGoesOn, NothingLives};
 ghost use Rattle.wf_histories.specs.Replicas.{ReplicasAgree};
+ghost use Rattle.wf_histories.specs.Responses.{FarmsGetEqually};
 ghost use Rattle.wf_histories.specs.Theorems.{NodesAgree, NodesAreOneFarm, ProcessesShowLives, ProcessesShowWhatCame};
-ghost use Rattle.wf_histories.specs.Told.{PortsTell, ReplicasAreTold};
+ghost use Rattle.wf_histories.specs.Told.{NodesReplyByFarm, PortsTell, ReplicasAreTold, ReplicasReplyByFarm, WholeNodesReplyByFarm};
 
 use wf_actor::{processes_respond_alike, runs_receive_their_own};
 use wf_execution::{
@@ -138,6 +139,18 @@ pub fn replicas_are_of_the_farm<N: Tape, R: Tape>()
     a_replica_never_goes_back();
 }
 
+/// Two clients that ask the map service the same get equal bytes, whichever nodes and replicas of
+/// the farm answered them, where these had equally many maps or are asked for one map; a 503 for a
+/// failed allocation aside. It is the whole response over HTTP.
+///
+/// `AreFarm` is met by [`nodes_are_one_farm`]; what is said of a replica's client by what `run` of
+/// `wf_replica_command` returns, and by [`replicas_are_told`].
+pub fn replicas_respond_alike<N: Tape, R: Tape>()
+    ensures { FarmsGetEqually N.Tape R.Tape }
+{
+    replicas_are_of_the_farm::<N, R>();
+}
+
 /// All that replicas have heard was told by lists of nodes and of replicas of the farm, if each
 /// connection on which a reply came led to a readers' port of theirs ([`readers_ports_tell`]):
 /// processes of a replica one after the other on its folder, of which the first began with no map.
@@ -152,12 +165,24 @@ pub fn replicas_are_told<N, R: Tape>()
     what_is_learned_is_served::<N>();
 }
 
-/// A readers' port told what came on a replica's connection, if that led there.
+/// All that readers of a node's process were replied, by a moment within the acts that it made,
+/// was by lists of the farm, as [`killed_answers_are_of_nodes`] has it of clients; and so was what
+/// readers of a replica were, if lists of the farm told all that it heard ([`replicas_are_told`]).
+///
+/// The exchanges are those that [`wf_node_command::run`] and `run` of `wf_replica_command` return.
+pub fn ports_reply_by_farm<N: Tape, R: Tape>()
+    ensures moment { NodesReplyByFarm N.Tape }
+    ensures whole { WholeNodesReplyByFarm N.Tape }
+    ensures replica { ReplicasReplyByFarm N R.Tape }
+{
+    what_is_learned_is_served::<N>();
+}
+
+/// A readers' port told what came on a replica's connection, if that led there, and all that the
+/// port replied was by lists of the farm ([`ports_reply_by_farm`]).
 ///
 /// That what had come at one end is a beginning of what had been sent at the other is TCP's
-/// promise, of which no call speaks; `IsReplied` is met by `always_replied` of `wf_readers_port`,
-/// and that a list of the farm gave each reply by its `on_ready`, if the port is handed one, with
-/// its digests.
+/// promise, of which no call speaks; `IsReplied` is met by `always_replied` of `wf_readers_port`.
 pub fn readers_ports_tell<N, C: Connection>()
     ensures { PortsTell N C.Connection }
 {}

@@ -1,1 +1,2 @@
 pub use Rattle.wf_voter.proofs.Earlier
+mod Readers

@@ -6,7 +6,10 @@ use Rattle.wf_digest.specs.Digest.{AreDigestsOf}
 use Rattle.wf_voter.specs.Answer.{AreAnswered, AreEarlier}
 use Rattle.wf_voter.specs.Continuation.{HasLearnt, IsHeardKept, besides_asks}
 use Rattle.wf_loop.specs.declared.event_loop.EventLoop.{EventLoop}
+use Rattle.wf_loop.specs.Readers.{AreRepliedEarlier}
 use Rattle.wf_peer_connections.specs.Alarms.{IsDue}
+use Rattle.wf_peer_connections.specs.Exchanges.{Exchange}
+use Rattle.wf_peer_connections.specs.ReadersPort.{exchanges_of}
 use Rattle.wf_membership.specs.declared.gate.Gate.TheVariants as gates
 use Rattle.wf_membership.specs.declared.membership.Membership.{Membership}
 use Rattle.wf_peer.specs.declared.heard.Heard.{Heard}
@@ -80,6 +83,14 @@ IsOver event_loop = event_loop.parts.peers.is_over ≡ true
 pub record HasAnswered {T N C L : Type 0} (tapes : Tape T) {connections : Connection C} (event_loop : EventLoop T N C L tapes connections) : Type 0 where
   pub each : ∥ AreAnswered tapes event_loop.clients.before.items (responses_of event_loop.clients.visitors) event_loop.clients.after.items ∥₁
   pub earlier : ∥ AreEarlier tapes event_loop.clients.before.items event_loop.voter.process ∥₁
+
+-- each question that a reader of this port asked, with its reply
+abbrev pub replied_by : {T N C L : Type 0} {tapes : Tape T} {connections : Connection C} → EventLoop T N C L tapes connections → List Exchange
+replied_by event_loop = exchanges_of event_loop.parts.desk.readers
+
+-- Each of them was replied by the list that the node of this process had, as it was just before.
+abbrev pub HasRepliedEarlier : {T N C L : Type 0} (tapes : Tape T) {connections : Connection C} → EventLoop T N C L tapes connections → Type 0
+HasRepliedEarlier tapes event_loop = ∥ AreRepliedEarlier tapes event_loop.voter.process (replied_by event_loop) ∥₁
 
 -- The node greets by this start of its folder, and with digests that begin anew.
 pub record GreetsAsNow {T N C L : Type 0} {tapes : Tape T} {connections : Connection C} (count : ℕ) (event_loop : EventLoop T N C L tapes connections) : Type 0 where

@@ -1,3 +1,4 @@
+pub use Rattle.wf_peer_connections.specs.Exchanges
 pub use Rattle.wf_peer_connections.specs.declared.plan.LoopFault
 pub use Rattle.wf_peer_connections.specs.declared.plan.NodePlan
 pub use Rattle.wf_peer_connections.specs.Membership
@@ -8,3 +9,4 @@ pub use Rattle.wf_voter.specs.Process
 pub use Rattle.wf_voter.specs.Lived
 pub use Rattle.wf_voter.specs.Continuation
 pub mod EventLoop
+pub mod Readers

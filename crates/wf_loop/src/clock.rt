@@ -1,5 +1,6 @@
 //! What a node does by the clock, and for its peers.
 ghost use Rattle.std.specs.Prelude.{◌≡◌};
+ghost use Rattle.wf_peer_connections.specs.ReadersPort.{exchanges_of};
 ghost use Rattle.wf_voter.specs.Continuation.{Continues, ContinuesIn};
 
 use std::alloc::Global;
@@ -30,8 +31,10 @@ pub(crate) fn turn_by_clock<
     ensures on { ContinuesIn T.Tape (F.stands folder.old) voter.old
         (F.stands folder.new) voter.new }
     ensures befores { clients.new.before.items ≡ clients.old.before.items }
+    ensures exchanges { exchanges_of desk.new.readers ≡ exchanges_of desk.old.readers }
 {
     tick(context, voter, folder, peers, timers, desk, clients);
+    retry_if_preempted(context.alloc(), voter, timers, context.time);
     watch(context, &voter.process, peers, timers);
     call_all(context, voter, peers);
 }
@@ -50,6 +53,7 @@ fn tick<R: Net + Clock + Eprint + AllocGlobal, T: Tape + Drop, F: NodeFolder<T>,
     ensures on { ContinuesIn T.Tape (F.stands folder.old) voter.old
         (F.stands folder.new) voter.new }
     ensures befores { clients.new.before.items ≡ clients.old.before.items }
+    ensures exchanges { exchanges_of desk.new.readers ≡ exchanges_of desk.old.readers }
 {
     if timers.is_tick(context.time) {
         clients.accept(context);
@@ -132,6 +136,22 @@ fn retry_if_due<T: Tape + Drop, N: Network>(
 {
     let proposal = voter.process.node().proposal();
     if timers.is_retry_due(proposal, peers, time) {
+        retry(alloc, voter);
+    }
+}
+
+/// Begins a running proposal again without a wait, once, if a Nack has told of a higher round.
+#[tactic(auto, using(wf_voter::proofs::Continuation::still))]
+fn retry_if_preempted<T: Tape + Drop>(
+    alloc: Global,
+    voter: &mut Voter<T>,
+    timers: &mut Timers,
+    time: u64,
+)
+    ensures { Continues T.Tape voter.old voter.new }
+{
+    let node = voter.process.node();
+    if node.is_preempted() && timers.is_first_preemption(node.published().number(), time) {
         retry(alloc, voter);
     }
 }

@@ -1,3 +1,5 @@
+ghost use Rattle.wf_loop.specs.Readers.{AreRepliedEarlier};
+ghost use Rattle.wf_peer_connections.specs.ReadersPort.{exchanges_of};
 ghost use Rattle.wf_voter.specs.Answer.{AreEarlier};
 
 use std::net::SocketAddr;
@@ -9,7 +11,8 @@ use wf_voter::{Clients, Voter};
 
 /// A node, the connections to and from its peers, its clients, and who only reads, over a network.
 /// A clause sees its process, and logs that only proofs read: each client that was answered, with
-/// the process before and after it: this one, as it was earlier.
+/// the process before and after it: this one, as it was earlier; and each question of a reader with
+/// its reply, by this process, as it was earlier.
 #[derive(Drop)]
 pub struct EventLoop<T: Tape, N: Network = SystemNetwork> {
     pub(crate) parts: LoopParts<N>,
@@ -21,4 +24,5 @@ pub struct EventLoop<T: Tape, N: Network = SystemNetwork> {
     pub(crate) time: u64,
     pub(crate) is_busy: bool,
     ghost earlier: { ∥ AreEarlier T.Tape clients.before.items voter.process ∥₁ },
+    ghost replied: { ∥ AreRepliedEarlier T.Tape voter.process (exchanges_of parts.desk.readers) ∥₁ },
 }

@@ -16,7 +16,8 @@
 //! **Promises.** After each turn the node has lived by its acts, the process has gone on in its
 //! run, and each response that a client was sent is the one that `wf_voter` says (its
 //! `specs/Lived.antt`, `specs/Continuation.antt`, `specs/Answer.antt`). Readers and operators get
-//! the node to be read only. What a node goes by of replacements, and whether its folder joins, is
+//! the node to be read only; a reader's question was replied by the list that the node then had
+//! (`specs/Readers.antt`). What a node goes by of replacements, and whether its folder joins, is
 //! what its plan says, from its first turn to its last one (`membership_of`,
 //! `specs/EventLoop.antt`). What it is told is written, and the event loop is over.
 //!

@@ -3,10 +3,11 @@ ghost use Rattle.std.specs.Prelude.{◌≡◌, ◌≤◌, ◌+◌, ◌↔◌, �
 ghost use Rattle.wf_voter.specs.Process.{IsJustOpened};
 ghost use Rattle.wf_digest.specs.Digest.{AreDigestsOf};
 ghost use Rattle.wf_folder.specs.declared.suspension.Suspension.{Suspension as SuspensionValue};
-ghost use Rattle.wf_loop.specs.EventLoop.{GreetsAsNow, HasAnswered, IsBusy, IsHeardFirst, IsJoiner, IsOutvoted, IsOver, IsReopeningDue, IsSuspended, OnlyAnswersAsks, OnlyLearns, address_of, kept_of, membership_of, process_of, taken_in_by, time_of};
+ghost use Rattle.wf_loop.specs.EventLoop.{GreetsAsNow, HasAnswered, HasRepliedEarlier, IsBusy, IsHeardFirst, IsJoiner, IsOutvoted, IsOver, IsReopeningDue, IsSuspended, OnlyAnswersAsks, OnlyLearns, address_of, kept_of, membership_of, process_of, taken_in_by, time_of};
 ghost use Rattle.wf_peer_connections.specs.Membership.{membership_by};
 ghost use Rattle.wf_peer_connections.specs.StartErrors.{IsStartError};
 ghost use Rattle.wf_peer_connections.specs.declared.plan.NodePlan.{NodePlan as NodePlanValue};
+ghost use Rattle.wf_peer_connections.specs.ReadersPort.{exchanges_of};
 ghost use Rattle.wf_node.specs.Reopening.{HasStoredAs};
 ghost use Rattle.wf_visitors.specs.Visitors.{responses_of};
 ghost use Rattle.wf_voter.specs.Cause.{IsWhyNoNextRun};
@@ -62,7 +63,8 @@ fn event_loop_of<T: Tape + Drop, N: Network + Drop>(
     known: PeerProgress,
     time: u64,
 ) -> Result<EventLoop<T, N>, LoopFault>
-    requires { IfOk begun (λ begun. responses_of begun.visitors ≡ []) }
+    requires visitors { IfOk begun (λ begun. responses_of begun.visitors ≡ []) }
+    requires readers { IfOk begun (λ begun. exchanges_of begun.parts.desk.readers ≡ []) }
     ensures event_loop { IfOk result (λ event_loop. process_of event_loop ≡ process) }
     ensures kept { IfOk result (λ event_loop. kept_of event_loop ≡ known) }
     ensures time { IfOk result (λ event_loop. time_of event_loop ≡ time) }
@@ -96,7 +98,8 @@ fn assemble<T: Tape + Drop, N: Network + Drop>(
     known: PeerProgress,
     time: u64,
 ) -> EventLoop<T, N>
-    requires { responses_of visitors ≡ [] }
+    requires visitors { responses_of visitors ≡ [] }
+    requires readers { exchanges_of parts.desk.readers ≡ [] }
     ensures event_loop { process_of result ≡ process }
     ensures kept { kept_of result ≡ known }
     ensures suspended { IsSome parts.peers.suspension → IsSuspended result }
@@ -126,7 +129,8 @@ fn event_loop_with<T: Tape, N: Network>(
     http: Option<SocketAddr>,
     time: u64,
 ) -> EventLoop<T, N>
-    requires { clients.before.items ≡ [] }
+    requires clients { clients.before.items ≡ [] }
+    requires readers { exchanges_of parts.desk.readers ≡ [] }
     ensures voter { result.voter ≡ voter }
     ensures time { time_of result ≡ time }
 {
@@ -191,6 +195,9 @@ impl<T: Tape + Drop> EventLoop<T> {
         // Each response that any client was sent is the one to exactly what had come of its
         // request, by this process as it then was.
         ensures answered { HasAnswered T.Tape self.new }
+        // Each reply that any reader was sent has the maps that this process then had published
+        // next.
+        ensures replied { HasRepliedEarlier T.Tape self.new }
         // It goes on in the run that it was in, as the node that it was.
         ensures on { StaysInRun T.Tape (process_of self.old) (process_of self.new) }
         ensures earlier { KeepsEarlier T.Tape (process_of self.old) (process_of self.new) }
@@ -294,11 +301,12 @@ impl<T: Tape + Drop, N: Network + Drop> EventLoop<T, N> {
         &self.voter.process
     }
 
-    /// The life of the node and what clients were answered, by it as it was then, always. The call
-    /// does nothing.
+    /// The life of the node, and what clients were answered and readers replied, by it as it was
+    /// then, always. The call does nothing.
     pub fn always_lived(&self)
         ensures lived { HasLived T.Tape (process_of self.now) }
         ensures answered { HasAnswered T.Tape self.now }
+        ensures replied { HasRepliedEarlier T.Tape self.now }
     {
         self.voter.process.always_lived();
         self.voter.process.always_received();
@@ -440,6 +448,9 @@ impl<T: Tape + Drop, N: Network + Drop> EventLoop<T, N> {
         // Each response that any client was sent is the one to exactly what had come of its
         // request, by this process as it then was.
         ensures answered { HasAnswered T.Tape self.new }
+        // Each reply that any reader was sent has the maps that this process then had published
+        // next.
+        ensures replied { HasRepliedEarlier T.Tape self.new }
         // It goes on in the run that it was in, as the node that it was.
         ensures on { StaysInRun T.Tape (process_of self.old) (process_of self.new) }
         ensures earlier { KeepsEarlier T.Tape (process_of self.old) (process_of self.new) }

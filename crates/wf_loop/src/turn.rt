@@ -1,5 +1,7 @@
 //! What a turn does once it has waited.
 ghost use Rattle.std.specs.Prelude.{◌≡◌, true};
+ghost use Rattle.wf_loop.specs.Readers.{StayReplied};
+ghost use Rattle.wf_peer_connections.specs.ReadersPort.{exchanges_of};
 ghost use Rattle.wf_voter.specs.Answer.{StayEarlier};
 ghost use Rattle.wf_voter.specs.Continuation.{Continues, ContinuesIn};
 
@@ -43,6 +45,8 @@ pub(crate) fn serve_all<
         clients.new.before.items ≡ clients.old.before.items }
     ensures earlier { StayEarlier T.Tape clients.old.before.items clients.new.before.items
         voter.old.process voter.new.process }
+    ensures readers { StayReplied T.Tape voter.old.process voter.new.process
+        (exchanges_of desk.old.readers) (exchanges_of desk.new.readers) }
 {
     act_on_all(context, voter, folder, peers, desk, clients, tokens);
     handle_all_own(context, voter, peers);
@@ -72,6 +76,8 @@ fn act_on_all<R: Net + Clock + Eprint + AllocGlobal, T: Tape + Drop, F: NodeFold
     ensures on { ContinuesIn T.Tape (F.stands folder.old) voter.old
         (F.stands folder.new) voter.new }
     ensures befores { clients.new.before.items ≡ clients.old.before.items }
+    ensures readers { StayReplied T.Tape voter.old.process voter.new.process
+        (exchanges_of desk.old.readers) (exchanges_of desk.new.readers) }
 {
     act_on_those(context, voter, folder, peers, desk, clients, tokens, true);
     act_on_those(context, voter, folder, peers, desk, clients, tokens, false);
@@ -97,6 +103,8 @@ fn act_on_those<
     ensures on { ContinuesIn T.Tape (F.stands folder.old) voter.old
         (F.stands folder.new) voter.new }
     ensures befores { clients.new.before.items ≡ clients.old.before.items }
+    ensures readers { StayReplied T.Tape voter.old.process voter.new.process
+        (exchanges_of desk.old.readers) (exchanges_of desk.new.readers) }
 {
     for token in tokens {
         let socket = Socket::of(*token);
@@ -108,7 +116,7 @@ fn act_on_those<
 }
 
 /// Does what a ready socket asks for.
-#[tactic(auto, using(wf_voter::proofs::Continuation::still_in, wf_voter::proofs::Continuation::on_in))]
+#[tactic(auto, using(wf_voter::proofs::Continuation::still_in, wf_voter::proofs::Continuation::on_in, crate::proofs::Readers::replied_in, crate::proofs::Readers::replied_still))]
 fn act_on<R: Net + Clock + Eprint + AllocGlobal, T: Tape + Drop, F: NodeFolder<T>, N: Network>(
     context: &Context<'_, '_, R, N>,
     voter: &mut Voter<T>,
@@ -121,6 +129,8 @@ fn act_on<R: Net + Clock + Eprint + AllocGlobal, T: Tape + Drop, F: NodeFolder<T
     ensures on { ContinuesIn T.Tape (F.stands folder.old) voter.old
         (F.stands folder.new) voter.new }
     ensures befores { clients.new.before.items ≡ clients.old.before.items }
+    ensures readers { StayReplied T.Tape voter.old.process voter.new.process
+        (exchanges_of desk.old.readers) (exchanges_of desk.new.readers) }
 {
     match socket {
         Socket::Http => clients.accept(context),
@@ -131,12 +141,25 @@ fn act_on<R: Net + Clock + Eprint + AllocGlobal, T: Tape + Drop, F: NodeFolder<T
         Socket::Admin => desk.operators.accept(context),
         Socket::Operator(index) => desk.operators.on_ready(context, index),
         Socket::Readers => desk.readers.accept(context),
-        Socket::Reader(index) => {
-            // nothing of the node can change by it
-            let history = voter.process.node().history();
-            desk.answer_reader(context, history, &mut peers.table, index);
-        }
+        Socket::Reader(index) => reply(context, voter, peers, desk, index),
     }
+}
+
+/// Answers a reader, by which nothing of the node can change.
+fn reply<R: Clock + Eprint + AllocGlobal, T: Tape + Drop, N: Network>(
+    context: &Context<'_, '_, R, N>,
+    voter: &Voter<T>,
+    peers: &mut PeerConnections<N>,
+    desk: &mut Desk<N>,
+    index: usize,
+)
+    ensures { StayReplied T.Tape voter.now.process voter.now.process
+        (exchanges_of desk.old.readers) (exchanges_of desk.new.readers) }
+{
+    voter.process.always_lived();
+    voter.process.always_received();
+    let history = voter.process.node().history();
+    desk.answer_reader(context, history, &mut peers.table, index);
 }
 
 /// Delivers messages of the node to itself, a bounded number of them.
@@ -230,7 +253,9 @@ pub(crate) fn answer_operators<R: Files + Clock + Eprint + AllocGlobal, T: Tape 
     desk: &mut Desk<N>,
     clients: &Clients<T, N>,
     behind: &mut Behind,
-) {
+)
+    ensures { exchanges_of desk.new.readers ≡ exchanges_of desk.old.readers }
+{
     let history = voter.process.node().history();
     let is_behind = behind.judge(history.published().number() < peers.latest(), context.time);
     if desk.operators.waits() {
@@ -257,7 +282,9 @@ fn tell_operators<R: Files + Clock + Eprint + AllocGlobal, T: Tape + Drop, N: Ne
     desk: &mut Desk<N>,
     clients: &Clients<T, N>,
     is_behind: bool,
-) {
+)
+    ensures { exchanges_of desk.new.readers ≡ exchanges_of desk.old.readers }
+{
     let process = &voter.process;
     let view = NodeView {
         history: process.node().history(),

@@ -9,7 +9,7 @@ use Rattle.wf_folder.specs.NodeFile.{IsNodeFile}
 use Rattle.wf_line.specs.declared.node_line.NodeLine.{NodeLine}
 use Rattle.wf_loop.proofs.Earlier.{its_own}
 use Rattle.wf_loop.specs.Continuation.{AreHeardFrom, AreRunsHeardFrom, IsEarlier, KeepsEarlier}
-use Rattle.wf_loop.specs.EventLoop.{HasAnswered, IsHeardFirst, IsJoiner, IsOver, IsReopeningDue, kept_of, membership_of, process_of}
+use Rattle.wf_loop.specs.EventLoop.{HasAnswered, HasRepliedEarlier, IsHeardFirst, IsJoiner, IsOver, IsReopeningDue, kept_of, membership_of, process_of, replied_by}
 use Rattle.wf_loop.specs.Lived.{HasLived}
 use Rattle.wf_loop.specs.declared.event_loop.EventLoop.{EventLoop}
 use Rattle.wf_loop.specs.Membership.{membership_by}
@@ -70,10 +70,10 @@ module _ {T : Type 0} (tapes : Tape T) where
   kept_due event_loop after due decides is keeps = keeps (decides.0 is).0
 
   -- the event loop's process, at whatever end, is a later moment of the one that it began with
-  pub lived_on : {N C L : Type 0} {connections : Connection C} (begun event_loop : EventLoop T N C L tapes connections) (plan : NodePlan) (calls : List Call) → HasLived tapes (process_of event_loop) → HasAnswered tapes event_loop
+  pub lived_on : {N C L : Type 0} {connections : Connection C} (begun event_loop : EventLoop T N C L tapes connections) (plan : NodePlan) (calls : List Call) → HasLived tapes (process_of event_loop) → HasAnswered tapes event_loop → HasRepliedEarlier tapes event_loop
       → KeepsEarlier tapes (process_of begun) (process_of event_loop) → IsHeardFirst (heard_in calls) event_loop → membership_of event_loop ≡ membership_by plan → (IsSome plan.joining → IsLearner tapes event_loop)
       → HasLivedOn tapes (process_of begun) plan calls
-  lived_on begun event_loop plan calls lived answered keeps heard goes_by learns = record {
+  lived_on begun event_loop plan calls lived answered replied keeps heard goes_by learns = record {
     voter = event_loop.voter;
     lived = lived;
     befores = event_loop.clients.before.items;
@@ -81,6 +81,8 @@ module _ {T : Type 0} (tapes : Tape T) where
     afters = event_loop.clients.after.items;
     answered = answered.each;
     answering = answered.earlier;
+    exchanges = replied_by event_loop;
+    replied = replied;
     earlier = keeps (process_of begun) (its_own tapes (process_of begun));
     heard = heard;
     went_by = goes_by;

@@ -9,7 +9,9 @@ use Rattle.wf_line.specs.declared.node_line.NodeCommand.TheVariants as commands
 use Rattle.wf_line.specs.declared.node_line.NodeLine.{NodeLine}
 use Rattle.wf_loop.specs.Answer.{AreAnswered, AreEarlier}
 use Rattle.wf_loop.specs.Continuation.{IsEarlier, IsHeardKept}
+use Rattle.wf_loop.specs.Exchanges.{Exchange}
 use Rattle.wf_loop.specs.Lived.{HasLived}
+use Rattle.wf_loop.specs.Readers.{AreRepliedEarlier}
 use Rattle.wf_loop.specs.Voter.{Voter}
 use Rattle.wf_loop.specs.Membership.{membership_by}
 use Rattle.wf_loop.specs.NodePlan.{NodePlan}
@@ -32,9 +34,10 @@ use Rattle.wf_tape.specs.declared.tape.Tape.{Ghosts as Tape}
 module _ {T : Type 0} (tapes : Tape T) where
   -- The process has gone on in an event loop, whose voter it is of at a later moment, and has
   -- lived; each client was sent the response to exactly what had come of its request, by this
-  -- process, as it was before, which had lived so; and what any message of a peer that it was given
-  -- tells of the peer's round and promise is in the file `heard`. To its end it went by what its
-  -- plan says of replacements, and if its folder joins, it has only learned.
+  -- process, as it was before, which had lived so; each question of a reader was replied by the
+  -- list that its node had by then; and what any message of a peer that it was given tells of the
+  -- peer's round and promise is in the file `heard`. To its end it went by what its plan says of
+  -- replacements, and if its folder joins, it has only learned.
   pub record HasLivedOn (started : Process T tapes) (plan : NodePlan) (calls : List Call) : Type 0 where
     pub voter : Voter T tapes
     pub lived : HasLived tapes voter.process
@@ -43,6 +46,8 @@ module _ {T : Type 0} (tapes : Tape T) where
     pub afters : List (Voter T tapes × ℕ)
     pub answered : ∥ AreAnswered tapes befores clients afters ∥₁
     pub answering : ∥ AreEarlier tapes befores voter.process ∥₁
+    pub exchanges : List Exchange
+    pub replied : ∥ AreRepliedEarlier tapes voter.process exchanges ∥₁
     pub earlier : IsEarlier tapes started voter.process
     pub heard : IsHeardKept (heard_in calls) voter
     pub went_by : voter.membership ≡ membership_by plan

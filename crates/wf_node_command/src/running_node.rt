@@ -3,7 +3,7 @@ ghost use Rattle.std.specs.Prelude.{◌≡◌, ◌≤◌, ◌↔◌, IfErr, IfOk
 ghost use Rattle.wf_folder.specs.NodeFile.{IsNodeFile};
 ghost use Rattle.wf_line.specs.NodeLine.{IsNodeInRange};
 ghost use Rattle.wf_loop.specs.Continuation.{KeepsEarlier};
-ghost use Rattle.wf_loop.specs.EventLoop.{HasAnswered, IsHeardFirst, IsOver, kept_of, membership_of, process_of, taken_in_by};
+ghost use Rattle.wf_loop.specs.EventLoop.{HasAnswered, HasRepliedEarlier, IsHeardFirst, IsOver, kept_of, membership_of, process_of, taken_in_by};
 ghost use Rattle.wf_loop.specs.Lived.{HasLived};
 ghost use Rattle.wf_loop.specs.Membership.{membership_by};
 ghost use Rattle.wf_node_folder.specs.Fault.{IsFromSystem};
@@ -142,10 +142,12 @@ impl<S: Store, N: Network + Drop> RunningNode<S, N> {
         self.event_loop.process()
     }
 
-    /// The life of the node and what clients were answered, always. The call does nothing.
+    /// The life of the node, what clients were answered and readers replied, always. The call does
+    /// nothing.
     pub fn always_lived(&self)
         ensures lived { HasLived S.Tape.Tape (process_of self.now.event_loop) }
         ensures answered { HasAnswered S.Tape.Tape self.now.event_loop }
+        ensures replied { HasRepliedEarlier S.Tape.Tape self.now.event_loop }
     {
         self.event_loop.always_lived();
     }
@@ -182,6 +184,8 @@ impl<S: Store, N: Network + Drop> RunningNode<S, N> {
         // Each client was sent the response to exactly what had come of its request, by this
         // process as it then was.
         ensures answered { HasAnswered S.Tape.Tape self.new.event_loop }
+        // Each question of a reader was replied by the list that this process had by then.
+        ensures replied { HasRepliedEarlier S.Tape.Tape self.new.event_loop }
         // It goes on in its run, or its run has ended and another began.
         ensures earlier { KeepsEarlier S.Tape.Tape (process_of self.old.event_loop)
             (process_of self.new.event_loop) }

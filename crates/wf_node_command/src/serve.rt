@@ -2,7 +2,7 @@
 ghost use Rattle.std.specs.Prelude.{◌≡◌, IsSome};
 ghost use Rattle.wf_folder.specs.NodeFile.{IsNodeFile};
 ghost use Rattle.wf_loop.specs.Continuation.{KeepsEarlier};
-ghost use Rattle.wf_loop.specs.EventLoop.{HasAnswered, IsHeardFirst, IsOver, membership_of, process_of};
+ghost use Rattle.wf_loop.specs.EventLoop.{HasAnswered, HasRepliedEarlier, IsHeardFirst, IsOver, membership_of, process_of};
 ghost use Rattle.wf_loop.specs.Lived.{HasLived};
 ghost use Rattle.wf_loop.specs.Membership.{membership_by};
 ghost use Rattle.wf_loop.specs.NodePlan.{NodePlan as NodePlanValue};
@@ -88,6 +88,8 @@ fn run_turns<R: Files<File = File> + Clock + Eprint + Net + AllocGlobal, S: Stor
     // Each client was sent the response to exactly what had come of its request, by this process as
     // it then was.
     ensures answered { HasAnswered S.Tape.Tape node.new.event_loop }
+    // Each question of a reader was replied by the list that this process had by then.
+    ensures replied { HasRepliedEarlier S.Tape.Tape node.new.event_loop }
     // It goes on in its run, or its run has ended and others began.
     ensures earlier { KeepsEarlier S.Tape.Tape (process_of node.old.event_loop)
         (process_of node.new.event_loop) }

@@ -1,3 +1,5 @@
+pub use Rattle.wf_readers_port.specs.Exchanges
+pub use Rattle.wf_readers_port.specs.ReadersPort
 pub mod Alarms
 pub mod Dials
 pub mod Inbound

@@ -1,4 +1,7 @@
 //! The operators and the readers of a node, who only read.
+ghost use Rattle.std.specs.Prelude.{◌≡◌, [], IfOk};
+ghost use Rattle.wf_readers_port.specs.Exchanges.{HasReplied};
+ghost use Rattle.wf_readers_port.specs.ReadersPort.{exchanges_of};
 
 use crate::peer_table::PeerTable;
 use crate::token::{OPERATOR, READER};
@@ -33,7 +36,9 @@ impl<N: Network> Desk<N> {
         admin: Option<N::Listener>,
         readers: Option<N::Listener>,
         started: StartTime,
-    ) -> Result<Self, AllocError> {
+    ) -> Result<Self, AllocError>
+        ensures { IfOk result (λ desk. exchanges_of desk.readers ≡ []) }
+    {
         let operators = Visitors::new(alloc, OPERATORS, admin, OPERATOR)?;
         let readers = ReadersPort::new(alloc, READERS, readers, READER)?;
         Ok(Desk {
@@ -45,21 +50,27 @@ impl<N: Network> Desk<N> {
     }
 
     /// Accepts operators and readers, and ends the phases whose time is over.
-    pub fn tick<R: Clock + Eprint + AllocGlobal>(&mut self, context: &Context<'_, '_, R, N>) {
+    pub fn tick<R: Clock + Eprint + AllocGlobal>(&mut self, context: &Context<'_, '_, R, N>)
+        ensures { exchanges_of self.new.readers ≡ exchanges_of self.old.readers }
+    {
         self.operators.accept(context);
         self.operators.tick(context.time);
         self.readers.accept(context);
         self.readers.tick(context.time);
     }
 
-    /// Answers a reader, from what is published.
+    /// Answers a reader, from what is published: each exchange that comes into the log has a reply
+    /// by this history.
     pub fn answer_reader<R: Clock + Eprint + AllocGlobal>(
         &mut self,
         context: &Context<'_, '_, R, N>,
         history: &History,
         table: &mut PeerTable,
         index: usize,
-    ) {
+    )
+        ensures { HasReplied self.old.answerer history.now.definitions table.new.digests
+            (exchanges_of self.old.readers) (exchanges_of self.new.readers) }
+    {
         // what was published in this turn has its digests too
         table.extend(history);
         let own = self.answerer;

@@ -1,5 +1,6 @@
 //! The operators of a node, who ask what it tells.
 ghost use Rattle.std.specs.Prelude.{◌≡◌};
+ghost use Rattle.wf_readers_port.specs.ReadersPort.{exchanges_of};
 
 use crate::desk::{Desk, serve_operators};
 use crate::facts::NodeFacts;
@@ -43,7 +44,9 @@ impl<N: Network> PeerConnections<N> {
         desk: &mut Desk<N>,
         view: &NodeView<'_>,
         is_behind: bool,
-    ) {
+    )
+        ensures { exchanges_of desk.new.readers ≡ exchanges_of desk.old.readers }
+    {
         let order = self.serve_facts(context, desk, view, is_behind);
         if order.is_some() {
             self.order = order;
@@ -73,7 +76,9 @@ impl<N: Network> PeerConnections<N> {
         desk: &mut Desk<N>,
         view: &NodeView<'_>,
         is_behind: bool,
-    ) -> Option<Order> {
+    ) -> Option<Order>
+        ensures { exchanges_of desk.new.readers ≡ exchanges_of desk.old.readers }
+    {
         let history = view.history;
         let Desk {
             operators,

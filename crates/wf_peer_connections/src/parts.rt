@@ -2,6 +2,7 @@
 ghost use Rattle.std.specs.Prelude.{◌≡◌, [], Some, IfErr, IfOk, IsSome, true};
 ghost use Rattle.wf_peer_connections.specs.Membership.{membership_by};
 ghost use Rattle.wf_peer_connections.specs.StartErrors.{IsStartError};
+ghost use Rattle.wf_readers_port.specs.ReadersPort.{exchanges_of};
 ghost use Rattle.wf_visitors.specs.Visitors.{responses_of};
 
 use crate::desk::Desk;
@@ -150,7 +151,8 @@ fn rooms_of<N: Network + Drop>(
     known: PeerProgress,
     started: StartTime,
 ) -> Result<LoopRooms<N>, AllocError>
-    ensures { IfOk result (λ made. responses_of made.visitors ≡ []) }
+    ensures visitors { IfOk result (λ made. responses_of made.visitors ≡ []) }
+    ensures readers { IfOk result (λ made. exchanges_of made.desk.readers ≡ []) }
 {
     let Ports {
         http,
@@ -177,6 +179,7 @@ fn begin_at<N: Network + Drop>(
     started: StartTime,
 ) -> Result<LoopStart<N>, LoopFault>
     ensures begun { IfOk result (λ begun. responses_of begun.visitors ≡ []) }
+    ensures readers { IfOk result (λ begun. exchanges_of begun.parts.desk.readers ≡ []) }
     ensures suspended { IfOk result (λ begun. begun.parts.peers.suspension ≡ plan.suspension) }
     ensures plan { IfOk result (λ begun. begun.parts.peers.plan ≡ plan) }
     ensures memory { IfErr result (λ why. why ≡ LoopFault.Memory) }
@@ -219,6 +222,7 @@ pub fn bind<R: Net + Clock + AllocGlobal, N: Network + Drop>(
     time: u64,
 ) -> Result<LoopStart<N>, LoopFault>
     ensures begun { IfOk result (λ begun. responses_of begun.visitors ≡ []) }
+    ensures readers { IfOk result (λ begun. exchanges_of begun.parts.desk.readers ≡ []) }
     ensures suspended { IfOk result (λ begun. begun.parts.peers.suspension ≡ plan.suspension) }
     ensures plan { IfOk result (λ begun. begun.parts.peers.plan ≡ plan) }
     ensures cause { IfErr result (IsStartError plan) }

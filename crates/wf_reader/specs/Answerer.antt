@@ -1,5 +1,5 @@
 -- The reply that a question has, from a farm's history.
-use Rattle.std.specs.Prelude.{◌≡◌, ◌≢◌, ℕ, ◌<◌, ◌≤◌, List, drop, length, take}
+use Rattle.std.specs.Prelude.{◌≡◌, ◌≢◌, ℕ, ◌<◌, ◌≤◌, ⊤, List, drop, length, take}
 use Rattle.wf_def.specs.Definition.{Definition}
 use Rattle.wf_digest.specs.Digest.{digest_at}
 use Rattle.wf_model.specs.Table.{most_reports}
@@ -14,6 +14,11 @@ use Rattle.wf_reader.specs.declared.reply.Reply.TheVariants as replies
 -- the definitions that are published at the next sequences, at most eight
 abbrev pub next_reported : List Definition → ℕ → List Definition
 next_reported history published = take most_reports (drop published history)
+
+-- an answer has the definitions that the history has next after those of the question
+abbrev pub TellsNext : List Definition → Question → Reply → Type 0
+TellsNext history q (replies.Answer a) = a.definitions ≡ next_reported history q.published
+TellsNext history q (replies.Rejected why) = ⊤
 
 -- the digests differ at the reader's last published sequence, which the answerer has published too
 pub record Differ (history : List Definition) (q : Question) : Type 0 where

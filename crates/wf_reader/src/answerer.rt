@@ -3,7 +3,7 @@ ghost use Rattle.std.specs.Prelude.{◌≡◌, ◌+◌, ◌<◌, ◌≤◌, ◌�
 ghost use Rattle.std.specs.Option.{option_to_list};
 ghost use Rattle.wf_digest.specs.Digest.{AreDigestsOf};
 ghost use Rattle.wf_model.specs.DurableState.{definition_at};
-ghost use Rattle.wf_reader.specs.Answerer.{Differ, IsReplyTo, next_reported};
+ghost use Rattle.wf_reader.specs.Answerer.{Differ, IsReplyTo, TellsNext, next_reported};
 
 use crate::answer::{MOST_DISTANCE, ReaderAnswer};
 use crate::question::Question;
@@ -25,7 +25,8 @@ pub struct Answerer {
     pub distance: u8,
 }
 
-/// The reply to a question, from a history and its digests. The only error is allocation failure,
+/// The reply to a question, from a history and its digests; whatever the digests are, the
+/// definitions of an answer are those of the history. The only error is allocation failure,
 /// here or before, where the digests were to be extended to the history's last sequence.
 pub fn reply_to(
     alloc: Global,
@@ -34,6 +35,7 @@ pub fn reply_to(
     digests: &Digests,
     question: &Question,
 ) -> Result<Reply, AllocError>
+    ensures told { IfOk result (TellsNext history.now.definitions question.now) }
     ensures reply { AreDigestsOf history.now.definitions digests.now →
         IfOk result (IsReplyTo own.now history.now.definitions question.now) }
     ensures memory { AreDigestsOf history.now.definitions digests.now →

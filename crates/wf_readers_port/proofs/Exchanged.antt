@@ -5,7 +5,6 @@ use Rattle.std.specs.Prelude.{Result, Ok}
 use Rattle.std.specs.declared.alloc.Global.{Global}
 use Rattle.wf_client.specs.ResponseBuffer.{Outgoing, IsTakenUp, rest_of}
 use Rattle.wf_def.specs.Definition.{Definition}
-use Rattle.wf_digest.specs.Digest.{AreDigestsOf}
 use Rattle.wf_reader.specs.Question.{IsQuestion, question_bytes, question_length}
 use Rattle.wf_reader.specs.declared.answerer.Answerer.{Answerer}
 use Rattle.wf_reader.specs.declared.fault.QuestionFault.{QuestionFault}
@@ -94,10 +93,10 @@ begins_with bytes result question read front each = record {
 
 -- ---- exchanges
 
-pub replied_append : (own : Answerer) (history : List Definition) (first second : List Exchange) → AreRepliedBy own history first → AreRepliedBy own history second → AreRepliedBy own history (first ++ second)
+pub replied_append : (own : Answerer) (history : List Definition) (digests : List (List ℕ)) (first second : List Exchange) → AreRepliedBy own history digests first → AreRepliedBy own history digests second → AreRepliedBy own history digests (first ++ second)
 unfolding AreRepliedBy
-replied_append own history [] second are more = more
-replied_append own history (exchange ∷ first) second are more = (are.0, replied_append own history first second are.1 more)
+replied_append own history digests [] second are more = more
+replied_append own history digests (exchange ∷ first) second are more = (are.0, replied_append own history digests first second are.1 more)
 
 pub conversed_nothing : (own : Answerer) (history : List Definition) (digests : List (List ℕ)) (asked all asked' all' : List Exchange) → asked' ≡ asked → all' ≡ all → HasConversed own history digests asked all asked' all'
 unfolding AreRepliedBy
@@ -105,19 +104,19 @@ conversed_nothing own history digests asked all asked' all' asked_is all_is = re
   more = [];
   asked_more = asked_is ∙ sym (append-nil asked);
   logged = all_is ∙ sym (append-nil all);
-  replied = λ are. tt;
+  replied = tt;
 }
 
 pub conversed_one : (own : Answerer) (history : List Definition) (digests : List (List ℕ)) (question reply : Vec ℕ Global) (asked all asked' all' : List Exchange)
     → asked' ≡ asked ++ (question, reply) ∷ [] → all' ≡ all ++ (question, reply) ∷ [] → length question.items ≡ question_length
-    → (AreDigestsOf history digests → RepliesTo own history question.items [] reply.items)
+    → RepliesTo own history digests question.items [] reply.items
     → HasConversed own history digests asked all asked' all'
 unfolding AreRepliedBy
 conversed_one own history digests question reply asked all asked' all' asked_is all_is whole replied = record {
   more = (question, reply) ∷ [];
   asked_more = asked_is;
   logged = all_is;
-  replied = λ are. (record { whole = whole; reply = replied are }, tt);
+  replied = (record { whole = whole; reply = replied }, tt);
 }
 
 pub conversed_twice : (own : Answerer) (history : List Definition) (digests : List (List ℕ)) (asked all asked' all' asked'' all'' : List Exchange)
@@ -126,5 +125,5 @@ conversed_twice own history digests asked all asked' all' asked'' all'' first se
   more = first.more ++ second.more;
   asked_more = second.asked_more ∙ ap (λ (s : List Exchange). s ++ second.more) first.asked_more ∙ append_assoc asked first.more second.more;
   logged = second.logged ∙ ap (λ (s : List Exchange). s ++ second.more) first.logged ∙ append_assoc all first.more second.more;
-  replied = λ are. replied_append own history first.more second.more (first.replied are) (second.replied are);
+  replied = replied_append own history digests first.more second.more first.replied second.replied;
 }

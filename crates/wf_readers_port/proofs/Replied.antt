@@ -59,7 +59,7 @@ has_replied own history digests asked all asked' all' conversed = record { more 
 
 pub none_replied_to : (own : Answerer) (history : List Definition) (digests : List (List ℕ)) (before after : List Exchange) → after ≡ before → HasReplied own history digests before after
 unfolding AreRepliedBy
-none_replied_to own history digests before after same = record { more = []; logged = same ∙ sym (append-nil before); replied = λ are. tt }
+none_replied_to own history digests before after same = record { more = []; logged = same ∙ sym (append-nil before); replied = tt }
 
 pub has_replied_between : (own : Answerer) (history : List Definition) (digests : List (List ℕ)) (before before' after' after : List Exchange)
     → before' ≡ before → after ≡ after' → HasReplied own history digests before' after' → HasReplied own history digests before after

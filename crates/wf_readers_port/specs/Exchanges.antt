@@ -2,7 +2,6 @@
 use Rattle.std.specs.Prelude.{◌≡◌, ◌⊎◌, ℕ, ⊤, List, [], ◌∷◌, ◌++◌, Vec, length}
 use Rattle.std.specs.declared.alloc.Global.{Global}
 use Rattle.wf_def.specs.Definition.{Definition}
-use Rattle.wf_digest.specs.Digest.{AreDigestsOf}
 use Rattle.wf_reader.specs.Question.{question_length}
 use Rattle.wf_reader.specs.declared.answerer.Answerer.{Answerer}
 use Rattle.wf_readers_port.specs.QuestionReplies.{RepliesTo}
@@ -31,26 +30,31 @@ unfoldable pub AreExchangesOf : List Exchange → List Exchange → Type 0
 AreExchangesOf all [] = ⊤
 AreExchangesOf all (exchange ∷ exchanges) = ∥ HasExchange all exchange ∥₁ × AreExchangesOf all exchanges
 
--- one whole question, with the reply that it has by that history
-pub record IsRepliedBy (own : Answerer) (history : List Definition) (exchange : Exchange) : Type 0 where
+-- one whole question, with its reply by that history and these digests
+pub record IsRepliedBy (own : Answerer) (history : List Definition) (digests : List (List ℕ)) (exchange : Exchange) : Type 0 where
   pub whole : length exchange.0.items ≡ question_length
-  pub reply : RepliesTo own history exchange.0.items [] exchange.1.items
+  pub reply : RepliesTo own history digests exchange.0.items [] exchange.1.items
 
 -- so is each
-unfoldable pub AreRepliedBy : Answerer → List Definition → List Exchange → Type 0
-AreRepliedBy own history [] = ⊤
-AreRepliedBy own history (exchange ∷ exchanges) = IsRepliedBy own history exchange × AreRepliedBy own history exchanges
+unfoldable pub AreRepliedBy : Answerer → List Definition → List (List ℕ) → List Exchange → Type 0
+AreRepliedBy own history digests [] = ⊤
+AreRepliedBy own history digests (exchange ∷ exchanges) = IsRepliedBy own history digests exchange × AreRepliedBy own history digests exchanges
 
--- Some exchanges came behind those before. Each is a question with its reply, if the digests are
--- the history's.
+-- so by whoever had that history
+pub record IsRepliedFrom (history : List Definition) (exchange : Exchange) : Type 0 where
+  pub own : Answerer
+  pub digests : List (List ℕ)
+  pub replied : IsRepliedBy own history digests exchange
+
+-- Some exchanges came behind those before, each a question with its reply.
 pub record HasReplied (own : Answerer) (history : List Definition) (digests : List (List ℕ)) (before after : List Exchange) : Type 0 where
   pub more : List Exchange
   pub logged : after ≡ before ++ more
-  pub replied : AreDigestsOf history digests → AreRepliedBy own history more
+  pub replied : AreRepliedBy own history digests more
 
 -- So of a reader's exchanges and of all, which were the same.
 pub record HasConversed (own : Answerer) (history : List Definition) (digests : List (List ℕ)) (asked all asked_after all_after : List Exchange) : Type 0 where
   pub more : List Exchange
   pub asked_more : asked_after ≡ asked ++ more
   pub logged : all_after ≡ all ++ more
-  pub replied : AreDigestsOf history digests → AreRepliedBy own history more
+  pub replied : AreRepliedBy own history digests more

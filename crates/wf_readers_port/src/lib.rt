@@ -14,9 +14,9 @@
 //! **Promises.** What came on a reader's connection is questions of the log, one after the other,
 //! and a part of the next one; what was sent on it, with what is still to be taken, is the replies
 //! to them, one after the other ([`ReadersPort::always_replied`]). The exchanges that a turn makes
-//! are each a question with the encoding of the reply that it has by the history of that turn, if
-//! the digests are the history's ([`ReadersPort::on_ready`], `specs/QuestionReplies.antt`); no
-//! other call makes one.
+//! are each a question with the encoding of a reply whose maps are those that the history of that
+//! turn has next; if the digests are the history's, it is the reply that the question has by that
+//! ([`ReadersPort::on_ready`], `specs/QuestionReplies.antt`); no other call makes one.
 //!
 //! **Doesn't.** No clause says which sockets are ready, or what became of a connection after its
 //! last turn. The network is any ([`wf_sockets`]); where none is named it is the system's.

@@ -1,6 +1,5 @@
 //! What is replied to a reader.
 ghost use Rattle.std.specs.Prelude.{◌≡◌, ◌++◌, true};
-ghost use Rattle.wf_digest.specs.Digest.{AreDigestsOf};
 ghost use Rattle.wf_reader.specs.Reply.{IsReply, reply_bytes};
 ghost use Rattle.wf_reader.specs.declared.rejection.QuestionRejection.TheVariants as cause;
 ghost use Rattle.wf_reader.specs.declared.reply.Reply.TheVariants as replies;
@@ -25,8 +24,8 @@ pub(crate) enum QuestionOutcome {
     Memory,
 }
 
-/// Replies to the question that bytes begin with. What is written is the reply that the question
-/// has by the history, if the digests are the history's.
+/// Replies to the question that bytes begin with. What is written tells what the history has next;
+/// if the digests are the history's, it is the reply that the question has by that.
 #[tactic(auto, using(crate::proofs::Exchanged::begins_with))]
 pub(crate) fn answer(
     alloc: Global,
@@ -34,8 +33,8 @@ pub(crate) fn answer(
     bytes: &[u8],
     out: &mut Vec<u8>,
 ) -> QuestionOutcome
-    ensures { AreDigestsOf published.now.history.now.definitions published.now.digests.now →
-        IfReplied result (RepliesTo published.now.own.now published.now.history.now.definitions
+    ensures { IfReplied result (RepliesTo published.now.own.now
+        published.now.history.now.definitions published.now.digests.now
         bytes.now out.old.items out.new.items) }
 {
     match decode_question(bytes) {
@@ -53,8 +52,8 @@ fn reply_by_history(
     question: &Question,
     out: &mut Vec<u8>,
 ) -> QuestionOutcome
-    ensures { AreDigestsOf published.now.history.now.definitions published.now.digests.now →
-        IfReplied result (Replies published.now.own.now published.now.history.now.definitions
+    ensures { IfReplied result (Replies published.now.own.now
+        published.now.history.now.definitions published.now.digests.now
         question.now out.old.items out.new.items) }
 {
     let PortView {

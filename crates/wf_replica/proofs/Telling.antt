@@ -52,7 +52,7 @@ module _ {T : Type 0} (n : ℕ) (executions : ℕ → Execution T) where
       let next : next_of list ≡ suc q.published = omega (arith, fits.asked.published) in
       let there : IsIn m (numbered (next_of list) a.definitions) = in_front taken.count (next_of list) a.definitions m (subst (IsIn m) taken.is_part is_in) in
       let is : numbered (next_of list) a.definitions ≡ reports_from answered.source (suc q.published) most_reports =
-      ap (λ (s : ℕ). numbered s a.definitions) next ∙ ap (numbered (suc q.published)) answered.answers.definitions ∙ answers_report answered.source q.published in
+      ap (λ (s : ℕ). numbered s a.definitions) next ∙ ap (numbered (suc q.published)) answered.definitions ∙ answers_report answered.source q.published in
       record { source = answered.source; served = answered.served; asked = suc q.published; reports = subst (IsIn m) is there }
 
   from_told : (list : List Definition) (answers : List (ReaderAnswer × Question)) (received : List (Message Definition)) → IsTakenFrom list answers received → AreAnsweredByFarm n executions answers → AreReported n executions received

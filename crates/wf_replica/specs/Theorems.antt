@@ -45,12 +45,12 @@ pub record IsToldByFarm {T : Type 0} (n : ℕ) (executions : ℕ → Execution T
 abbrev pub AreReported : {T : Type 0} → ℕ → (ℕ → Execution T) → List (Message Definition) → Type 0
 AreReported n executions received = (m : Message Definition) → IsIn m received → IsToldByFarm n executions m
 
--- a list of a node of the farm, or of a replica of it, gave this answer to this question
+-- the answer has what a list of a node of the farm, or of a replica of it, has next after the
+-- question
 pub record IsAnsweredByFarm {T : Type 0} (n : ℕ) (executions : ℕ → Execution T) (answer : ReaderAnswer × Question) : Type 0 where
-  pub own : Answerer
   pub source : List Definition
   pub served : IsListOfFarm n executions source
-  pub answers : IsAnswerTo own source answer.1 answer.0
+  pub definitions : answer.0.definitions ≡ next_reported source answer.1.published
 
 -- so each of these answers
 abbrev pub AreAnsweredByFarm : {T : Type 0} → ℕ → (ℕ → Execution T) → List (ReaderAnswer × Question) → Type 0

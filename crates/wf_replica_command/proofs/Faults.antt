@@ -21,10 +21,10 @@ use Rattle.wf_replica_command.specs.Done.{HasServed, IsReplicaDone, IsReplicaEnd
 use Rattle.wf_replica_command.specs.Fault.{IsReplicaSystemFault, IsReplicaPlanOf, IsReplicaFault, IsAddressTaken, IsReplicaWordsFault, plan_address, fault_of, value_of}
 use Rattle.wf_replica_command.specs.Heard.{Hears}
 use Rattle.wf_replica_command.specs.Start.{IsReplicaFolderCause}
-use Rattle.wf_replica_command.specs.ReplicaLoop.{HasAnsweredByList, HasBeenTold, HasHeardNothing, HasLearned, HasOnlyGrown, IsOfFarm, IsListOnTape, IsRefused, state_of}
+use Rattle.wf_replica_command.specs.ReplicaLoop.{HasAnsweredByList, HasBeenTold, HasHeardNothing, HasLearned, HasOnlyGrown, HasRepliedByList, IsOfFarm, IsListOnTape, IsRefused, state_of}
 use Rattle.wf_replica_command.specs.declared.fault.ReplicaFault.{ReplicaFault}
 use Rattle.wf_replica_command.specs.declared.fault.ReplicaFault.TheVariants as faults
-use Rattle.wf_replica_command.specs.declared.event_loop.ReplicaLoop.{ReplicaLoop}
+use Rattle.wf_replica_command.specs.declared.replica_loop.ReplicaLoop.{ReplicaLoop}
 use Rattle.wf_replica_command.specs.declared.event_loop.Turn.TheVariants as turns
 use Rattle.wf_replica_command.specs.declared.plan.ReplicaPlan.{ReplicaPlan}
 use Rattle.wf_sockets.specs.declared.connection.Connection.{Ghosts as Connection}
@@ -193,19 +193,19 @@ module _ {T : Type 0} (tapes : Tape T) where
   -- ---- what was served
 
   has_served : {N C L : Type 0} {connections : Connection C} (begun event_loop : ReplicaLoop T N C L tapes connections) → HasHeardNothing tapes (state_of begun) → Hears begun.upstream begun.clients.renderer.follower event_loop.upstream event_loop.clients.renderer.follower → HasLearned tapes (state_of event_loop) → HasBeenTold tapes (state_of event_loop) → IsListOnTape tapes (state_of event_loop) → IsOfFarm tapes (state_of event_loop) →
-      HasAnsweredByList tapes (state_of event_loop) → HasOnlyGrown tapes (state_of event_loop) → HasServed tapes
-  has_served begun event_loop unheard heard lived told recorded of_farm answered stayed =
-      record { begun = state_of begun; unheard = unheard; event_loop = state_of event_loop; heard = record { goes_on = heard.goes_on; heard = heard.heard; logged = heard.logged; are = heard.are }; told = told; lived = lived; recorded = recorded; of_farm = of_farm; answered = answered; stayed = stayed }
+      HasAnsweredByList tapes (state_of event_loop) → HasOnlyGrown tapes (state_of event_loop) → HasRepliedByList tapes (state_of event_loop) → HasServed tapes
+  has_served begun event_loop unheard heard lived told recorded of_farm answered stayed replied =
+      record { begun = state_of begun; unheard = unheard; event_loop = state_of event_loop; heard = record { goes_on = heard.goes_on; heard = heard.heard; logged = heard.logged; are = heard.are }; told = told; lived = lived; recorded = recorded; of_farm = of_farm; answered = answered; stayed = stayed; replied = replied }
 
   pub served_to_the_end : {N C L : Type 0} {connections : Connection C} (begun event_loop : ReplicaLoop T N C L tapes connections) → HasHeardNothing tapes (state_of begun) → Hears begun.upstream begun.clients.renderer.follower event_loop.upstream event_loop.clients.renderer.follower → HasLearned tapes (state_of event_loop) → HasBeenTold tapes (state_of event_loop) → IsListOnTape tapes (state_of event_loop) → IsOfFarm tapes (state_of event_loop) →
-      HasAnsweredByList tapes (state_of event_loop) → HasOnlyGrown tapes (state_of event_loop) → IsServedUntil tapes turns.On
-  served_to_the_end begun event_loop unheard heard lived told recorded of_farm answered stayed = has_served begun event_loop unheard heard lived told recorded of_farm answered stayed
+      HasAnsweredByList tapes (state_of event_loop) → HasOnlyGrown tapes (state_of event_loop) → HasRepliedByList tapes (state_of event_loop) → IsServedUntil tapes turns.On
+  served_to_the_end begun event_loop unheard heard lived told recorded of_farm answered stayed replied = has_served begun event_loop unheard heard lived told recorded of_farm answered stayed replied
 
   pub served_until : (why : QuestionRejection) {N C L : Type 0} {connections : Connection C} (begun event_loop : ReplicaLoop T N C L tapes connections) → HasHeardNothing tapes (state_of begun) → Hears begun.upstream begun.clients.renderer.follower event_loop.upstream event_loop.clients.renderer.follower → HasLearned tapes (state_of event_loop) → HasBeenTold tapes (state_of event_loop) →
-      IsListOnTape tapes (state_of event_loop) → IsOfFarm tapes (state_of event_loop) → HasAnsweredByList tapes (state_of event_loop) → HasOnlyGrown tapes (state_of event_loop) → IsRefused tapes (state_of event_loop) → IsServedUntil tapes (turns.Ended why)
+      IsListOnTape tapes (state_of event_loop) → IsOfFarm tapes (state_of event_loop) → HasAnsweredByList tapes (state_of event_loop) → HasOnlyGrown tapes (state_of event_loop) → HasRepliedByList tapes (state_of event_loop) → IsRefused tapes (state_of event_loop) → IsServedUntil tapes (turns.Ended why)
   unfolding has_served
-  served_until why begun event_loop unheard heard lived told recorded of_farm answered stayed refused =
-      record { served = has_served begun event_loop unheard heard lived told recorded of_farm answered stayed; refused = refused }
+  served_until why begun event_loop unheard heard lived told recorded of_farm answered stayed replied refused =
+      record { served = has_served begun event_loop unheard heard lived told recorded of_farm answered stayed replied; refused = refused }
 
 -- what was learned of answers of a farm is one of its lists
 pub of_farm : {T : Type 0} (list : List Definition) (received : List (Message Definition)) → LearnedAreServed T → learned [] received ≡ list →

@@ -19,7 +19,7 @@ use Rattle.wf_replica_command.specs.Conversation.{AreHeardOn, conversations_on}
 use Rattle.wf_replica_command.specs.ReplicaLoop.{HasBeenTold, HasHeardNothing, state_of}
 use Rattle.wf_replica_command.specs.declared.asked.Asked.{Asked}
 use Rattle.wf_replica_command.specs.declared.upstream.Upstream.{Upstream}
-use Rattle.wf_replica_command.specs.declared.event_loop.ReplicaLoop.{ReplicaLoop}
+use Rattle.wf_replica_command.specs.declared.replica_loop.ReplicaLoop.{ReplicaLoop}
 use Rattle.wf_replica_command.specs.declared.renderer.Renderer.{Renderer}
 use Rattle.wf_replica_command.proofs.Continuation.{goes_on_twice, stays_same}
 use Rattle.wf_replica_command.proofs.Noting.{fewer_itself, fewer_same, noted_fewer, noted_for}

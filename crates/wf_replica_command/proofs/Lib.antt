@@ -6,3 +6,4 @@ mod Order
 mod Hearing
 mod Noting
 mod Starting
+mod Readers

@@ -2,7 +2,7 @@
 use Rattle.std.specs.Prelude.{ℕ, Result, Ok, Err}
 use Rattle.wf_line.specs.declared.replica_line.ReplicaLine.{ReplicaLine}
 use Rattle.wf_replica_command.specs.Fault.{IsReplicaSystemFault, IsReplicaFault, fault_status}
-use Rattle.wf_replica_command.specs.ReplicaLoop.{HasAnsweredByList, HasBeenTold, HasHeard, HasHeardNothing, HasLearned, HasOnlyGrown, IsOfFarm, IsListOnTape, IsRefused, ReplicaState}
+use Rattle.wf_replica_command.specs.ReplicaLoop.{HasAnsweredByList, HasBeenTold, HasHeard, HasHeardNothing, HasLearned, HasOnlyGrown, HasRepliedByList, IsOfFarm, IsListOnTape, IsRefused, ReplicaState}
 use Rattle.wf_replica_command.specs.declared.fault.ReplicaFault.{ReplicaFault}
 use Rattle.wf_replica_command.specs.declared.fault.ReplicaFault.TheVariants as faults
 use Rattle.wf_replica_command.specs.declared.event_loop.Turn.{Turn}
@@ -13,8 +13,8 @@ use Rattle.wf_tape.specs.declared.tape.Tape.{Ghosts as Tape}
 module _ {T : Type 0} (tapes : Tape T) where
   -- It has served. From the list with which it began it went on by what it heard of its sources,
   -- and by nothing else: that came on its connections to them. Its list is what it heard, which is
-  -- the farm's if all that it heard was, and what its tape has; each client was answered from the
-  -- list as it then was; and the list never went back.
+  -- the farm's if all that it heard was, and what its tape has; each client was answered, and each
+  -- question of a reader replied, from the list as it then was; and the list never went back.
   pub record HasServed : Type 0 where
     pub begun : ReplicaState tapes
     pub unheard : HasHeardNothing tapes begun
@@ -26,6 +26,7 @@ module _ {T : Type 0} (tapes : Tape T) where
     pub of_farm : IsOfFarm tapes event_loop
     pub answered : HasAnsweredByList tapes event_loop
     pub stayed : HasOnlyGrown tapes event_loop
+    pub replied : HasRepliedByList tapes event_loop
 
   -- It has served until each of its sources refused it.
   pub record IsEndedBySources : Type 0 where

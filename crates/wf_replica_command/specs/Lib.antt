@@ -7,3 +7,4 @@ pub mod Heard
 pub mod Source
 pub mod Conversation
 pub mod Start
+pub mod Readers

@@ -4,6 +4,8 @@ use Rattle.wf_execution.specs.Execution.{Execution}
 use Rattle.wf_execution.specs.Replica.{IsListOfFarm}
 use Rattle.wf_client.specs.Client.{Client}
 use Rattle.wf_reader.specs.declared.reply.Reply.{Reply}
+use Rattle.wf_readers_port.specs.Exchanges.{Exchange}
+use Rattle.wf_readers_port.specs.ReadersPort.{exchanges_of}
 use Rattle.wf_replica.specs.Follower.{answers_of, list_of, read_by, received_by}
 use Rattle.wf_replica.specs.Heard.{CameByAnswers}
 use Rattle.wf_replica.specs.Recorded.{IsRecorded}
@@ -15,8 +17,9 @@ use Rattle.wf_replica_command.specs.Answer.{AreAnswered, AreInOrder}
 use Rattle.wf_replica_command.specs.Continuation.{IsLaterReplica}
 use Rattle.wf_replica_command.specs.Conversation.{AreHeardOn, Conversation, conversations_on}
 use Rattle.wf_replica_command.specs.Heard.{AreHeard, IsFewer, course_of}
+use Rattle.wf_replica_command.specs.Readers.{AreRepliedByBeginnings}
 use Rattle.wf_replica_command.specs.declared.asked.Asked.{Asked}
-use Rattle.wf_replica_command.specs.declared.event_loop.ReplicaLoop.{ReplicaLoop}
+use Rattle.wf_replica_command.specs.declared.replica_loop.ReplicaLoop.{ReplicaLoop}
 use Rattle.wf_replica_command.specs.declared.event_loop.Turn.{Turn}
 use Rattle.wf_replica_command.specs.declared.event_loop.Turn.TheVariants as turns
 use Rattle.wf_replica_command.specs.declared.renderer.Renderer.{Renderer}
@@ -25,8 +28,8 @@ use Rattle.wf_tape.specs.declared.tape.Tape.{Ghosts as Tape}
 use Rattle.wf_visitors.specs.Visitors.{responses_of}
 
 -- All of an event loop but its sockets: the replica; the replies that it heard, and of each the
--- connection on which it came, as that then was; which of its sources refuse it; and each client
--- that was answered, with the replica as it then was.
+-- connection on which it came, as that then was; which of its sources refuse it; each client that
+-- was answered, with the replica as it then was; and each question of a reader with its reply.
 pub record ReplicaState {T : Type 0} (tapes : Tape T) : Type 0 where
   pub follower : Follower T tapes
   pub heard : List (Reply × Asked)
@@ -34,6 +37,7 @@ pub record ReplicaState {T : Type 0} (tapes : Tape T) : Type 0 where
   pub refusals : List Bool
   pub asked : List (Renderer T tapes × ℕ)
   pub responses : List (Client × ℕ)
+  pub exchanges : List Exchange
 
 abbrev pub state_of : {T N C L : Type 0} {tapes : Tape T} {connections : Connection C} → ReplicaLoop T N C L tapes connections → ReplicaState tapes
 state_of {connections = connections} event_loop = record {
@@ -43,6 +47,7 @@ state_of {connections = connections} event_loop = record {
   refusals = event_loop.upstream.refusals;
   asked = event_loop.clients.asked.items;
   responses = responses_of event_loop.clients.visitors;
+  exchanges = exchanges_of event_loop.readers;
 }
 
 -- the replica
@@ -70,6 +75,10 @@ HasAnsweredByList tapes event_loop = ∥ AreAnswered tapes event_loop.asked even
 -- from client to client it was one replica, whose list never went back
 abbrev pub HasOnlyGrown : {T : Type 0} (tapes : Tape T) → ReplicaState tapes → Type 0
 HasOnlyGrown tapes event_loop = ∥ AreInOrder tapes event_loop.asked (follower_of event_loop) ∥₁
+
+-- each question of a reader was replied by its list as that was by then
+abbrev pub HasRepliedByList : {T : Type 0} (tapes : Tape T) → ReplicaState tapes → Type 0
+HasRepliedByList tapes event_loop = ∥ AreRepliedByBeginnings (list_of (follower_of event_loop)) event_loop.exchanges ∥₁
 
 -- Each reply that it heard came on a connection to a source, whole, to a question that was asked
 -- there; and all that it has heard is what it read of its tape, and what it took of the answers.

@@ -1,8 +1,11 @@
 //! One thread that answers its sockets, turn after turn.
 ghost use Rattle.std.specs.Prelude.{◌≡◌, ◌≤◌, [], IfErr, IfOk};
 ghost use Rattle.wf_replica_command.specs.Fault.{IsReplicaSystemFault};
+ghost use Rattle.wf_readers_port.specs.ReadersPort.{exchanges_of};
+ghost use Rattle.wf_replica.specs.Follower.{list_of};
 ghost use Rattle.wf_replica_command.specs.Heard.{Hears};
-ghost use Rattle.wf_replica_command.specs.ReplicaLoop.{HasAnsweredByList, HasBeenTold, HasHeardNothing, HasLearned, HasOnlyGrown, IsOfFarm, IsListOnTape, IsTurn, state_of};
+ghost use Rattle.wf_replica_command.specs.ReplicaLoop.{HasAnsweredByList, HasBeenTold, HasHeardNothing, HasLearned, HasOnlyGrown, HasRepliedByList, IsOfFarm, IsListOnTape, IsTurn, state_of};
+ghost use Rattle.wf_replica_command.specs.Readers.{GoOnReplied};
 ghost use Rattle.wf_visitors.specs.Visitors.{responses_of};
 
 use crate::clients::ReplicaClients;
@@ -11,6 +14,7 @@ use crate::fault::ReplicaFault;
 use crate::parts::{OPERATORS, ReplicaStart, bind};
 use crate::plan::ReplicaPlan;
 use crate::ready::ReadyReplica;
+use crate::replica_loop::{OperatorDesk, ReplicaLoop};
 use crate::token::ReplicaSocket;
 use crate::upstream::Upstream;
 use std::alloc::AllocError;
@@ -32,29 +36,6 @@ const MOST_READY: usize = 256;
 
 /// The time between two ticks, in milliseconds.
 const TICK_MILLIS: u64 = 100;
-
-/// A replica with its clients, the source that it asks, and who only reads, over a network.
-#[derive(Drop)]
-pub struct ReplicaLoop<T: Tape, N: Network = SystemNetwork> {
-    network: N,
-    operators: Visitors<N>,
-    readers: ReadersPort<N>,
-    upstream: Upstream<N>,
-    clients: ReplicaClients<T, N>,
-    desk: OperatorDesk,
-    ticks: Ticker,
-    time: u64,
-    is_busy: bool,
-}
-
-/// What the operator is told that the replica itself doesn't know.
-#[derive(Drop)]
-struct OperatorDesk {
-    started: StartTime,
-    // the path of its tape
-    tape: String,
-    behind: Behind,
-}
 
 /// How a turn ended.
 #[derive(Clone, Copy, Debug, PartialEq, Eq)]
@@ -101,6 +82,8 @@ impl<T: Tape + Drop> ReplicaLoop<T> {
         // Each response that any client was sent is the one to exactly what had come of its
         // request, over the list as it then was.
         ensures answered { HasAnsweredByList T.Tape (state_of self.new) }
+        // Each reply that any reader was sent has the maps that the list then had next.
+        ensures replied { HasRepliedByList T.Tape (state_of self.new) }
         // It never goes back, and goes on by what it hears of its sources.
         ensures stayed { HasOnlyGrown T.Tape (state_of self.new) }
         ensures heard { Hears self.old.upstream self.old.clients.renderer.follower
@@ -180,8 +163,8 @@ impl<T: Tape + Drop, N: Network + Drop> ReplicaLoop<T, N> {
     }
 
     /// The replica's list is what it has heard and what its tape has, what it has heard came on its
-    /// connections, each client that was answered was answered from it as it then was, and it never
-    /// went back, always. The call does nothing.
+    /// connections, each client that was answered, and each reader that was replied to, was so from
+    /// it as it then was, and it never went back, always. The call does nothing.
     #[tactic(auto, using(crate::proofs::Faults::of_farm, crate::proofs::Hearing::been_told))]
     pub(crate) fn always_lived(&self)
         ensures lived { HasLearned T.Tape (state_of self.now) }
@@ -190,6 +173,7 @@ impl<T: Tape + Drop, N: Network + Drop> ReplicaLoop<T, N> {
         ensures of_farm { IsOfFarm T.Tape (state_of self.now) }
         ensures answered { HasAnsweredByList T.Tape (state_of self.now) }
         ensures stayed { HasOnlyGrown T.Tape (state_of self.now) }
+        ensures replied { HasRepliedByList T.Tape (state_of self.now) }
     {
         what_is_learned_is_served::<T>();
         self.upstream.heard.always_come();
@@ -224,6 +208,7 @@ impl<T: Tape + Drop, N: Network + Drop> ReplicaLoop<T, N> {
         ensures of_farm { IsOfFarm T.Tape (state_of self.new) }
         ensures answered { HasAnsweredByList T.Tape (state_of self.new) }
         ensures stayed { HasOnlyGrown T.Tape (state_of self.new) }
+        ensures replied { HasRepliedByList T.Tape (state_of self.new) }
         ensures heard { Hears self.old.upstream self.old.clients.renderer.follower
             self.new.upstream self.new.clients.renderer.follower }
         ensures ended { IsTurn T.Tape result (state_of self.new) }
@@ -293,7 +278,8 @@ fn assemble<T: Tape + Drop, N: Network>(
     desk: OperatorDesk,
     time: u64,
 ) -> ReplicaLoop<T, N>
-    requires { responses_of begun.visitors ≡ [] }
+    requires visitors { responses_of begun.visitors ≡ [] }
+    requires readers { exchanges_of begun.readers ≡ [] }
     ensures upstream { result.upstream ≡ upstream }
     ensures follower { result.clients.renderer.follower ≡ follower }
 {
@@ -326,7 +312,10 @@ fn act_on_each<R: Net + Clock + Eprint + AllocGlobal, T: Tape + Drop, N: Network
     readers: &mut ReadersPort<N>,
     ready: &[usize],
 )
-    ensures { clients.new.renderer ≡ clients.old.renderer }
+    ensures renderer { clients.new.renderer ≡ clients.old.renderer }
+    ensures replied { GoOnReplied (list_of clients.old.renderer.follower)
+        (list_of clients.old.renderer.follower)
+        (exchanges_of readers.old) (exchanges_of readers.new) }
 {
     for token in ready {
         act_on(context, upstream, clients, operators, readers, *token);
@@ -334,6 +323,7 @@ fn act_on_each<R: Net + Clock + Eprint + AllocGlobal, T: Tape + Drop, N: Network
 }
 
 /// Does what a ready socket asks for. What came from the source was taken before.
+#[tactic(auto, using(crate::proofs::Readers::replied_still))]
 fn act_on<R: Net + Clock + Eprint + AllocGlobal, T: Tape + Drop, N: Network>(
     context: &Context<'_, '_, R, N>,
     upstream: &Upstream<N>,
@@ -342,7 +332,10 @@ fn act_on<R: Net + Clock + Eprint + AllocGlobal, T: Tape + Drop, N: Network>(
     readers: &mut ReadersPort<N>,
     token: usize,
 )
-    ensures { clients.new.renderer ≡ clients.old.renderer }
+    ensures renderer { clients.new.renderer ≡ clients.old.renderer }
+    ensures replied { GoOnReplied (list_of clients.old.renderer.follower)
+        (list_of clients.old.renderer.follower)
+        (exchanges_of readers.old) (exchanges_of readers.new) }
 {
     match ReplicaSocket::of(token) {
         ReplicaSocket::Http => clients.accept(context),
@@ -370,7 +363,10 @@ fn answer_reader<R: Net + Clock + Eprint + AllocGlobal, T: Tape + Drop, N: Netwo
     follower: &Follower<T>,
     readers: &mut ReadersPort<N>,
     index: usize,
-) {
+)
+    ensures { GoOnReplied (list_of follower.now) (list_of follower.now)
+        (exchanges_of readers.old) (exchanges_of readers.new) }
+{
     let published = PortView {
         own: &upstream.answerer,
         history: follower.history(),
@@ -387,7 +383,8 @@ fn tick<R: Net + Clock + Eprint + AllocGlobal, T: Tape + Drop, N: Network>(
     operators: &mut Visitors<N>,
     readers: &mut ReadersPort<N>,
 )
-    ensures { clients.new.renderer ≡ clients.old.renderer }
+    ensures renderer { clients.new.renderer ≡ clients.old.renderer }
+    ensures exchanges { exchanges_of readers.new ≡ exchanges_of readers.old }
 {
     if !ticks.tick(context.time) {
         return;

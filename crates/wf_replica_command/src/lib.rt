@@ -17,6 +17,7 @@
 //!   of its request, over the list as it then was: a publish is 404.
 //! - The list never went back: that by which a client was answered is a beginning of the next
 //!   one's, and of what it is now.
+//! - Each question of a reader was replied by the list as it then was (`specs/Readers.antt`).
 //! - A durable tape of it has the records of the list, in their order, and nothing else.
 //! - Each reply is one to a question that was open, and came whole on the connection where that was
 //!   sent: by then replies alone had come there, and only the questions to them had been sent
@@ -53,6 +54,7 @@ mod parts;
 mod plan;
 mod ready;
 mod renderer;
+mod replica_loop;
 mod running_replica;
 mod source;
 mod source_connection;

@@ -1,5 +1,6 @@
 //! The addresses of a replica, and what comes there.
 ghost use Rattle.std.specs.Prelude.{◌≡◌, [], IfErr, IfOk, Some};
+ghost use Rattle.wf_readers_port.specs.ReadersPort.{exchanges_of};
 ghost use Rattle.wf_replica_command.specs.Fault.{IsReplicaSystemFault, IsAddressTaken};
 ghost use Rattle.wf_visitors.specs.Visitors.{responses_of};
 
@@ -120,6 +121,7 @@ fn begin_at<N: Network + Drop>(
     doors: ReplicaDoors<N>,
 ) -> Result<ReplicaStart<N>, ReplicaFault>
     ensures new { IfOk result (λ begun. responses_of begun.visitors ≡ []) }
+    ensures readers { IfOk result (λ begun. exchanges_of begun.readers ≡ []) }
     ensures memory { IfErr result (λ why. why ≡ ReplicaFault.Memory) }
 {
     let ReplicaDoors {
@@ -147,6 +149,7 @@ pub(crate) fn bind<R: Net + AllocGlobal, N: Network + Drop>(
     network: N,
 ) -> Result<ReplicaStart<N>, ReplicaFault>
     ensures new { IfOk result (λ begun. responses_of begun.visitors ≡ []) }
+    ensures readers { IfOk result (λ begun. exchanges_of begun.readers ≡ []) }
     ensures fault { IfErr result (IsReplicaSystemFault plan.now) }
 {
     match doors_of(rt, plan, network) {

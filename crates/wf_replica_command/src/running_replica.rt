@@ -5,14 +5,15 @@ ghost use Rattle.wf_line.specs.ProcessLine.{IsReplicaInRange};
 ghost use Rattle.wf_replica.specs.FarmFile.{replica_text};
 ghost use Rattle.wf_replica_command.specs.Fault.{IsReplicaSystemFault, IsReplicaFault};
 ghost use Rattle.wf_replica_command.specs.Heard.{Hears};
-ghost use Rattle.wf_replica_command.specs.ReplicaLoop.{HasAnsweredByList, HasBeenTold, HasHeardNothing, HasLearned, HasOnlyGrown, IsOfFarm, IsListOnTape, IsTurn, state_of};
+ghost use Rattle.wf_replica_command.specs.ReplicaLoop.{HasAnsweredByList, HasBeenTold, HasHeardNothing, HasLearned, HasOnlyGrown, HasRepliedByList, IsOfFarm, IsListOnTape, IsTurn, state_of};
 ghost use Rattle.wf_replica_command.specs.Start.{IsReplicaStartCause, IsStarted, IsUnstarted};
 ghost use Rattle.wf_store.specs.Call.{locked};
 
 use crate::event::ReplicaEvent;
-use crate::event_loop::{ReplicaLoop, Turn};
+use crate::event_loop::Turn;
 use crate::fault::ReplicaFault;
 use crate::ready::ReadyReplica;
+use crate::replica_loop::ReplicaLoop;
 use crate::start::ready;
 use std::net::Net;
 use std::rt::Files;
@@ -102,8 +103,8 @@ impl<T: Tape + Drop, N: Network + Drop> RunningReplica<T, N> {
     }
 
     /// The replica's list is what it has heard and what its tape has, what it has heard came on its
-    /// connections, each client that was answered was answered from it as it then was, and it never
-    /// went back, always. The call does nothing.
+    /// connections, each client that was answered, and each reader that was replied to, was so from
+    /// it as it then was, and it never went back, always. The call does nothing.
     pub fn always_lived(&self)
         ensures lived { HasLearned T.Tape (state_of self.now.event_loop) }
         ensures told { HasBeenTold T.Tape (state_of self.now.event_loop) }
@@ -111,6 +112,7 @@ impl<T: Tape + Drop, N: Network + Drop> RunningReplica<T, N> {
         ensures of_farm { IsOfFarm T.Tape (state_of self.now.event_loop) }
         ensures answered { HasAnsweredByList T.Tape (state_of self.now.event_loop) }
         ensures stayed { HasOnlyGrown T.Tape (state_of self.now.event_loop) }
+        ensures replied { HasRepliedByList T.Tape (state_of self.now.event_loop) }
     {
         self.event_loop.always_lived();
     }
@@ -138,6 +140,7 @@ impl<T: Tape + Drop, N: Network + Drop> RunningReplica<T, N> {
         ensures of_farm { IsOfFarm T.Tape (state_of self.new.event_loop) }
         ensures answered { HasAnsweredByList T.Tape (state_of self.new.event_loop) }
         ensures stayed { HasOnlyGrown T.Tape (state_of self.new.event_loop) }
+        ensures replied { HasRepliedByList T.Tape (state_of self.new.event_loop) }
         ensures heard { Hears self.old.event_loop.upstream
             self.old.event_loop.clients.renderer.follower
             self.new.event_loop.upstream self.new.event_loop.clients.renderer.follower }
@@ -176,6 +179,7 @@ impl<T: Tape + Drop> RunningReplica<T> {
         ensures of_farm { IsOfFarm T.Tape (state_of self.new.event_loop) }
         ensures answered { HasAnsweredByList T.Tape (state_of self.new.event_loop) }
         ensures stayed { HasOnlyGrown T.Tape (state_of self.new.event_loop) }
+        ensures replied { HasRepliedByList T.Tape (state_of self.new.event_loop) }
         ensures heard { Hears self.old.event_loop.upstream
             self.old.event_loop.clients.renderer.follower
             self.new.event_loop.upstream self.new.event_loop.clients.renderer.follower }

@@ -566,6 +566,18 @@ module _ {T : Type 0} (tapes : Tape T) where
   runs_more actor run next [] follows are = (are, next, follows, later_same next next refl)
   runs_more actor run next (first ∷ ended) follows are = (are.0, are.1, are.2, runs_more are.1 run next ended follows are.3)
 
+  runs_append : (actor middle now : Actor T tapes) (first second : List (Actor T tapes × ℕ)) → AreRunsFrom tapes actor first middle → AreRunsFrom tapes middle second now → AreRunsFrom tapes actor (first ++ second) now
+  runs_append actor middle now [] [] are more = later_twice actor middle now are more
+  runs_append actor middle now [] (run ∷ second) are more = (later_twice actor middle run.0 are more.0, more.1, more.2, more.3)
+  runs_append actor middle now (run ∷ first) second are more = (are.0, are.1, are.2, runs_append are.1 middle now first second are.3 more)
+
+  pub earlier_twice : (one two three : Process T tapes) → IsEarlier tapes one two → IsEarlier tapes two three → IsEarlier tapes one three
+  earlier_twice one two three first second = record {
+    since = first.since ++ second.since;
+    ended = second.ended ∙ ap (λ (runs : List (Actor T tapes × ℕ)). runs ++ second.since) first.ended ∙ append_assoc one.ended.items first.since second.since;
+    runs = runs_append one.actor two.actor three.actor first.since second.since first.runs second.runs;
+  }
+
   earlier_on : (past before now : Process T tapes) → StaysInRun tapes before now → IsEarlier tapes past before → IsEarlier tapes past now
   earlier_on past before now goes is = record { since = is.since; ended = goes.ended ∙ is.ended; runs = runs_on past.actor before.actor now.actor is.since goes.actor is.runs }
 

@@ -1,4 +1,4 @@
-use Rattle.wf_histories.proofs.Told.{ports_tell}
+use Rattle.wf_histories.proofs.Ports.{ports_tell}
 use Rattle.wf_histories.proofs.theorem.readers_ports_tell.Goals as goal
 
 pub returns : goal.returns

@@ -10,4 +10,4 @@ use Rattle.wf_store.specs.Call.{Call}
 pub returns-clause-on : goal.returns-clause-on
 returns-clause-on g c =
     let heard = subst (λ (calls : List Call). IsHeardFirst (heard_in calls) c.run_turns.new.node.event_loop) (sym c.close.ensures.same) (c.run_turns.ensures.heard c.requires.heard) in
-    λ plan goes_by learns. lived_on g.S.Tape.Tape c.args.node.event_loop c.run_turns.new.node.event_loop plan _ c.run_turns.ensures.lived c.run_turns.ensures.answered c.run_turns.ensures.earlier heard (c.run_turns.ensures.membership ∙ goes_by) (λ joins. c.run_turns.ensures.learns (learns joins))
+    λ plan goes_by learns. lived_on g.S.Tape.Tape c.args.node.event_loop c.run_turns.new.node.event_loop plan _ c.run_turns.ensures.lived c.run_turns.ensures.answered c.run_turns.ensures.replied c.run_turns.ensures.earlier heard (c.run_turns.ensures.membership ∙ goes_by) (λ joins. c.run_turns.ensures.learns (learns joins))

@@ -1,6 +1,7 @@
 use Rattle.std.proofs.Common.{◌∙◌}
 use Rattle.wf_voter.proofs.Continuation.{twice_in}
 use Rattle.wf_voter.proofs.Earlier.{stay_still}
+use Rattle.wf_loop.proofs.Readers.{replied_along}
 use Rattle.wf_loop.proofs.event_loop.EventLoop.act.Goals as goal
 
 pub returns-clause-on : goal.returns-clause-on
@@ -15,4 +16,5 @@ returns-clause-joins g c = λ is. c.turn_by_clock.ensures.befores ∙ c.serve_al
 pub invariant_of-self : goal.invariant_of-self
 invariant_of-self g c = record {
   earlier = stay_still g.T.Tape _ _ _ _ c.turn_by_clock.ensures.befores c.turn_by_clock.ensures.on.process (c.serve_all.ensures.earlier c.args.self.now.earlier);
+  replied = replied_along g.T.Tape _ _ _ _ (c.answer_operators.ensures ∙ c.turn_by_clock.ensures.exchanges) c.turn_by_clock.ensures.on.process (c.serve_all.ensures.readers c.args.self.now.replied);
 }

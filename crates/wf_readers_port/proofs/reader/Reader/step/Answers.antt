@@ -12,6 +12,6 @@ returns-in-Some-outgoing_of g c =
     (c.reply_with.ensures ∙ ap (λ (s : List Exchange). s ++ one) (c.receive.ensures.exchanges ∙ c.give.ensures.exchanges))
     c.and.ensures
     (c.receive.ensures.whole (search rules))
-    (λ are. subst (λ (bytes : List ℕ). RepliesTo c.args.published.now.own.now c.args.published.now.history.now.definitions bytes [] c.answer.new.out.items) c.as_slice.ensures.value
-    (subst (λ (before : List ℕ). RepliesTo c.args.published.now.own.now c.args.published.now.history.now.definitions c.as_slice.result.now before c.answer.new.out.items) c.new-bytes.ensures.items
-    (c.in-Replied.ensures are)))
+    (subst (λ (bytes : List ℕ). RepliesTo c.args.published.now.own.now c.args.published.now.history.now.definitions c.args.published.now.digests.now bytes [] c.answer.new.out.items) c.as_slice.ensures.value
+    (subst (λ (before : List ℕ). RepliesTo c.args.published.now.own.now c.args.published.now.history.now.definitions c.args.published.now.digests.now c.as_slice.result.now before c.answer.new.out.items) c.new-bytes.ensures.items
+    c.in-Replied.ensures))
