@@ -18,9 +18,9 @@ from farmkit.command import parser
 from farmkit.repository import TOP
 
 COMMANDS = ([sys.executable, str(TOP / "tools" / "check_python.py")], ["rt", "ci"])
-# The most memory of a check, in KiB. By its own count `rt ci` plans two to four times that for each of the
-# upper crates, and would check one or two of them at a time.
-MOST_MEMORY = 4_600_000
+# The memory to plan for a check, in KiB: most take 1 to 3 GB, a few of the uppermost 5 to 7. By its own count
+# `rt ci` plans 8 to 12 GB for each of these, and would check one or two at a time.
+MEMORY = 4_600_000
 COUNT = re.compile(r"(\d+) passed, (\d+) failed")
 
 
@@ -28,7 +28,7 @@ def lanes() -> int:
     """How many checks go side by side."""
     with open("/proc/meminfo", encoding="utf-8") as lines:
         free = next(int(line.split()[1]) for line in lines if line.startswith("MemAvailable:"))
-    return max(1, min(len(os.sched_getaffinity(0)), free // MOST_MEMORY))
+    return max(1, min(len(os.sched_getaffinity(0)), free // MEMORY))
 
 
 def run(words: list[str]) -> tuple[int, int]:
