@@ -26,12 +26,10 @@ MAP = 'MAP NAME "dearest" EXTENT 0 0 9 9 PROJECTION "init=epsg:3857" END\n'
 COLOURS = [f"{30 * k} {255 - 30 * k} {k}" for k in range(8)]
 
 
-def style(words, number):
-    return f"STYLE {words.format(color=COLOURS[number % 8])} END\n"
-
-
-def styles(words, count=8):
-    return "".join(style(words, number) for number in range(count))
+def styles(words, count=8, falls=0):
+    """Styles of different colours, each so much less wide than the one before."""
+    each = (words.format(color=COLOURS[k], width=16 - falls * k) for k in range(count))
+    return "".join(f"STYLE {it} END\n" for it in each)
 
 
 def mapfile(kind, styling, features, more=""):
@@ -71,8 +69,8 @@ def oblique(seed):
 
 
 def cases():
-    comb, full = [feature(fitting(zigzag, 4))], "COLOR {color} OUTLINECOLOR {color} WIDTH 16"
-    falling = "".join(style(f"COLOR {{color}} OUTLINECOLOR {{color}} WIDTH {16 - k}", k) for k in range(8))
+    comb, full = [feature(fitting(zigzag, 4))], "COLOR {color} OUTLINECOLOR {color} WIDTH {width}"
+    falling = styles(full, falls=1)
     distinct, outlines = [feature(fitting(up_and_down(2, 90, 10), 6))], "8 outlines of falling width"
     groups = [f"FEATURE\n{''.join(grouped(k) for k in range(9))}END\n"]
     for name, styling, features in (
@@ -87,14 +85,15 @@ def cases():
             ("full-height edges, 8 fills and outlines of 16 pixels", styles(full), comb),
             ("full-height edges, one fill", styles("COLOR {color}", 1), comb)):
         yield f"one polygon of {name}", mapfile("POLYGON", styling, features)
-    narrowing = "".join(style(f"COLOR {{color}} WIDTH {16 - 2 * k}", k) for k in range(8))
-    yield "one line of full-height segments, 8 styles of falling width", mapfile("LINE", narrowing, comb)
-    flat = [feature([(y, x) for x, y in fitting(zigzag, 4)])]
-    yield "one line of full-width segments, 8 styles", mapfile("LINE", styles("COLOR {color} WIDTH 16"), flat)
+    lines, flat = "COLOR {color} WIDTH {width}", [feature([(y, x) for x, y in fitting(zigzag, 4)])]
+    yield ("one line of full-height segments, 8 styles of falling width",
+           mapfile("LINE", styles(lines, falls=2), comb))
+    yield "one line of full-width segments, 8 styles", mapfile("LINE", styles(lines), flat)
     big = fitting(lambda k: feature([(0, 0), (9, 0), (9, 9 - k % 2), (0, 9)]), 56)
     yield "polygons over nearly the whole picture", mapfile("POLYGON", styles("COLOR {color}"), big)
     thin = fitting(lambda k: feature([(0, k % 9), (9, k % 9 + 1), (9, k % 9)]), 52)
-    yield "thin triangles over the whole width", mapfile("POLYGON", styles(full.replace("16", "2")), thin)
+    narrow = styles(full.replace("{width}", "2"))
+    yield "thin triangles over the whole width", mapfile("POLYGON", narrow, thin)
     spots = [feature([(k % 10, k // 10 % 10) for k in range(15_000)])]
     yield "points of 64 pixels", mapfile("POINT", styles("COLOR {color} SIZE 64"), spots)
     names = fitting(lambda k: feature([(k % 9, k % 7)], f'TEXT "{"N" * 40}"\n'), 84)
@@ -120,10 +119,9 @@ def most_resident(process):
 
 def costs(program, text):
     """Of each kind of request: milliseconds, bytes of the answer, most bytes resident after it."""
-    farm = Farm(program, 6, None, nodes=1)
     query = ("/wms?VERSION=1.3.0&REQUEST=GetMap&LAYERS={}&STYLES=&CRS=EPSG:3857&BBOX=-0.1,-0.1,9.1,9.1"
              f"&WIDTH={SIDE}&HEIGHT={SIDE}&FORMAT=image/x-portable-pixmap")
-    try:
+    with Farm(program, 6, None, nodes=1) as farm:
         taken = ask(farm.port, "/publish", text.encode())[1]
         status, asked = ask(farm.port, "/status")
         if not status.startswith(b"node 0 published 1 "):
@@ -133,8 +131,6 @@ def costs(program, text):
                            ("picture of 64 layers", query.format(",".join(["a"] * 64)))):
             body, taken = ask(farm.port, path)
             yield kind, taken, len(body), most_resident(farm.process)
-    finally:
-        farm.kill()
 
 
 def main():

@@ -28,7 +28,6 @@ import json
 import os
 import pathlib
 import re
-import shutil
 import signal
 import statistics
 import subprocess
@@ -36,7 +35,7 @@ import sys
 import tempfile
 import time
 
-from farmkit.command import add_cases, program_parser
+from farmkit.command import add_cases, lacks, program_parser
 from farmkit.etcd import Etcd, call, in_base64
 from farmkit.mapfiles import canonical
 from farmkit.measure import disk_of, load, percentile, rate, timed
@@ -51,9 +50,9 @@ PATIENCE = 60
 TITLE = b'"wms_title" "'
 
 
-def texts_of(program, mapfile, count):
+def texts_of(program, count):
     """The canonical text of a map under n titles of one length."""
-    before, _, rest = canonical(program, pathlib.Path(mapfile).read_bytes()).partition(TITLE)
+    before, _, rest = canonical(program, LARGE.read_bytes()).partition(TITLE)
     behind = rest.partition(b'"')[2]
     return [before + TITLE + b'map %04d"' % number + behind for number in range(1, count + 1)]
 
@@ -121,9 +120,7 @@ def tell(times):
 
 
 def measure_publish(options, table):
-    texts = texts_of(options.program, LARGE, options.count)
-    if not shutil.which("etcd"):
-        return table.note("publish", "left out: no etcd")
+    texts = texts_of(options.program, options.count)
     key, whole, alone, put, got = in_base64(b"map"), [], [], [], []
     local = json.dumps({"key": key, "serializable": True})
     with (farm(options, "publish") as nodes, Etcd(pathlib.Path(options.room)) as etcd,
@@ -144,10 +141,8 @@ def measure_publish(options, table):
 
 
 def measure_syncs(options, table):
-    if not shutil.which("strace"):
-        return table.note("syncs", "left out: no strace")
     count = 20
-    texts = texts_of(options.program, LARGE, count + 1)
+    texts = texts_of(options.program, count + 1)
     with farm(options, "syncs") as nodes:
         publish(nodes, texts[0], 1)
         time.sleep(2.5)
@@ -183,8 +178,6 @@ def syncs_in(trace):
 
 
 def measure_tiles(options, table):
-    if not shutil.which("wrk"):
-        return table.note("tiles", "left out: no wrk")
     it = Map(LARGE)
     target = "/wms?" + it.tile(2, 1, 1)
     with (farm(options, "one", 1, logs=False) as (one,), farm(options, "four", 4, logs=False) as four,
@@ -256,7 +249,7 @@ def measure_idle(options, table):
 
 def measure_rest(options, table):
     with farm(options, "rest") as nodes:
-        publish(nodes, texts_of(options.program, LARGE, 1)[0], 1)
+        publish(nodes, texts_of(options.program, 1)[0], 1)
         time.sleep(2)
         before = [node.processor_seconds() for node in nodes]
         time.sleep(20)
@@ -280,6 +273,8 @@ def measure_missed(options, table):
 
 PARTS = {it.__name__.removeprefix("measure_"): it for it in (
     measure_publish, measure_syncs, measure_tiles, measure_idle, measure_rest, measure_missed)}
+# the program of another package that a part wants
+WANTED = {"publish": "etcd", "syncs": "strace", "tiles": "wrk"}
 
 
 def main():
@@ -294,7 +289,10 @@ def main():
         os.chmod(options.room, 0o755)
         print(f"{load()}; {disk_of(options.room)}")
         for name in options.cases or PARTS:
-            PARTS[name](options, table)
+            if name in WANTED and lacks(WANTED[name]):
+                table.note(name, f"left out: no {WANTED[name]}")
+            else:
+                PARTS[name](options, table)
         print(f"{load()}; {len(table.missed)} missed" + "".join(f"\n  {what}" for what in table.missed))
     return int(bool(table.missed))
 

@@ -24,12 +24,11 @@ import re
 import subprocess
 import sys
 import tempfile
-import time
 from functools import partial
 
 from farmkit.command import GROWTH, add_cases, add_program, lacks, parser, tell_missing
-from farmkit.measure import grows_well, instructions, most_held, ran, ratios, shortest
-from farmkit.processes import serve_words
+from farmkit.measure import grows_well, instructions, most_held, ran, ratios, shortest, timed
+from farmkit.processes import Farm
 from farmkit.repository import TOP, built
 from farmkit.tapes import ACCEPTED, PROMISED, PUBLISHED, record, tape_of
 
@@ -66,10 +65,9 @@ def mapfile(size):
     return HEAD + FEATURE * count + b" " * (room - count * len(FEATURE)) + TAIL
 
 
-def cost_of(whole, least=None):
+def cost_of(*runs):
     """What a run costs more than another one, each given by its words, its input and what it writes: the
     milliseconds, and the instructions, with their units."""
-    runs = [each for each in (whole, least) if each is not None]
     spent = [shortest(lambda: ran(*each), RUNS) for each in runs]
     counted = [instructions(*each) for each in runs]
     costs = [(spent[0] - sum(spent[1:]), "ms")]
@@ -172,10 +170,6 @@ def tape(options, maps, held=0):
     return cost_of((words, *whole), (words, *unread))
 
 
-def held(options, maps):
-    return tape(options, maps, maps)
-
-
 def table_of_votes(votes, messages):
     """The table that gives an acceptor votes, and then messages with a wrong answer, so that each is told."""
     lines = ["case votes", "ask acceptor 1", "<& the maps a and b",
@@ -187,22 +181,17 @@ def messages(form, options, votes):
     """What messages cost an acceptor that has votes, one at each of so many sequences."""
     places = [1 + it * 2477 % votes for it in range(MESSAGES_SENT)]
     some = [f"< {form.format(spread=at, next=it + 1, round=it + 2)}" for it, at in enumerate(places)]
-    whole, least = (([options.cases_program], table_of_votes(votes, sent), UNEXPECTED) for sent in (some, []))
-    return cost_of(whole, least)
+    tables = table_of_votes(votes, some), table_of_votes(votes, [])
+    return cost_of(*(([options.cases_program], table, UNEXPECTED) for table in tables))
 
 
 def started(program, tape):
     """The milliseconds of a start on a copy of a tape."""
     with tempfile.TemporaryDirectory() as folder:
         (pathlib.Path(folder) / "node-0.tape").write_bytes(tape)
-        begun = time.perf_counter()
-        words = serve_words(program, 0, folder, nodes=1)
-        with subprocess.Popen(words, stdout=subprocess.PIPE, stderr=subprocess.DEVNULL) as process:
-            line = process.stdout.readline()
-            took = 1000 * (time.perf_counter() - begun)
-        if not line.startswith(b"listening "):
-            sys.exit("it didn't start")
-        return took
+        farm, took = timed(lambda: Farm(program, 0, folder, nodes=1, stderr=subprocess.DEVNULL))
+        with farm:
+            return took
 
 
 def start(options, maps):
@@ -221,7 +210,7 @@ CASES = {
     "pixels": (pixels, "{} by {}", ((500, 250), (500, 500), (1000, 500))),
     "script": (script, "{} lines", (2_500, 5_000, 10_000)),
     "tape": (tape, "{} maps", (1024, 2048, 4096)),
-    "held": (held, "{} maps", (512, 1024, 2048)),
+    "held": (lambda options, maps: tape(options, maps, held=maps), "{} maps", (512, 1024, 2048)),
     "start": (start, "{} maps", (1024, 2048, 4096)),
     "promise": (partial(messages, "prepare {spread} {round} 0"), "{} votes", (1024, 2048, 4096)),
     "accept": (partial(messages, "accept {spread} {round} 0 b"), "{} votes", (1024, 2048, 4096)),

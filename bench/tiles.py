@@ -28,7 +28,7 @@ from farmkit.command import lacks, program_parser, tell_missing
 from farmkit.mapfiles import PIXMAP
 from farmkit.measure import rate, tell, timed
 from farmkit.nginx import Nginx, whole
-from farmkit.processes import Farm, free_ports, listens
+from farmkit.processes import Farm, end, free_ports, listens
 from farmkit.repository import MAPS
 from farmkit.wanted import until
 from farmkit.web import exchange, loopback
@@ -105,17 +105,14 @@ def mapserver(it, room):
     environment = {**os.environ, "MAPSERVER_CONFIG_FILE": f"{room}/ms.conf"}
     words = ["spawn-fcgi", "-n", "-s", f"{room}/socket", "-F", "1", "--", MAPSERV]
     quiet = {"stdout": subprocess.DEVNULL, "stderr": subprocess.DEVNULL}
-    running = [subprocess.Popen(words, env=environment, start_new_session=True, **quiet)]
-    try:
+    with contextlib.ExitStack() as running:
+        running.callback(end, subprocess.Popen(words, env=environment, start_new_session=True, **quiet))
         # lighttpd answers 503 for a while where MapServer doesn't listen at its first request.
         until((room / "socket").exists)
-        running.append(subprocess.Popen(["lighttpd", "-D", "-f", f"{room}/lighttpd.conf"], **quiet))
+        words = ["lighttpd", "-D", "-f", f"{room}/lighttpd.conf"]
+        running.callback(end, subprocess.Popen(words, **quiet))
         until(lambda: listens(port))
         yield port, "/wms?map=served&"
-    finally:
-        for process in running:
-            process.kill()
-            process.wait()
 
 
 @contextlib.contextmanager
@@ -134,8 +131,7 @@ def nginx(body, room, sendfile="on"):
 def compare(program, it, seconds, alone):
     with tempfile.TemporaryDirectory(prefix="tiles-") as room, contextlib.ExitStack() as stack:
         os.chmod(room, 0o755)
-        farm = Farm(program, SPARE, None, nodes=1)
-        stack.callback(farm.kill)
+        farm = stack.enter_context(Farm(program, SPARE, None, nodes=1))
         ask(farm.port, "/publish", it.text)
         rounds = max(2, seconds)
         ours = measure(farm.port, "/wms?", it, rounds)

@@ -23,16 +23,14 @@ from farmkit.repository import TOP
 
 HERE = TOP / "tools"
 OLDEST = (3, 11)
-VERSION = re.compile(r"\d+\.\d+")
 # tools that say whether what stands elsewhere is so
 CHECKS = (("links.py",), ("definitions.py", "--check"), ("crates.py", "--check"))
 
 
 def scripts() -> list[pathlib.Path]:
     """The files of Python in the repository, those without a suffix too."""
-    others = [path for path in (TOP / "demo", HERE / "wfarmctl") if path.exists()]
-    return others + [TOP / part / path for part in ("tools", "bench")
-                     for path in sorted(paths(TOP / part)) if path.endswith(".py")]
+    return [TOP / "demo", HERE / "wfarmctl", *(TOP / part / path for part in ("tools", "bench")
+                                               for path in sorted(paths(TOP / part)) if path.endswith(".py"))]
 
 
 def tell(what: str, wrong: str) -> bool:
@@ -55,7 +53,6 @@ def uncompiled() -> str:
 
 def untested() -> tuple[int, int]:
     """How many of the tools' tests passed, and how many didn't."""
-    sys.path.insert(0, str(HERE))
     suite = unittest.defaultTestLoader.discover(str(HERE / "tests"), top_level_dir=str(HERE / "tests"))
     result = unittest.TextTestRunner(stream=sys.stdout, verbosity=0).run(suite)
     failed = len(result.failures) + len(result.errors)
@@ -68,10 +65,8 @@ def why_not(name: str, wanted: object) -> str:
         ran = subprocess.run([name, "--version"], capture_output=True, text=True, timeout=60)
     except (OSError, subprocess.TimeoutExpired):
         return f"{name} is missing"
-    found = VERSION.search(ran.stdout)
-    if found is None or found[0] != wanted:
-        return f"{name} {wanted} is wanted, and this is {found[0] if found else 'another one'}"
-    return ""
+    this = next(iter(re.findall(r"\d+\.\d+", ran.stdout)), "another one")
+    return "" if this == wanted else f"{name} {wanted} is wanted, and this is {this}"
 
 
 def flake8_words(of: dict[str, object]) -> list[str]:

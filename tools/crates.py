@@ -58,14 +58,13 @@ def uses(of: dict[str, list[str]]) -> dict[str, set[str]]:
             for title, crates in of.items()}
 
 
-def levels(below: dict[str, set[str]]) -> dict[str, int]:
-    """How many groups stand below each, one above the other; groups that use each other are an error."""
-    found: dict[str, int] = {}
-    while len(found) < len(below):
-        ready = {title for title in below if title not in found and below[title] <= found.keys()}
-        if not ready:
-            sys.exit(f"groups of crates.txt use each other: {', '.join(below.keys() - found.keys())}")
-        found |= {title: 1 + max((found[low] for low in below[title]), default=-1) for title in ready}
+def rows(below: dict[str, set[str]]) -> list[list[str]]:
+    """The groups in rows, the lowest first, each above all it uses; such that use each other are an error."""
+    found: list[list[str]] = []
+    while left := [title for title in below if not any(title in row for row in found)]:
+        found.append([title for title in left if below[title].isdisjoint(left)])
+        if not found[-1]:
+            sys.exit(f"groups of crates.txt use each other: {', '.join(left)}")
     return found
 
 
@@ -78,13 +77,12 @@ def arrows(below: dict[str, set[str]]) -> list[tuple[str, str]]:
             if not any(low in reach(other) for other in below[title])]
 
 
-def boxes(of: dict[str, list[str]], level: dict[str, int]) -> dict[str, Box]:
-    """Where each group stands: the highest ones above, groups of one level side by side."""
+def boxes(of: dict[str, list[str]], every: list[list[str]]) -> dict[str, Box]:
+    """Where each group stands: the highest row above, its groups side by side."""
     found: dict[str, Box] = {}
-    most = max(list(level.values()).count(it) for it in level.values())
+    most = max(map(len, every))
     top = GAP // 2
-    for at in range(max(level.values()), -1, -1):
-        row = [title for title in of if level[title] == at]
+    for row in reversed(every):
         lines = {title: [title, *textwrap.wrap(" ".join(of[title]), LETTERS)] for title in row}
         high = 10 + LINE * max(len(it) for it in lines.values())
         left = GAP // 2 + (most - len(row)) * (WIDE + GAP) // 2
@@ -97,7 +95,7 @@ def boxes(of: dict[str, list[str]], level: dict[str, int]) -> dict[str, Box]:
 def picture() -> str:
     of = groups()
     below = uses(of)
-    every = boxes(of, levels(below))
+    every = boxes(of, rows(below))
     wide = max(it.left for it in every.values()) + WIDE + GAP // 2
     high = max(it.top + it.high for it in every.values()) + GAP // 2
     parts = [f'<svg xmlns="http://www.w3.org/2000/svg" width="{wide}" height="{high}">',

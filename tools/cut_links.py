@@ -30,7 +30,7 @@ from farmkit.command import add_cases, add_slack, listed, numbers, program_parse
 from farmkit.mapfiles import map_of
 from farmkit.nodes import NO_MAJORITY, VOTES
 from farmkit.tapes import MOST_MAPS, tape_of
-from farmkit.wanted import Wrong, until, want
+from farmkit.wanted import Wrong, seconds_until, until, want
 
 # seconds: for a waiting publish after the healing; until a node knows that it isn't heard, and more of that
 # where peers hear it; without a connection that is dialed anew
@@ -65,9 +65,7 @@ class Node(processes.Node):
 
     def hears(self):
         """What it says of whom it hears: `/votez`, its connected peers, and whether they are a majority."""
-        (status, body), told = self.ask_operator("/votez", 5), self.metrics()
-        counts = (told.get(name) for name in ("wfarm_peers_connected", "wfarm_majority_connected"))
-        return status, body.decode().strip(), *counts
+        return *self.votes(), *self.connected()
 
     def connections(self):
         return [line for line in self.log_lines() if " connected " in line or " lost " in line]
@@ -86,21 +84,21 @@ class Farm:
         for node in self.nodes:
             node.start()
         self.await_health(published)
-        until(lambda: self.unlike([]) == [], PATIENCE + self.options.slack, 0.1)
+        until(lambda: not self.unlike([]), PATIENCE + self.options.slack, 0.1)
         if not published:
             self.publish(self.nodes[0])
 
     def await_health(self, published):
         """Waits until all nodes are well and have published this, as long as one that isn't is at work."""
         spent, last = {}, time.monotonic()
-        while waiting := [node for node in self.nodes if node.ask_operator("/healthz", 5).status != 200
-                          or node.published() != published]:
+        while waiting := [node for node in self.nodes
+                          if node.health()[0] != 200 or node.published() != published]:
             ended = [node.last_line() for node in waiting if node.ended() is not None]
             want(f"ended while they started: {ended}", not ended)
             now = {node: node.processor_seconds() for node in waiting}
             if any(now[node] > spent.get(node, 0) + AT_WORK for node in waiting):
                 spent, last = now, time.monotonic()
-            want(f"nodes don't begin: {[node.ask_operator('/healthz', 5) for node in waiting]}",
+            want(f"nodes don't begin: {[node.health() for node in waiting]}",
                  time.monotonic() < last + PATIENCE + self.options.slack)
             time.sleep(0.5)
 
@@ -126,21 +124,8 @@ class Farm:
 
     def unlike(self, silenced):
         """What nodes say of whom they hear that isn't so while these links are silent."""
-        told = [(node, node.hears()) for node in self.nodes]
-        return [f"node {node.host.number}: {said}" for node, said in told
-                if said != self.hears(node, silenced)]
-
-    def fell(self, silenced, most):
-        """The seconds until the last node says whom it hears meanwhile; None for too long."""
-        begun, left, took = time.monotonic(), list(self.nodes), 0
-        while left and time.monotonic() < begun + most:
-            left = [node for node in left if node.hears() != self.hears(node, silenced)]
-            took = round(time.monotonic() - begun, 2)
-            time.sleep(0.05)
-        return None if left else took
-
-    def control(self, *words):
-        return processes.wfarmctl(self.options.program, self.file, *words)
+        return [f"node {node.number}: {said}" for node in self.nodes
+                if (said := node.hears()) != self.hears(node, silenced)]
 
     def stop(self):
         for node in self.nodes:
@@ -205,10 +190,10 @@ def silence(farm, silenced, seconds, meanwhile=lambda: None):
     begun = time.monotonic()
     is_both_ways = all((other, one) in silenced for one, other in silenced)
     most = NOTICED + (0 if is_both_ways else ONE_WAY) + farm.options.slack
-    fell = farm.fell(silenced, most)
+    fell = seconds_until(lambda: not farm.unlike(silenced), most, 0.05)
     want(f"{most:g} s after the cut: {'; '.join(farm.unlike(silenced)) or 'just so'}", fell is not None)
     without = [node.host.number for node in farm.nodes if farm.hears(node, silenced)[0] == 503]
-    code, told, _ = farm.control("status")
+    code, told, _ = processes.wfarmctl(farm.options.program, farm.file, "status")
     rows = told.splitlines()[1:]
     want(f"status: {code} {rows}", code == 1
          and [at for at, row in enumerate(rows) if row.endswith(" no majority")] == without)
@@ -257,7 +242,7 @@ def waits(farm, name, seconds):
         if name == "away":
             file = farm.folder / "a.map"
             file.write_bytes(map_of(next(farm.numbers)))
-            published = farm.control("publish", file)
+            published = processes.wfarmctl(farm.options.program, farm.file, "publish", file)
             first = (len(farm.nodes) - 1) // 2
             want(f"wfarmctl publish: {published}",
                  published[:2] == (0, f"published {before + 1} at node {first}\n"))

@@ -75,6 +75,7 @@ from farmkit.web import CAPABILITIES, Unanswered, exchange, loopback
 
 NODES = 3
 TAPES = [f"node-{node}.tape" for node in range(NODES)]
+TEXT = "the text on the tapes at"
 CONNECTIONS = 1_000_000
 # how long a run may take to reach the call that it is cut at
 RUN_SECONDS = 2.5
@@ -95,10 +96,6 @@ class Ledger(ledger.Ledger):
     def told(self):
         """The highest published sequence that each node told."""
         return [self.most[f"node {node}"] for node in range(NODES)]
-
-    @property
-    def texts(self):
-        return self.kept["the text on the tapes at"]
 
     def status(self, answer, node, proposed=None):
         line = STATUS.fullmatch(answer.body)
@@ -124,7 +121,7 @@ class Ledger(ledger.Ledger):
             self.counts["torn"] += torn
             here = {int.from_bytes(body[:2], "big"): body[2:] for kind, body in found if kind == PUBLISHED}
             for sequence, text in here.items():
-                self.same("the text on the tapes at", sequence, text)
+                self.same(TEXT, sequence, text)
             if sorted(here) != list(range(1, len(here) + 1)) or len(here) < self.told[node]:
                 self.violation(f"node {node} told {self.told[node]} as published, "
                                f"its tape has {len(here)}: {sorted(here)[-3:]}")
@@ -303,7 +300,7 @@ def judge_run(path, given, ledger, counts, draw, numbers):
     else:
         ledger.violation("the program didn't start")
     run.end()
-    return follow(trace, path, folder, Judge(folder, ledger.violations, counts), given.without)
+    return follow(trace, path, folder, Judge(folder, ledger.violations, counts), given.without).total()
 
 
 def order(given, draw, numbers):
@@ -436,15 +433,12 @@ def run_once(store, ledger, draw, numbers, done):
 
 def check_again(program, folder, ledger, draw, numbers):
     """A start that isn't killed: every sequence that was told, from the nodes in turn."""
-    farm = Farm(program, CONNECTIONS, folder)
-    try:
+    with Farm(program, CONNECTIONS, folder) as farm:
         client = Client(ledger, farm.port, draw, numbers)
         client.look(0)
         for sequence in range(1, min(ledger.told) + 1):
             ledger.picture(sequence, client.ask(PIXEL % sequence)[1])
-    finally:
-        farm.kill()
-        ledger.tapes(folder)
+    ledger.tapes(folder)
 
 
 def use_one_folder(store, draw, numbers, ledger, is_going_on, done):
@@ -480,7 +474,7 @@ def again_and_again(kind, given, draw, numbers):
           f"{done['kills']} kills alone, {done['starting']} runs ended while starting; {done['folders']} "
           f"folders compared, {counts['torn']} torn records seen; {counts['sent']} maps sent, "
           f"{counts['accepted']} answered 202, {counts['published']} reported as published by their node, "
-          f"{sum(len(it.texts) for it in ledgers)} sequences; {counts['answers']} answers and texts "
+          f"{sum(len(it.kept[TEXT]) for it in ledgers)} sequences; {counts['answers']} answers and texts "
           f"compared; {violations.total()} violations", flush=True)
     return violations.total()
 

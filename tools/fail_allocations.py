@@ -41,6 +41,8 @@ import subprocess
 import sys
 import tempfile
 from concurrent.futures import ThreadPoolExecutor
+from functools import cache
+from itertools import chain
 
 from farmkit.command import parser as parser_of
 from farmkit.repository import TOP
@@ -62,6 +64,7 @@ OUTCOME = re.compile(rb"^(?:(?:sent|cut) \d+, \d+ bytes|read failed|no request|h
 # messages behind a response: a line each, and behind it the canonical text of its map, if it has one
 MESSAGES = rb"(?:send [^\n]*\n(?:MAP\n.*?\nEND\n(?=send |\Z))?)*"
 DIFFERENCE = re.compile(rb"line \d+: [^\n]*\n  expected: ([^\n]*)\n  given:    ([^\n]*)\n")
+ONE_DIFFERS = re.compile(rb"(?:^|\n)\d+ cases, 1 differ, 0 faults of the table\n$")
 UNREAD = re.compile(rb"(?:line \d+: [^\n]*\n)+0 cases, 0 differ, \d+ faults of the table\n")
 ESCAPE = re.compile(rb"\\(?:x([0-9A-Fa-f]{2})|(.))")
 MEANT = {b"n": b"\n", b"r": b"\r", b"t": b"\t", b"s": b" ", b"\\": b"\\"}
@@ -69,11 +72,6 @@ MEANT = {b"n": b"\n", b"r": b"\r", b"t": b"\t", b"s": b" ", b"\\": b"\\"}
 
 def unescaped(text):
     return ESCAPE.sub(lambda it: bytes.fromhex(it[1].decode()) if it[1] else MEANT[it[2]], text)
-
-
-def escaped(data):
-    """Bytes as a table spells them, on one line and without a space."""
-    return "".join(chr(it) if 0x21 <= it <= 0x7E and it != 0x5C else f"\\x{it:02x}" for it in data)
 
 
 def tried_of(count, most):
@@ -86,7 +84,7 @@ class Table:
 
     def __init__(self, path):
         self.texts, self.cases = {}, []
-        lines = None
+        lines = []
         for line in path.read_text().splitlines():
             word, _, name = line.partition(" ")
             if word in ("text", "case"):
@@ -95,32 +93,23 @@ class Table:
                     self.texts[name] = lines
                 else:
                     self.cases.append((name, lines))
-            elif word == "for":
-                lines = self.add_row(line)
-            elif lines is not None and line and not line.startswith("#"):
+            elif word == "for" and lines[-1].startswith("for "):
+                # (each row is a case of its own)
+                lines = [*lines[:-1], line]
+                self.cases.append((self.cases[-1][0], lines))
+            elif lines and line and not line.startswith("#"):
                 lines.append(line)
 
-    def add_row(self, row):
-        """Adds a case of this row alone, in place of the case without one; its lines."""
-        name, lines = self.cases[-1]
-        if lines[-1].startswith("for "):
-            self.cases.append((name, [*lines[:-1], row]))
-        else:
-            lines.append(row)
-        return self.cases[-1][1]
-
-    def needed(self, lines, known=None):
-        """The lines of the texts that these lines name, and of those that they name in turn."""
-        known = set() if known is None else known
-        found = []
+    def needed(self, lines):
+        """The texts that these lines name, by their names, each behind those that it names in turn."""
+        found = {}
         for line in lines:
-            if line[:3] in ("<& ", ">& ") and line[3:] not in known:
-                known.add(line[3:])
-                found += self.needed(self.texts[line[3:]], known) + self.texts[line[3:]]
+            if line[:3] in ("<& ", ">& "):
+                found |= self.needed(self.texts[line[3:]]) | {line[3:]: self.texts[line[3:]]}
         return found
 
     def alone(self, lines):
-        return "\n".join([*self.needed(lines), *lines, ""]).encode()
+        return "\n".join([*chain(*self.needed(lines).values()), *lines, ""]).encode()
 
     def input_of(self, lines):
         """The bytes of a case's input, or of a named text."""
@@ -163,31 +152,42 @@ def is_part(block, whole):
     return block == cut[0] + part + end + whole[3]
 
 
+def verdict(status, output, usual, is_reading, of_report):
+    """What a run is, by its status and output, and whether the allocation may be the table's."""
+    if status == 1 and not output:
+        return "ended"
+    if status == 1 and is_reading and UNREAD.fullmatch(output):
+        return "unread"
+    if status == 1:
+        return of_report(output)
+    return "as always" if (status, output) == (0, usual) else "wrong"
+
+
 class Case:
     def __init__(self, program, table, name, lines):
         self.program, self.table, self.name, self.lines = program, table, name, lines
         self.ask = next((line for line in lines if line.startswith("ask ")), "ask ")
         self.question = self.ask.split()[1]
-        self.dropped = {}
 
-    def run(self, lines, folder=None, **environment):
-        return subprocess.run([self.program], input=self.table.alone(lines), cwd=folder,
-                              env={**os.environ, **environment}, capture_output=True)
+    def run(self, lines, **environment):
+        """A run on these lines, in an empty folder."""
+        with tempfile.TemporaryDirectory() as folder:
+            return subprocess.run([self.program], input=self.table.alone(lines), cwd=folder,
+                                  env={**os.environ, **environment}, capture_output=True)
 
+    @cache
     def blocks_without(self, index):
         """What the edge tells where the request of this index never comes."""
         if self.question == "serve_cached":
             return blocks_of(unescaped(DIFFERENCE.search(self.run([*self.lines[:3], ">. x"]).stdout)[2]))[:1]
-        if index not in self.dropped:
-            pieces = self.table.input_of(self.lines).split(b"\0")
-            first = 1 if self.question in PUBLISHED else 0
-            left = pieces[:first + index] + pieces[first + index + 1:]
-            answer = b""
-            if len(left) > first:
-                ran = self.run(["case without it", self.ask, "<. " + escaped(b"\0".join(left)), ">. x"])
-                answer = unescaped(DIFFERENCE.search(ran.stdout)[2])
-            self.dropped[index] = blocks_of(answer)
-        return self.dropped[index]
+        pieces = self.table.input_of(self.lines).split(b"\0")
+        first = 1 if self.question in PUBLISHED else 0
+        left = pieces[:first + index] + pieces[first + index + 1:]
+        if len(left) <= first:
+            return []
+        spelled = "".join(f"\\x{it:02x}" for it in b"\0".join(left))
+        ran = self.run(["case without it", self.ask, f"<. {spelled}", ">. x"])
+        return blocks_of(unescaped(DIFFERENCE.search(ran.stdout)[2]))
 
     def is_unavailable(self, index, expected, given):
         """Whether the answer is as if this request hadn't come, but for its 503."""
@@ -212,105 +212,87 @@ class Case:
         is_cut = others[0] == others[1] and is_part(given[index], expected[index])
         return "cut" if is_cut else "wrong"
 
-    def verdict_of_answer(self, expected, given):
-        """What an answer is that isn't the expected one."""
-        if self.question in EDGE:
-            return self.verdict_of_edge(expected, given)
+    def is_named(self, expected, given):
+        """Whether an answer is the expected one but for the failure, which it counts or names, or ends at."""
         if self.question == "beginnings":
             read, refused, _ = map(int, re.findall(rb"\d+", expected))
-            wanted = [b"%d read, %d refused, 1 for memory\n" % it
-                      for it in ((read - 1, refused), (read, refused - 1))]
-            return "named" if given in wanted else "wrong"
+            return given in [b"%d read, %d refused, 1 for memory\n" % it
+                             for it in ((read - 1, refused), (read, refused - 1))]
         if self.question in ("each_byte", "gaps"):
             expected, given = lines_of_runs(expected), lines_of_runs(given)
             others = [pair for pair in zip(expected, given) if pair[0] != pair[1]]
-            is_one = len(expected) == len(given) and len(others) == 1
-            return "named" if is_one and others[0][0].startswith(others[0][1]) else "wrong"
+            return len(expected) == len(given) and len(others) == 1 and others[0][0].startswith(others[0][1])
         if self.question == "canonical":
             # (the other reader reads what the quick one leaves)
-            return "named" if given == expected + b"the quick reader leaves it\n" else "wrong"
-        if self.question == "table":
-            told = given.removesuffix(b"memory ran out\n")
-            return "named" if told != given and expected.startswith(told) else "wrong"
-        return "wrong"
+            return given == expected + b"the quick reader leaves it\n"
+        told = given.removesuffix(b"memory ran out\n")
+        return self.question == "table" and told != given and expected.startswith(told)
 
-    def verdict(self, status, output, usual, is_reading):
-        """What a child is, by its wait status and output, and whether the allocation may be the table's."""
-        if status == 0:
-            return "as always" if output == usual else "wrong"
-        if os.waitstatus_to_exitcode(status) != 1:
-            return "wrong"
-        if not output:
-            return "ended"
-        if is_reading and UNREAD.fullmatch(output):
-            return "unread"
+    def verdict_of_report(self, output):
+        """What a run is that reports another answer than the expected one."""
         differences = DIFFERENCE.findall(output)
-        ending = re.search(rb"(?:^|\n)\d+ cases, (\d+) differ, (\d+) faults of the table\n$", output)
-        if len(differences) != 1 or not ending or ending.groups() != (b"1", b"0"):
+        if len(differences) != 1 or not ONE_DIFFERS.search(output):
             return "wrong"
-        return self.verdict_of_answer(*map(unescaped, differences[0]))
+        answers = map(unescaped, differences[0])
+        if self.question in EDGE:
+            return self.verdict_of_edge(*answers)
+        return "named" if self.is_named(*answers) else "wrong"
 
-    def run_again(self, again, is_reading, **environment):
-        """What a run is in which the case is asked twice, the second time at this line, and it."""
-        with tempfile.TemporaryDirectory() as folder:
-            ran = self.run([*self.lines, AGAIN, *self.lines[1:]], folder, **environment)
-        if ran.returncode not in (0, 1):
-            return "wrong", ran
-        if not ran.returncode or not ran.stdout:
-            return "ended" if ran.returncode else "as always", ran
-        if is_reading and UNREAD.fullmatch(ran.stdout):
-            return "unread", ran
-        told = [int(it) for it in re.findall(rb"^line (\d+): ", ran.stdout, re.MULTILINE)]
-        return "again" if told and max(told) < again else "wrong", ran
-
-    def try_repeated(self, library, count, reading, most):
+    def verdict_of_asked_again(self, output):
+        """Likewise where the case is asked twice: the second answer has to be the expected one."""
         again = len(self.table.alone(self.lines).splitlines()) + 1
-        first, every = tried_of(count, min(most, MOST_RUNS))
-        found, wrong = collections.Counter(), []
-        for number in range(1, count + 1):
-            if number <= first or number % every == 0:
-                what, ran = self.run_again(again, number <= reading, LD_PRELOAD=library,
-                                           FAIL_ALLOCATION=str(number))
-                found[what] += 1
-                if what == "wrong":
-                    wrong.append((number, b"status %d " % ran.returncode + ran.stdout[-2000:]))
-        return count, found, wrong
+        told = [int(it) for it in re.findall(rb"^line (\d+): ", output, re.MULTILINE)]
+        return "again" if told and max(told) < again else "wrong"
+
+    def try_repeated(self, library, tried, reading):
+        """Runs the case for each of these allocations."""
+        for number in tried:
+            ran = self.run([*self.lines, AGAIN, *self.lines[1:]], LD_PRELOAD=library,
+                           FAIL_ALLOCATION=str(number))
+            what = verdict(ran.returncode, ran.stdout, ran.stdout, number <= reading,
+                           self.verdict_of_asked_again)
+            yield number, what, b"status %d " % ran.returncode + ran.stdout[-2000:]
+
+    def try_forked(self, library, first, every, reading, usual):
+        """Runs the case once, with a child for each allocation that is tried."""
+        with tempfile.NamedTemporaryFile() as results:
+            ran = self.run(self.lines, LD_PRELOAD=library, FORK_ALLOCATIONS=results.name,
+                           FORK_FIRST=str(first), FORK_EVERY=str(every))
+            if ran.stdout != usual or ran.returncode:
+                yield 0, "wrong", ran.stdout + ran.stderr
+            what, output = "", b""
+            for line in results:
+                number, status, length = map(int, line.split())
+                # -1: as the one before
+                if length >= 0 or what == "unread":
+                    output = results.read(length) if length >= 0 else output
+                    what = verdict(os.waitstatus_to_exitcode(status), output, usual, number <= reading,
+                                   self.verdict_of_report)
+                yield number, what, b"status %d " % status + output[-2000:]
 
     def try_each(self, library, most):
-        counting = {"LD_PRELOAD": library, "COUNT_ALLOCATIONS": "1"}
-        with tempfile.TemporaryDirectory() as folder:
-            counted = self.run(self.lines, folder, **counting)
-        count, usual = int(counted.stderr.split()[-1]), counted.stdout
-        unasked = [line if line != self.ask else "ask nothing" for line in self.lines]
-        reading = int(self.run(unasked, **counting).stderr.split()[-1])
-        if self.question in REPEATED and not counted.returncode:
+        """How many allocations there are, how often each verdict came, and what was wrong."""
+        def counted(lines):
+            ran = self.run(lines, LD_PRELOAD=library, COUNT_ALLOCATIONS="1")
+            return int(ran.stderr.split()[-1]), ran
+
+        count, ran = counted(self.lines)
+        reading, _ = counted([line if line != self.ask else "ask nothing" for line in self.lines])
+        if ran.returncode:
+            tried = [(0, "wrong", ran.stdout)]
+        elif self.question in REPEATED:
             # the report comes after the second one then; so a few of the case's last aren't tried either
-            report = int(self.run([], **counting).stderr.split()[-1])
-            return self.try_repeated(library, count - report, reading, most)
-        if counted.returncode:
-            return count, collections.Counter(wrong=1), [(0, usual)]
-        first, every = tried_of(count, most)
-        with tempfile.TemporaryDirectory() as folder:
-            results = pathlib.Path(folder, "results")
-            places = {"FORK_ALLOCATIONS": str(results), "FORK_FIRST": str(first), "FORK_EVERY": str(every)}
-            ran = self.run(self.lines, LD_PRELOAD=library, **places)
-            found, wrong = collections.Counter(), []
-            if ran.stdout != usual or ran.returncode:
-                wrong.append((0, ran.stdout + ran.stderr))
-            data = results.read_bytes() if results.exists() else b""
-        start, what, output = 0, "", b""
-        while start < len(data):
-            end = data.index(b"\n", start)
-            number, status, length = map(int, data[start:end].split())
-            start = end + 1
-            # -1: as the one before
-            if length >= 0 or what == "unread":
-                output = data[start:start + length] if length >= 0 else output
-                start += max(length, 0)
-                what = self.verdict(status, output, usual, number <= reading)
+            count -= counted([])[0]
+            first, every = tried_of(count, min(most, MOST_RUNS))
+            numbers = [it for it in range(1, count + 1) if it <= first or it % every == 0]
+            tried = self.try_repeated(library, numbers, reading)
+        else:
+            tried = self.try_forked(library, *tried_of(count, most), reading, ran.stdout)
+        found, wrong = collections.Counter(), []
+        for number, what, output in tried:
             found[what] += 1
             if what == "wrong":
-                wrong.append((number, b"status %d " % status + output[-2000:]))
+                wrong.append((number, output))
         return count, found, wrong
 
 
@@ -352,11 +334,9 @@ def main():
         library = f"{folder}/fail_allocation.so"
         source = pathlib.Path(__file__).with_name("fail_allocation.c")
         subprocess.run(["cc", "-O2", "-shared", "-fPIC", "-o", library, source, "-ldl"], check=True)
-        is_right = True
-        for name in options.crates:
-            crate = TOP / "crates" / pathlib.Path(name).name
-            is_right = try_cases(crate, library, options) and is_right
-    return 0 if is_right else 1
+        right = [try_cases(TOP / "crates" / pathlib.Path(name).name, library, options)
+                 for name in options.crates]
+    return 0 if all(right) else 1
 
 
 if __name__ == "__main__":

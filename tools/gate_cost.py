@@ -19,7 +19,7 @@ import contextlib
 import datetime
 import os
 import pathlib
-import resource
+import re
 import subprocess
 import sys
 import time
@@ -34,7 +34,7 @@ PARTS = ("proof", "tests", "edits")
 LEAST = 6  # processor minutes of a crate that has a row of its own
 COSTS = TOP / "docs" / "CI.md"
 FROM_NOTHING = "every proof and must-fail edit was done in this run"
-MARKS = "<!-- gate_cost.py: begin -->\n", "<!-- gate_cost.py: end -->\n"
+MARKED = re.compile(r"(?s)(<!-- gate_cost\.py: begin -->\n).*?(<!-- gate_cost\.py: end -->\n)")
 
 
 def task_of(process):
@@ -81,12 +81,10 @@ def table(seen):
 
 
 def record(costs):
-    begin, end = MARKS
-    before, mark, rest = COSTS.read_text(encoding="utf-8").partition(begin)
-    old, other, after = rest.partition(end)
-    if not mark or not other:
+    text, count = MARKED.subn(lambda it: it[1] + costs + it[2], COSTS.read_text(encoding="utf-8"), count=1)
+    if not count:
         sys.exit(f"{COSTS}: a mark is missing, so nothing was written")
-    COSTS.write_text(before + begin + costs + end + after, encoding="utf-8")
+    COSTS.write_text(text, encoding="utf-8")
 
 
 def main() -> int:
@@ -101,8 +99,7 @@ def main() -> int:
     while os.path.exists(f"/proc/{options.of}") if gate is None else gate.poll() is None:
         look(seen, gate.pid if gate else options.of)
         time.sleep(0.5)
-    used = resource.getrusage(resource.RUSAGE_CHILDREN)
-    used = (used.ru_utime + used.ru_stime) / 60 if gate else sum(minutes for _, minutes in seen.values())
+    used = sum(os.times()[2:4]) / 60 if gate else sum(minutes for _, minutes in seen.values())
     told = options.log.read_text(encoding="utf-8").rstrip()
     costs = (f"{datetime.date.today()}, commit {git('rev-parse', '--short', 'HEAD').strip()}: "
              f"`{told.splitlines()[-1]}`, {(time.time() - began) / 60:.0f} minutes on {os.cpu_count()} "

@@ -47,12 +47,11 @@ from farmkit.ledger import Ledger, Watch
 from farmkit.mapfiles import map_of
 from farmkit.measure import timed
 from farmkit.mutation import Maps, Queries
-from farmkit.nodes import Nodes
+from farmkit.nodes import NODES, Nodes
 from farmkit.processes import Farm, Replica
 from farmkit.wanted import Wrong, is_so_within, until
 from farmkit.web import CAPABILITIES, ask, connect, loopback
 
-NODES = 3
 AT_ONCE = 8
 PATIENCE = 120
 MOST_SECONDS = 1.0
@@ -113,22 +112,18 @@ class Behaving(threading.Thread):
         return not self.wrong
 
 
-def asked(farm, path, body=None):
-    return ask(farm.address, path, body, PATIENCE)
-
-
 def state(farm, folder):
     """What the farm is: what each node told as published, its capabilities and the tile, and the tapes."""
-    told = sorted(asked(farm, "/status")[1].split()[1:4] for _ in range(NODES))
-    return told, {asked(farm, path) for path in (CAPABILITIES, TILE) for _ in range(NODES)}, contents(folder)
+    told = sorted(farm.ask("/status").body.split()[1:4] for _ in range(NODES))
+    return told, {farm.ask(path) for path in (CAPABILITIES, TILE) for _ in range(NODES)}, contents(folder)
 
 
 def sockets(program, count, draw):
     """Whether the farm is what it was after all connections, and the client that behaves was served."""
     with tempfile.TemporaryDirectory() as folder, Farm(program, 1_000_000, folder) as farm:
-        asked(farm, "/publish", MAP)
+        farm.ask("/publish", MAP)
         before = state(farm, folder)
-        client = Behaving([farm.address], asked(farm, TILE)[1])
+        client = Behaving([farm.address], farm.ask(TILE).body)
         client.start()
         said = attacked([(farm.address, kind) for kind in kinds(count, draw)], draw)
         print(f"{count} hostile connections {said}")

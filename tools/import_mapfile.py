@@ -30,15 +30,11 @@ from maps.account import Teller, drop_block
 from maps.cutting import cut
 from maps.errors import MapError, Notes, library, saying
 from maps.geometry import DIGITS, checked, on_grid, whole_extent
-from maps.model import EXTENT_DIGITS, LEAST_POINTS, MOST_CLASSES, MOST_PIXELS, Feature, Layer, Map
+from maps.model import LEAST_POINTS, MOST_CLASSES, MOST_PIXELS, Feature, Layer, Map
 from maps.symbology import Symbology, has_scale
 
 OWN = {"4326": "init=epsg:4326", "3857": "init=epsg:3857"}
 OFFERED = {"4326": {"CRS:84", "EPSG:4326"}, "3857": {"EPSG:3857"}}  # the systems in which a farm answers
-TITLES = ("wms_title", "ows_title")
-ABSTRACTS = ("wms_abstract", "ows_abstract")
-ADDRESSES = ("wms_onlineresource", "ows_onlineresource")
-SYSTEMS = ("wms_srs", "ows_srs")
 ANYWHERE = 1e8  # half a side of a box around the data of a layer that doesn't tell its extent
 READ_BY_LIBRARY = ("ITEMS=", "NATIVE_FILTER=", "CLOSE_CONNECTION=")  # of PROCESSING
 
@@ -144,7 +140,7 @@ class Importer:
             if not any(item in items for items in self.kept.values()):
                 raise self.wrong(f"no layer has the attribute {item!r} of --keep")
         name, metadata = self.map.name or "map", self.map.web.metadata
-        title, abstract, address = (first_of(metadata, keys) for keys in (TITLES, ABSTRACTS, ADDRESSES))
+        title, abstract, address = (first_of(metadata, it) for it in ("title", "abstract", "onlineresource"))
         said = (name, title or name, abstract, self.asked.address or address or "http://localhost/wms?")
         own_texts = [texts.plain(text, self.teller, "the map's texts") for text in said]
         whole = Map(*own_texts, self.crs, self.digits, whole_extent(self.extent, self.digits),
@@ -180,7 +176,7 @@ class Importer:
         metadata = {keyword.name.lower(): keyword for web in self.written.all("WEB")
                     for block in web.all("METADATA") for keyword in block.keywords}
         self.tell_of_address(metadata)
-        for keyword in filter(None, map(metadata.get, SYSTEMS)):
+        for keyword in filter(None, map(metadata.get, ("wms_srs", "ows_srs"))):
             others = sorted(set(keyword.words[0].upper().split()) - OFFERED[self.crs])
             if others:
                 self.teller.change(keyword, f": a farm doesn't answer in {', '.join(others)}")
@@ -188,10 +184,10 @@ class Importer:
         account.tell(self.written, self.teller, self.scale)
 
     def tell_of_address(self, metadata):
-        keyword = next((metadata[key] for key in ADDRESSES if key in metadata), None)
-        if keyword is not None and self.asked.address:
+        keyword = first_of(metadata, "onlineresource")
+        if keyword and self.asked.address:
             self.notes.add(f"map: {keyword} became {self.asked.address}, by --address", keyword.place)
-        elif keyword is not None:
+        elif keyword:
             self.notes.add(f"map: warning: clients are sent to {keyword.words[0]}, the address of the "
                            f"mapfile: write --address", keyword.place)
         elif not self.asked.address:
@@ -199,19 +195,17 @@ class Importer:
 
     def why_not_drawn(self, layer):
         """Why nothing of the layer is imported, or None."""
-        if layer.type not in self.kinds:
-            return "it isn't of points, lines or polygons (raster, chart, query or tile index)"
-        if layer.transform != self.script.MS_TRUE:
-            return "its coordinates are pixels (TRANSFORM)"
-        if layer.connectiontype == self.script.MS_WMS:
-            return "it is another server's picture"
-        if not has_scale(layer, self.scale):
-            return f"it isn't drawn at 1:{self.scale:,.0f} (--scale)"
-        if self.width < layer.mingeowidth or 0 < layer.maxgeowidth < self.width:
-            return f"it isn't drawn on a picture {self.width:g} wide (GEOWIDTH)"
-        if layer.numclasses == 0:
-            return "it has no CLASS" + (", and STYLEITEM isn't supported" if layer.styleitem else "")
-        return None
+        is_other_width = self.width < layer.mingeowidth or 0 < layer.maxgeowidth < self.width
+        is_other_kind = layer.type not in self.kinds
+        whys = {
+            "it isn't of points, lines or polygons (raster, chart, query or tile index)": is_other_kind,
+            "its coordinates are pixels (TRANSFORM)": layer.transform != self.script.MS_TRUE,
+            "it is another server's picture": layer.connectiontype == self.script.MS_WMS,
+            f"it isn't drawn at 1:{self.scale:,.0f} (--scale)": not has_scale(layer, self.scale),
+            f"it isn't drawn on a picture {self.width:g} wide (GEOWIDTH)": is_other_width,
+            "it has no CLASS, and STYLEITEM isn't supported": layer.numclasses == 0 and layer.styleitem,
+            "it has no CLASS": layer.numclasses == 0}
+        return next((why for why, is_so in whys.items() if is_so), None)
 
     def layers_of(self, name, layer, block):
         """What the layer draws, as one layer, or as several where it has too many classes."""
@@ -228,7 +222,7 @@ class Importer:
             teller.lost(f"all of it: {why}", block.place)
             account.mark(block.whole(), account.LEFT_OUT)
             return []
-        title = first_of(layer.metadata, TITLES) or name
+        title = first_of(layer.metadata, "title") or name
         return list(self.in_sixteens(name, title, self.kinds[layer.type], drawn, teller))
 
     def tell_of_layer(self, layer, block, classes, used, teller):
@@ -279,10 +273,11 @@ class Importer:
         kind, items = self.kinds[layer.type], items or item_names(layer)
         symbology = Symbology(layer, kind, self.scale, classes, items, teller)
         self.kept[name] = [item for item in self.asked.keep if item in symbology.items]
+        change = system and self.script.reprojectionObj(system, self.target)
         result = []
-        for (place, index, shape), parts in zip(shapes, self.lines_of(shapes, system)):
+        for place, index, shape in shapes:
             how = symbology.drawn(index, shape)
-            feature = self.feature(symbology, index, shape, parts, self.kept[name], place)
+            feature = self.feature(symbology, index, shape, change, self.kept[name], place)
             if feature is not None and not how.styles and not feature.text:
                 teller.lost("shapes that nothing here draws", place)
             elif feature is not None:
@@ -340,29 +335,13 @@ class Importer:
             layer.whichShapes(box)
             yield from iter(layer.nextShape, None)
 
-    def lines_of(self, shapes, system):
-        """The lines of each shape in the map's system. All are reprojected in one call, which is slow."""
-        lines = [[shape.get(i) for i in range(shape.numlines)] for _, _, shape in shapes]
-        if system is None:
-            return [[points_of(line) for line in some] for some in lines]
-        together = self.script.shapeObj(self.script.MS_SHAPE_POINT)
-        for line in itertools.chain.from_iterable(lines):
-            together.add(line)
-        if together.numlines and not self.is_projected(together, system):
-            apart = (where for where, _, shape in shapes if not self.is_projected(shape, system))
-            raise MapError(f"{next(apart, shapes[0][0])}: it can't be reprojected to EPSG:{self.crs}: "
+    def feature(self, symbology, index, shape, change, kept, place):
+        """The shape in the map's system, by the change if any; None if nothing of it can be drawn."""
+        lines, kind = [shape.get(i) for i in range(shape.numlines)], symbology.kind
+        if change is not None and any(line.project(change) != self.script.MS_SUCCESS for line in lines):
+            raise MapError(f"{place}: it can't be reprojected to EPSG:{self.crs}: "
                            f"leave it out by FILTER, or write another --crs")
-        places = itertools.count()
-        return [[points_of(together.get(next(places))) for _ in some] for some in lines]
-
-    def is_projected(self, shape, system):
-        """Brings the shape to the map's system; whether all of it has a place there."""
-        count = shape.numlines
-        return shape.project(system, self.target) == 0 and shape.numlines == count
-
-    def feature(self, symbology, index, shape, parts, kept, place):
-        """The shape in the map's system, None if nothing of it can be drawn."""
-        kind = symbology.kind
+        parts = [[(point.x, point.y) for point in map(line.get, range(line.numpoints))] for line in lines]
         parts = [checked(part, self.crs, kind, place) for part in parts if part]
         grid = on_grid(parts, kind, self.digits)
         if len(grid) < len(parts) or not parts:
@@ -397,17 +376,13 @@ def crs_of(system):
     return next((crs for crs, own in OWN.items() if system.lower().lstrip("+") == own), None)
 
 
-def points_of(line):
-    return [(point.x, point.y) for point in map(line.get, range(line.numpoints))]
-
-
 def item_names(layer):
     return [layer.getItem(i) for i in range(layer.numitems)]
 
 
-def first_of(metadata, keys):
-    """The first of the entries that is there, else an empty text."""
-    return next((value for value in (metadata.get(key, None) for key in keys) if value), "")
+def first_of(metadata, word):
+    """What it tells of WMS, or else of every service; an empty text where it tells neither."""
+    return metadata.get(f"wms_{word}", None) or metadata.get(f"ows_{word}", None) or ""
 
 
 def with_own_names(layers, notes):
@@ -443,13 +418,9 @@ def made(asked, notes):
     tell(written, importer, notes, sys.stderr)
     if asked.preview is not None:
         painter = preview.Painter(asked.program, asked.side)
-        server = preview.MapServer(asked.mapfile, asked.layers, importer.crs, importer.scale)
-
-        def source(extent):
-            sides = [side / 10**EXTENT_DIGITS for side in extent]
-            return painter.pixels(server.drawn(sides, *preview.size_of(extent, asked.side)))
-
-        preview.write(asked.preview, painter, the_map, written, source)
+        seen = asked.mapfile, asked.layers, importer.crs, importer.scale, asked.side
+        preview.write(asked.preview, painter, the_map, written,
+                      lambda extent: preview.pixels_of(preview.drawn_by_mapserver(*seen, extent)))
     if asked.report is not None:
         with asked.report.open("w", encoding="utf-8", errors="backslashreplace") as report:
             tell(written, importer, notes, report)
@@ -475,12 +446,10 @@ def main():
     try:
         text = made(asked, Notes())
     except (MapError, OSError) as error:
-        print(f"error: {error}", file=sys.stderr)
-        return 1
-    output.write(text.encode())
-    output.close()
-    return 0
+        sys.exit(f"error: {error}")
+    with output:
+        output.write(text.encode())
 
 
 if __name__ == "__main__":
-    sys.exit(main())
+    main()

@@ -28,7 +28,7 @@ import tempfile
 import time
 
 import stamp
-from farmkit.command import lacks, program_parser, tell_missing
+from farmkit.command import need, program_parser
 from farmkit.processes import run
 from farmkit.repository import PROGRAM, TOP
 
@@ -85,13 +85,13 @@ def manual(name, purpose, day, texts):
 
 def put_manuals(root, day):
     """The pages for `man`, made from each command's help."""
-    program, tool = str(root / "usr/bin/wfarm"), str(root / "usr/bin/wfarmctl")
+    program, tool = root / "usr/bin/wfarm", root / "usr/bin/wfarmctl"
     texts = [("SYNOPSIS", help_of(program, "help")),
              *((f"WFARM {command.upper()}", help_of(program, "help", command)) for command in COMMANDS)]
     own = [("SYNOPSIS", help_of(sys.executable, tool, "--help"))]
-    for page in (("wfarm", "farm of Web Map Service servers", day, texts),
-                 ("wfarmctl", "runs a farm of wfarm nodes", day, own)):
-        place(zipped(manual(*page)), root / f"usr/share/man/man1/{page[0]}.1.gz")
+    for name, purpose, parts in (("wfarm", "farm of Web Map Service servers", texts),
+                                 ("wfarmctl", "runs a farm of wfarm nodes", own)):
+        place(zipped(manual(name, purpose, day, parts)), root / f"usr/share/man/man1/{name}.1.gz")
 
 
 def copy_tracked(names, target):
@@ -173,8 +173,7 @@ def main():
                        help="where the package is put (here)")
     options = words.parse_args()
     program = pathlib.Path(options.program)
-    if lacks("dpkg-deb"):
-        return tell_missing(["dpkg-deb"])
+    need("dpkg-deb")
     package = options.to / f"wfarm_{options.version}_amd64.deb"
     with tempfile.TemporaryDirectory() as folder:
         root = pathlib.Path(folder) / "root"

@@ -33,7 +33,7 @@ import sys
 from bisect import bisect_right
 from dataclasses import dataclass
 from functools import partial
-from itertools import cycle, islice
+from itertools import cycle, pairwise
 from pathlib import Path
 
 from maps import fitting, options, preview, texts
@@ -44,7 +44,6 @@ from maps.model import (LABEL_SIZES, LEAST_POINTS, MOST_CLASSES, POSITIONS, Clas
                         Style)
 
 KINDS = {"POINT": "POINT", "LINESTRING": "LINE", "POLYGON": "POLYGON"}  # by their names of GDAL
-MEMBERS = {"MULTIPOINT", "MULTILINESTRING", "MULTIPOLYGON"}
 # (of the last three the colours between are mixed)
 PALETTES = {
     "soft": "8dd3c7 ffffb3 bebada fb8072 80b1d3 fdb462 b3de69 fccde5 d9d9d9 bc80bd ccebc5 ffed6f a6cee3 "
@@ -53,20 +52,16 @@ PALETTES = {
               "fb9a99 6a3d9a",
     "greens": "f7fcf5 00441b", "blues": "f7fbff 08306b", "heat": "ffffcc fd8d3c 800026"}
 LISTED = ("soft", "bright")
-OTHER = "other"
 
 
 # ---- what is asked for
 
 class OfLayer(argparse.Action):
-    """--layer, which begins a layer with what its options are if left out, or an option of the last one."""
+    """An option of the last layer."""
 
-    usual = {}
+    usual = {}  # what the options of a layer are if left out
 
     def __call__(self, parser, namespace, value, option=None):
-        if self.dest == "layers":
-            namespace.layers = [*(namespace.layers or []), argparse.Namespace(path=value, **self.usual)]
-            return
         if not namespace.layers:
             parser.error(f"{option} stands before the first --layer")
         layer = namespace.layers[-1]
@@ -101,7 +96,8 @@ def arguments():
         help="in the map's units (that of the data); a negative one as --extent=-3,51,-2,52")
     add("--skip", action="store_true", help="leave out features that can't be drawn, and count them")
     options.add_common(parser)
-    add("--layer", action=OfLayer, dest="layers", metavar="FILE", required=True, help="data that GDAL reads")
+    add("--layer", action="append", dest="layers", metavar="FILE", required=True, help="data that GDAL reads",
+        type=lambda path: argparse.Namespace(path=path, **OfLayer.usual))
     group = parser.add_argument_group("options of a layer")
 
     def of_layer(name, said, default=None, **how):
@@ -149,8 +145,7 @@ class Source:
     """The features of one table of a file."""
 
     def __init__(self, gdal, asked, notes):
-        self.gdal, self.asked, self.notes = gdal, asked, notes
-        self.path = asked.path
+        self.gdal, self.asked, self.notes, self.path = gdal, asked, notes, asked.path
         given = [f"ENCODING={asked.encoding}"] if asked.encoding else []
         try:
             self.data = gdal.gdal.OpenEx(asked.path, gdal.gdal.OF_VECTOR, open_options=given)
@@ -169,12 +164,11 @@ class Source:
 
     def chosen(self):
         names = [self.data.GetLayer(i).GetName() for i in range(self.data.GetLayerCount())]
-        if self.asked.table is None and len(names) == 1:
-            return self.data.GetLayer(0)
-        if self.asked.table in names:
-            return self.data.GetLayer(names.index(self.asked.table))
         if not names:
             raise self.wrong("it has no table: is it data with geometry?")
+        wanted = names[0] if self.asked.table is None and len(names) == 1 else self.asked.table
+        if wanted in names:
+            return self.data.GetLayer(names.index(wanted))
         wrong = "it has several tables" if self.asked.table is None else f"it has no table {self.asked.table}"
         raise self.wrong(f"{wrong}: write --table and one of {', '.join(names)}")
 
@@ -295,7 +289,7 @@ def raw_parts(geometry, place):
     """The parts of a geometry, each with its kind."""
     name = geometry.GetGeometryName()
     inner = [geometry.GetGeometryRef(i) for i in range(geometry.GetGeometryCount())]
-    if name in MEMBERS:
+    if name in [f"MULTI{kind}" for kind in KINDS]:
         for member in inner:
             yield from raw_parts(member, place)
     elif name not in KINDS:
@@ -314,12 +308,12 @@ def raw_parts(geometry, place):
 
 # ---- classes
 
-def shades(palette, count):
-    """So many colours of a palette."""
+def shaded(names, palette):
+    """Each name with a colour of a palette."""
     colors = [options.color(f"#{text}") for text in PALETTES[palette].split()]
     if palette in LISTED:
-        return list(islice(cycle(colors), count))
-    return [mixed(colors, i / max(1, count - 1)) for i in range(count)]
+        return list(zip(names, cycle(colors)))
+    return [(name, mixed(colors, i / max(1, len(names) - 1))) for i, name in enumerate(names)]
 
 
 def mixed(colors, share):
@@ -341,28 +335,27 @@ class Classes:
     def __init__(self, asked, records, notes):
         self.asked = asked
         values = {record.values.get(asked.class_by, "") for record in records}
-        self.names, self.colors = [], []
+        self.named = []  # (name, colour) of each
         if asked.class_by is None and (asked.classes or asked.ranges or asked.palette):
             raise MapError(f"{asked.path}: --class, --ranges and --palette need --class-by and an attribute")
         if asked.ranges:
-            between = [f"{a:g} to {b:g}" for a, b in zip(asked.ranges, asked.ranges[1:])]
-            self.names = [f"under {asked.ranges[0]:g}", *between, f"{asked.ranges[-1]:g} and more"]
-            self.colors = shades(asked.palette or "heat", len(self.names))
+            between = [f"{a:g} to {b:g}" for a, b in pairwise(asked.ranges)]
+            names = [f"under {asked.ranges[0]:g}", *between, f"{asked.ranges[-1]:g} and more"]
+            self.named = shaded(names, asked.palette or "heat")
         elif asked.classes:
-            self.names = [texts.plain(name, notes, "--class") for name, _ in asked.classes]
-            self.colors = [shade for _, shade in asked.classes]
-            for name in self.names:
+            self.named = [(texts.plain(name, notes, "--class"), shade) for name, shade in asked.classes]
+            for name, _ in self.named:
                 if name not in values:
                     notes.add(f"{asked.path}: no feature has {asked.class_by} {name!r}")
         elif asked.class_by is not None:
-            self.names = sorted(values - {""})
-            if len(self.names) >= MOST_CLASSES:
-                raise MapError(f"{asked.path}: attribute {asked.class_by} has {len(self.names)} values, and "
+            names = sorted(values - {""})
+            if len(names) >= MOST_CLASSES:
+                raise MapError(f"{asked.path}: attribute {asked.class_by} has {len(names)} values, and "
                                f"a layer at most {MOST_CLASSES - 1} classes by value: name the most "
                                "important by --class, or cut numbers by --ranges")
-            self.colors = shades(asked.palette or "soft", len(self.names))
-        self.index = {name: i for i, name in enumerate(self.names)}
-        self.others = [record for record in records if self.of(record) == len(self.names)]
+            self.named = shaded(names, asked.palette or "soft")
+        self.index = {name: i for i, (name, _) in enumerate(self.named)}
+        self.others = [record for record in records if self.of(record) == len(self.named)]
         if asked.class_by is not None and self.others:
             notes.add(f"{asked.path}: features in no class of {asked.class_by} have --color",
                       self.others[0].place, len(self.others))
@@ -371,16 +364,14 @@ class Classes:
         """The index of the record's class, that behind the last for all others."""
         text = record.values.get(self.asked.class_by)
         index = range_of(text, self.asked.ranges) if self.asked.ranges else self.index.get(text)
-        return len(self.names) if index is None else index
+        return len(self.named) if index is None else index
 
     def drawn(self, kind, layer_name):
         asked, label = self.asked, None
         if asked.label is not None:
             label = Label(asked.label_color, asked.label_size, asked.label_position, asked.label_priority)
-        named = list(zip(self.names, self.colors))
-        if self.others or not named:
-            named.append((OTHER if named else layer_name, None))
-        return [Class(name, [style_of(kind, asked, shade)], label) for name, shade in named]
+        rest = [("other" if self.named else layer_name, None)] if self.others or not self.named else []
+        return [Class(name, [style_of(kind, asked, shade)], label) for name, shade in [*self.named, *rest]]
 
 
 def style_of(kind, asked, shade):
@@ -443,10 +434,9 @@ def the_map(common, notes):
     gdal.gdal.PushErrorHandler("CPLQuietErrorHandler")
     common.last_digit = DIGITS[common.crs] if common.digits is None else common.digits
     layers = [layer for asked in common.layers for layer in layers_of(gdal, asked, common, notes)]
-    name, title, abstract, address = (
-        texts.plain(text, notes, "the map's texts")
-        for text in (common.name, common.title or common.name, common.abstract, common.address))
-    made = Map(name, title, abstract, address, common.crs, common.last_digit, (), layers)
+    said = common.name, common.title or common.name, common.abstract, common.address
+    own_texts = [texts.plain(text, notes, "the map's texts") for text in said]
+    made = Map(*own_texts, common.crs, common.last_digit, (), layers)
     if common.extent is None and not made.parts():
         raise MapError("nothing is left to draw: write more --digits, or look at --where")
     sides = common.extent or [side / 10**common.last_digit for side in bounds(made.parts())]
@@ -467,12 +457,10 @@ def main():
             whole = fitting.Fitting(made, argparse.Namespace(apart=True, by_class=False))
             preview.write(common.preview, painter, made, written, partial(painter.source, whole))
     except (MapError, OSError) as error:
-        print(f"error: {error}", file=sys.stderr)
-        return 1
+        sys.exit(f"error: {error}")
     fitting.tell(written, notes)
     sys.stdout.buffer.write(written.text.encode())
-    return 0
 
 
 if __name__ == "__main__":
-    sys.exit(main())
+    main()

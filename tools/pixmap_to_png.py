@@ -20,29 +20,24 @@ def chunk(kind: bytes, data: bytes) -> bytes:
 
 def png(pixmap: bytes) -> bytes | None:
     """The PNG of a pixmap; None where it isn't a whole one."""
-    head = re.match(rb"P6\n(\d+) (\d+)\n255\n", pixmap)
-    if head is None:
+    found = re.fullmatch(rb"P6\n(\d+) (\d+)\n255\n(.*)", pixmap, re.DOTALL)
+    if found is None or len(found[3]) != 3 * int(found[1]) * int(found[2]):
         return None
-    width, height = int(head[1]), int(head[2])
-    rows = pixmap[head.end():]
-    if len(rows) != 3 * width * height:
-        return None
+    width, height, rows = int(found[1]), int(found[2]), found[3]
     lines = b"".join(b"\0" + rows[3 * width * row:3 * width * (row + 1)] for row in range(height))
     header = struct.pack(">IIBBBBB", width, height, 8, 2, 0, 0, 0)
     return b"\x89PNG\r\n\x1a\n" + chunk(b"IHDR", header) + chunk(b"IDAT", zlib.compress(lines, 9)) + chunk(
         b"IEND", b"")
 
 
-def main() -> int:
+def main() -> None:
     raw = argparse.RawDescriptionHelpFormatter
     argparse.ArgumentParser(description=__doc__, formatter_class=raw).parse_args()
     picture = png(sys.stdin.buffer.read())
     if picture is None:
-        print("error: standard input is no whole P6 pixmap of 8 bits a colour", file=sys.stderr)
-        return 1
+        sys.exit("error: standard input is no whole P6 pixmap of 8 bits a colour")
     sys.stdout.buffer.write(picture)
-    return 0
 
 
 if __name__ == "__main__":
-    sys.exit(main())
+    main()

@@ -45,7 +45,7 @@ class Plan:
         return " ".join([str(self.nodes), str(self.seconds), *words])
 
     def having(self, **kinds: int) -> "Plan":
-        return replace(self, kinds={**self.kinds, **{kind.replace("_", "-"): kinds[kind] for kind in kinds}})
+        return replace(self, kinds={**self.kinds, **kinds})
 
     def without(self, kind: str) -> "Plan":
         return replace(self, kinds={name: self.kinds[name] for name in self.kinds if name != kind})

@@ -20,7 +20,7 @@ from maps.errors import MapError
 
 
 def tried(asked):
-    """How many were tried, and how many of them were wrong."""
+    """Tries the cases and tells what is wrong. The status."""
     from maps_test import checks, constructs, odd_data, odd_mapfiles
     from maps_test.case import fault
 
@@ -29,19 +29,19 @@ def tried(asked):
     ways = [(name, way) for name, way in [*ways, *checks.CHECKS.items()]
             if not asked.names or any(wanted in name for wanted in asked.names)]
 
-    def wrong(way):
+    def wrong(entry):
+        name, way = entry
         with tempfile.TemporaryDirectory() as folder:
             try:
-                return way(Path(folder), asked.program, asked.keep)
+                what = way(Path(folder), asked.program, asked.keep)
             except MapError as error:
-                return str(error)
+                what = str(error)
+        return what and f"{name}: {what}"
 
     with ThreadPoolExecutor(os.cpu_count()) as workers:
-        found = list(workers.map(lambda entry: wrong(entry[1]), ways))
-    for (name, _), what in zip(ways, found):
-        if what:
-            print(f"{name}: {what}")
-    return len(ways), sum(map(bool, found))
+        found = list(filter(None, workers.map(wrong, ways)))
+    print(*found, f"{len(ways)} tried, {len(found)} wrong", sep="\n")
+    return int(bool(found))
 
 
 def main():
@@ -53,9 +53,7 @@ def main():
         of_debian(name)
     if asked.keep:
         asked.keep.mkdir(parents=True, exist_ok=True)
-    count, wrong = tried(asked)
-    print(f"{count} tried, {wrong} wrong")
-    return 1 if wrong else 0
+    return tried(asked)
 
 
 if __name__ == "__main__":

@@ -13,7 +13,7 @@ import subprocess
 import sys
 import tempfile
 
-from farmkit.command import lacks, program_parser, tell_missing
+from farmkit.command import need, program_parser
 from farmkit.nodes import Nodes
 from farmkit.processes import Replica
 from farmkit.repository import EXAMPLES
@@ -22,6 +22,7 @@ from farmkit.wanted import seconds_until
 
 RULES = EXAMPLES / "three" / "alerts.yml"
 DOCUMENT = EXAMPLES.parent / "docs" / "OPERATING.md"
+ALERTS = re.findall(r"alert: (\w+)", RULES.read_text())
 # what is told of two nodes and a replica that are well, and of another farm; and per alert what is told
 # otherwise. Behind the name of a metric stands of whom
 WELL = {
@@ -57,35 +58,30 @@ def series_of(short):
             f'{{job="{JOBS.get(instance, "wfarm-county")}",instance="{instance}"{more}}}')
 
 
-def case_of(alerts, series):
-    """A test of promtool: after ten minutes of these samples no alert is there but these."""
-    return {"interval": "15s",
+def has_only(alerts, series, file):
+    """Whether after ten minutes of these samples no alert is there but these, by a test of promtool's in this
+    file; and what it says."""
+    case = {"interval": "15s",
             "input_series": [{"series": series_of(name), "values": f"{value}x60"}
                              for name, value in series.items()],
             "alert_rule_test": [{"eval_time": "10m", "alertname": name, "exp_alerts": []}
-                                for name in re.findall(r"alert: (\w+)", RULES.read_text())
-                                if name not in alerts]}
+                                for name in ALERTS if name not in alerts]}
+    file.write_text(json.dumps({"rule_files": [str(RULES)], "evaluation_interval": "15s", "tests": [case]}))
+    code, told = promtool("test", "rules", file)
+    return code == 0, told
 
 
 def try_rules(trial, _, folder):
     code, told = promtool("check", "rules", RULES)
     trial.see("promtool takes the rules", code == 0, told)
-    names = set(re.findall(r"alert: (\w+)", RULES.read_text()))
-    trial.see("each alert has a case", names == set(CASES), names ^ set(CASES))
+    trial.see("each alert has a case", set(ALERTS) == set(CASES), set(ALERTS) ^ set(CASES))
     file = folder / "cases.yml"
-
-    def passes(alerts, series):
-        file.write_text(json.dumps({"rule_files": [str(RULES)], "evaluation_interval": "15s",
-                                    "tests": [case_of(alerts, series)]}))
-        return promtool("test", "rules", file)
-
-    code, told = passes(set(), WELL)
-    trial.see("no alert where all is well", code == 0, told)
+    trial.see("no alert where all is well", *has_only(set(), WELL, file))
     for name, otherwise in CASES.items():
-        others = {name} | ALONG.get(name, set())
-        code, told = passes(others, {**WELL, **otherwise})
-        is_there = all(passes(others - {each}, {**WELL, **otherwise})[0] != 0 for each in others)
-        trial.see(f"{name}, and no other", code == 0 and is_there, told)
+        series, alerts = {**WELL, **otherwise}, {name} | ALONG.get(name, set())
+        holds, told = has_only(alerts, series, file)
+        are_there = not any(has_only(alerts - {each}, series, file)[0] for each in alerts)
+        trial.see(f"{name}, and no other", holds and are_there, told)
 
 
 def metrics_of(process):
@@ -125,8 +121,7 @@ def try_rejection(trial, program, folder):
 
 def main():
     options, trial = program_parser(__doc__).parse_args(), Trial()
-    if lacking := lacks("promtool"):
-        return tell_missing(lacking)
+    need("promtool")
     with tempfile.TemporaryDirectory(prefix="wfarm-alerts-") as folder:
         for attempt in (try_rules, try_metrics, try_rejection):
             attempt(trial, options.program, pathlib.Path(folder))

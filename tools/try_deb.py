@@ -17,22 +17,24 @@ import tempfile
 
 import make_deb
 import stamp
-from farmkit.command import add_program, lacks, parser, tell_missing
+from farmkit.command import need, program_parser
 from farmkit.documents import Document, links_of
 from farmkit.trial import Trial
 
 
 class Root(Trial):
+    """A Debian in a folder, and what was seen in it."""
+
     def __init__(self, path):
         super().__init__()
-        self.path, self.revision = path, stamp.revision_now()
+        self.path = path
 
-    def inside(self, *words, **settings):
-        return subprocess.run(["chroot", str(self.path), *words], capture_output=True, text=True, **settings)
+    def chroot(self, *words):
+        return subprocess.run(["chroot", str(self.path), *words], capture_output=True, text=True)
 
-    def install(self, package):
-        shutil.copy(package, self.path / "tmp")
-        return self.inside("dpkg", "--install", "/tmp/" + package.name)
+    def see_done(self, what, ran, holds=True):
+        """What a command did, where it holds too; else its errors."""
+        self.see(what, ran.returncode == 0 and holds, ran.stderr)
 
 
 def package(program, version, folder):
@@ -74,10 +76,10 @@ def look_inside(root, package):
     root.see("BUILD has the program's SHA-256", f"program   SHA-256 {digest}\n" in build)
     known = re.search(r"(?m)^revision  ([0-9a-f]{40})$", build)
     root.see("BUILD has the revision, where it is known",
-             (known[1] if known else stamp.UNKNOWN) == root.revision)
-    checked = subprocess.run(["sha256sum", "--check", package.name + ".sha256"], cwd=package.parent,
-                             capture_output=True)
-    root.see("the package has the SHA-256 that stands beside it", checked.returncode == 0)
+             (known[1] if known else stamp.UNKNOWN) == stamp.revision_now())
+    root.see_done("the package has the SHA-256 that stands beside it",
+                  subprocess.run(["sha256sum", "--check", package.name + ".sha256"], cwd=package.parent,
+                                 capture_output=True))
 
 
 def lint(root, package):
@@ -91,16 +93,17 @@ def lint(root, package):
 
 def attempt(root, program, folder):
     made = package(program, make_deb.version_now(), folder)
-    root.see("the package is installed", root.install(made).returncode == 0)
+    shutil.copy(made, root.path / "tmp")
+    root.see_done("the package is installed", root.chroot("dpkg", "--install", f"/tmp/{made.name}"))
     look_inside(root, made)
     lint(root, made)
-    told = root.inside("wfarm", "--version").stdout
+    told = root.chroot("wfarm", "--version").stdout
     root.see(f"the program prints its version and revision: {told.strip()}",
-             told == f"wfarm 0.1.0 (revision {root.revision})\n")
-    root.see("dpkg finds each file as it was packed", root.inside("dpkg", "--verify", "wfarm").stdout == "")
+             told == f"wfarm 0.1.0 (revision {stamp.revision_now()})\n")
+    root.see("dpkg finds each file as it was packed", root.chroot("dpkg", "--verify", "wfarm").stdout == "")
     root.see("the user's folder is there",
-             root.inside("stat", "--format=%U", "/var/lib/wfarm").stdout == "wfarm\n")
-    root.see("it is purged", root.inside("dpkg", "--purge", "wfarm").returncode == 0)
+             root.chroot("stat", "--format=%U", "/var/lib/wfarm").stdout == "wfarm\n")
+    root.see_done("it is purged", root.chroot("dpkg", "--purge", "wfarm"))
     root.see("the program is gone", not (root.path / "usr/bin/wfarm").exists())
 
 
@@ -115,21 +118,19 @@ def debian(root, path, included):
 
 def words(document):
     """What a trial of the package is asked for, by its docstring."""
-    asked = parser(document)
-    add_program(asked)
+    asked = program_parser(document)
     asked.add_argument("--root", metavar="DIR", help="a Debian that is there, copied from; else one is made")
     return asked
 
 
-def missing(options, *programs):
-    """What isn't here of what a trial of the package wants."""
-    return lacks("dpkg-deb", *programs, *([] if options.root else ["debootstrap"]), root=True)
+def need_here(options, *programs):
+    """Ends a trial of the package where something isn't here that it wants."""
+    need("dpkg-deb", *programs, *([] if options.root else ["debootstrap"]), root=True)
 
 
 def main():
     options = words(__doc__).parse_args()
-    if lacking := missing(options):
-        return tell_missing(lacking)
+    need_here(options)
     with tempfile.TemporaryDirectory() as folder:
         path = pathlib.Path(folder) / "root"
         debian(options.root, path, "python3-minimal,adduser,python3")

@@ -5,6 +5,7 @@ serves.
 Wants nginx and Leaflet for the page.
 """
 
+import os
 import pathlib
 import re
 import signal
@@ -16,7 +17,7 @@ import time
 import urllib.request
 
 from farmkit import trial
-from farmkit.command import lacks, program_parser, tell_missing
+from farmkit.command import need, program_parser
 from farmkit.processes import children, free_ports
 from farmkit.repository import TOP
 
@@ -29,31 +30,28 @@ class Trial(trial.Trial):
         super().__init__()
         self.words, self.folder = [sys.executable, str(DEMO), "--program", program], folder
 
-    def run(self, *words):
-        """How it ends by itself; where it doesn't, it is ended, so that its nodes are too."""
-        process = subprocess.Popen([*self.words, *words], cwd=self.folder, stdout=subprocess.PIPE,
-                                   stderr=subprocess.PIPE, text=True)
+    def begin(self, port, *words):
+        return subprocess.Popen([*self.words, "--port", str(port), *words], cwd=self.folder,
+                                stdout=subprocess.PIPE, stderr=subprocess.PIPE, text=True)
+
+    def check(self, port):
+        """How `--check` ends, its status and what it says of errors; where it doesn't end by itself, it is
+        ended, so that its nodes are too."""
+        process = self.begin(port, "--check")
         try:
-            told = process.communicate(timeout=PATIENCE)
+            _, error = process.communicate(timeout=PATIENCE)
         except subprocess.TimeoutExpired:
             process.terminate()
-            told = process.communicate()
-        return subprocess.CompletedProcess(process.args, process.returncode, *told)
+            _, error = process.communicate()
+        return process.returncode, error
 
     def start(self, port):
         """Starts it, and waits until it serves: the process, and what it wrote."""
-        process = subprocess.Popen([*self.words, "--port", str(port)], cwd=self.folder,
-                                   stdout=subprocess.PIPE, stderr=subprocess.PIPE, text=True)
+        process = self.begin(port)
         told = ""
         while "serving until" not in told and (line := process.stdout.readline()):
             told += line
         return process, told
-
-
-def nodes_of(process):
-    """The process numbers of the nodes that it started."""
-    return [number for number in children(process.pid)
-            if b"\0node\0" in pathlib.Path(f"/proc/{number}/cmdline").read_bytes()]
 
 
 def try_serving(trial, port):
@@ -73,10 +71,11 @@ def try_serving(trial, port):
 
 
 def try_ended_node(trial, port):
-    process, told = trial.start(port)
-    node = nodes_of(process)[1]
+    process, _ = trial.start(port)
+    nodes = [number for number in children(process.pid)
+             if b"\0node\0" in pathlib.Path(f"/proc/{number}/cmdline").read_bytes()]
     begun = time.monotonic()
-    subprocess.run(["kill", "-9", str(node)], check=True)
+    os.kill(nodes[1], signal.SIGKILL)
     code, error = process.wait(PATIENCE), process.stderr.read()
     trial.see("it ends at once where a node ended, with a line", code == 1
               and re.fullmatch(r"demo: node \d ended with status -9.*\n", error)
@@ -85,24 +84,20 @@ def try_ended_node(trial, port):
 
 def main():
     options = program_parser(__doc__).parse_args()
-    if lacks("nginx"):
-        return tell_missing(lacks("nginx"))
+    need("nginx")
     with tempfile.TemporaryDirectory(prefix="wfarm-try-demo-") as name:
-        folder = pathlib.Path(name)
-        seen = Trial(options.program, folder)
-        port = free_ports(1)[0]
-        ran = seen.run("--check", "--port", str(port))
-        seen.see("--check", ran.returncode == 0 and (folder / "demo.png").exists(), ran.stderr)
+        seen, (port,) = Trial(options.program, pathlib.Path(name)), free_ports(1)
+        code, error = seen.check(port)
+        seen.see("--check", code == 0 and (seen.folder / "demo.png").exists(), error)
         try_serving(seen, port)
         try_ended_node(seen, port)
         for taken in (port + 12, port + 30):
             with socket.create_server(("127.0.0.1", taken)):
                 begun = time.monotonic()
-                ran = seen.run("--check", "--port", str(port))
-                line = f"demo: port {taken} can't be had"
-                is_told = ran.stderr.startswith(line) and ran.stderr.count("\n") == 1
-                seen.see("it ends at once where a port is taken, with a line",
-                         ran.returncode == 1 and is_told and time.monotonic() - begun < 5, ran.stderr)
+                code, error = seen.check(port)
+                seen.see("it ends at once where a port is taken, with a line", code == 1
+                         and re.fullmatch(f"demo: port {taken} can't be had.*\n", error)
+                         and time.monotonic() - begun < 5, error)
     return seen.conclude()
 
 

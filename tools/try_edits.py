@@ -18,39 +18,29 @@ rejected.
 
 import pathlib
 import re
-import shutil
 import subprocess
 import sys
 import tempfile
-from typing import NamedTuple
 
 from farmkit.command import parser as parser_of
-from farmkit.repository import TOP, changed_files, dependencies
+from farmkit.repository import TOP, changed_files, copy_crates, dependencies
 
 CRATES = TOP / "crates"
 
 
-class Mutant(NamedTuple):
-    """An edit of a crate's code that the prover has to reject."""
-
-    name: str
-    text: str
-
-
 def mutants_of(folder, only_by_hand=False):
-    """The mutants of a crate: CI's first, then those of its table."""
+    """The names and edits of a crate's mutants: CI's first, then those of its table."""
     by_ci = [] if only_by_hand else sorted((folder / "must-fail").glob("*.edit"))
     table = folder / "must-fail" / "by-hand.edits.md"
     blocks = re.split(r"\n{2,}", table.read_text().strip()) if table.exists() else []
     rest = [block.removeprefix("mutant: ").partition("\n") for block in blocks]
-    return [*(Mutant(it.stem, it.read_text()) for it in by_ci),
-            *(Mutant(name, text + "\n") for name, _, text in rest)]
+    return [*((it.stem, it.read_text()) for it in by_ci), *((name, text + "\n") for name, _, text in rest)]
 
 
-def fault_of(mutant, folder):
+def fault_of(edit, folder):
     """Why a mutant can't be applied to the code as it is; nothing where it can."""
     path, old, texts = "", "", {}
-    for line in mutant.text.splitlines():
+    for line in edit.splitlines():
         word, _, rest = line.partition(":")
         rest = rest.removeprefix(" ")
         if word == "file":
@@ -69,8 +59,8 @@ def fault_of(mutant, folder):
 
 def unapplied(chosen):
     """Prints which of these mutants, by crates, don't apply. How many."""
-    wrong = [f"{name} {mutant.name}: {why}" for name, mutants in chosen.items() for mutant in mutants
-             if (why := fault_of(mutant, CRATES / name))]
+    wrong = [f"{name} {mutant}: {why}" for name, mutants in chosen.items() for mutant, edit in mutants
+             if (why := fault_of(edit, CRATES / name))]
     print("\n".join([*wrong, f"{sum(map(len, chosen.values()))} mutants, {len(wrong)} do not apply"]))
     return len(wrong)
 
@@ -78,14 +68,12 @@ def unapplied(chosen):
 def rejected(chosen):
     """How many of these mutants, by crates, `rt must-fail` rejects, in a copy that has them as files."""
     with tempfile.TemporaryDirectory(prefix="try-edits-", dir=TOP.parent) as room:
-        for name in ("crates.txt", "HANDLES"):
-            shutil.copy(TOP / name, room)
-        shutil.copytree(CRATES, f"{room}/crates", ignore=shutil.ignore_patterns("out", "must-fail"))
+        copy_crates(pathlib.Path(room), "must-fail")
         for name, mutants in chosen.items():
             folder = pathlib.Path(room) / "crates" / name / "must-fail"
             folder.mkdir()
-            for mutant in mutants:
-                (folder / f"{mutant.name}.edit").write_text(mutant.text)
+            for mutant, edit in mutants:
+                (folder / f"{mutant}.edit").write_text(edit)
         count = 0
         words = ["rt", "must-fail", *chosen]
         with subprocess.Popen(words, cwd=room, stdout=subprocess.PIPE, text=True) as process:
@@ -109,9 +97,9 @@ def main() -> int:
     if not set(names) <= dependencies().keys() or not (given.crate or given.changed or given.applies):
         parser.error("name a crate of crates.txt, --changed or --applies")
     chosen = {name: [it for it in mutants_of(CRATES / name, given.by_hand)
-                     if not given.names or it.name in given.names] for name in names}
+                     if not given.names or it[0] in given.names] for name in names}
     chosen = {name: mutants for name, mutants in chosen.items() if mutants}
-    if lost := {*given.names} - {it.name for mutants in chosen.values() for it in mutants}:
+    if lost := {*given.names} - {mutant for mutants in chosen.values() for mutant, _ in mutants}:
         parser.error(f"no mutant is named {', '.join(sorted(lost))}")
     if given.applies:
         return 1 if unapplied(chosen) else 0

@@ -5,14 +5,15 @@ anew at the same addresses while nginx and its clients go on isn't shown with th
 Wants nginx and openssl.
 """
 
+import contextlib
 import pathlib
 import sys
 import tempfile
 import time
 
 from farmkit import mapfiles, trial
-from farmkit.command import lacks, program_parser, tell_missing
-from farmkit.nginx import Nginx, certificate, changed, whole
+from farmkit.command import need, program_parser
+from farmkit.nginx import Nginx
 from farmkit.nodes import Nodes
 
 RED, BLUE = "255 0 0", "0 0 255"
@@ -20,47 +21,41 @@ FIRST = mapfiles.PICTURE[1:] % 1
 PICTURE = FIRST.removesuffix("&MAPSEQ=1")
 
 
-def of_colour(colour):
-    return mapfiles.MAP.format(name="it", words="", color=colour).encode()
-
-
 class Trial(trial.Trial):
     def __init__(self, program, folder):
         super().__init__()
-        self.program, self.folder = program, folder
+        self.folder = folder
         self.nodes = Nodes(program, folder / "county", farm="county").init_all()
-        self.files = certificate(folder)
         self.nginx = Nginx(folder)
 
     def configuration(self, farm):
         """The example, with this farm's name in it."""
-        cert, key = self.files
         nodes = [(f"10.0.0.{number}:8080", node.clients) for number, node in enumerate(self.nodes.each, 1)]
-        site = changed(
-            "three/nginx.conf",
-            [("listen 443 ssl", f"listen 127.0.0.1:{self.nginx.port} ssl"),
-             ("server_name maps.county.example", "server_name _"), ("/etc/ssl/maps.county.example.pem", cert),
-             ("/etc/ssl/maps.county.example.key", key), ("/etc/ssl/county-publishers.pem", cert),
-             ("/var/cache/nginx/wfarm", f"{self.folder}/cache"), ("include /etc/nginx/wfarm/*.server;", ""),
-             ("default county;", f"default {farm};"), *nodes])
-        return whole(self.folder, site)
+        return self.nginx.site("three/nginx.conf", [
+            ("/etc/ssl/county-publishers.pem", self.nginx.certificate),
+            ("/var/cache/nginx/wfarm", f"{self.folder}/cache"), ("include /etc/nginx/wfarm/*.server;", ""),
+            ("default county;", f"default {farm};"), *nodes])
 
-    def begin(self, colour):
-        self.nodes.start_all()
-        self.publish(of_colour(colour))
-
-    def publish(self, text):
-        """Publishes a map at the first node, and waits until all have it."""
-        self.nodes.publish_all(text)
-
-    def anew(self, farm):
-        """A new farm at the addresses of the old one."""
-        self.nodes.end()
-        self.nodes = Nodes(self.program, self.folder / farm, farm=farm, ports=self.nodes.ports).init_all()
+    def publish(self, colour):
+        """Publishes a map of this colour at the first node, and waits until all have it."""
+        self.nodes.publish_all(mapfiles.MAP.format(name="it", words="", color=colour).encode())
 
     def shows(self, colour, path=FIRST, **headers):
         body = self.nginx.ask(path, **headers)[2]
         return body.endswith(bytes(map(int, colour.split())) * 64)
+
+
+@contextlib.contextmanager
+def behind_nginx(program):
+    """A trial of nginx before three nodes, of which nothing runs yet, and behind it nothing any more."""
+    with tempfile.TemporaryDirectory(prefix="wfarm-nginx-") as folder:
+        pathlib.Path(folder).chmod(0o777)
+        seen = Trial(program, pathlib.Path(folder))
+        try:
+            yield seen
+        finally:
+            seen.nginx.end()
+            seen.nodes.end()
 
 
 def try_kept(seen):
@@ -74,7 +69,7 @@ def try_kept(seen):
     status, headers, body = seen.nginx.ask(PICTURE + "&MAPSEQ=2")
     seen.see("an exception has none, and isn't kept", b"Exception" in body and headers["ETag"] is None
              and headers["Cache-Control"] == "no-store", headers)
-    seen.publish(of_colour(BLUE))
+    seen.publish(BLUE)
     seen.see("the sequence that is published later is shown", seen.shows(BLUE, PICTURE + "&MAPSEQ=2"))
     seen.see("the first one stays", seen.shows(RED))
     time.sleep(2.1)
@@ -85,8 +80,10 @@ def try_kept(seen):
 
 
 def try_anew(seen):
-    seen.anew("county-2")
-    seen.begin(BLUE)
+    seen.nodes.end()
+    seen.nodes = Nodes(seen.nodes.program, seen.folder / "county-2", farm="county-2",
+                       ports=seen.nodes.ports).begin()
+    seen.publish(BLUE)
     seen.see("under the old name the old farm's picture comes", seen.shows(RED))
     seen.nginx.reload(seen.configuration("county-2"))
     told = seen.nginx.ask("wms?SERVICE=WMS&REQUEST=GetCapabilities&UPDATESEQUENCE=2")[2]
@@ -99,19 +96,13 @@ def try_anew(seen):
 
 def main():
     options = program_parser(__doc__).parse_args()
-    if lacks("nginx", "openssl"):
-        return tell_missing(lacks("nginx", "openssl"))
-    with tempfile.TemporaryDirectory(prefix="wfarm-nginx-") as folder:
-        pathlib.Path(folder).chmod(0o777)
-        seen = Trial(options.program, pathlib.Path(folder))
-        try:
-            seen.begin(RED)
-            seen.nginx.start(seen.configuration("county"))
-            for attempt in (try_kept, try_anew):
-                attempt(seen)
-        finally:
-            seen.nginx.end()
-            seen.nodes.end()
+    need("nginx", "openssl")
+    with behind_nginx(options.program) as seen:
+        seen.nodes.start_all()
+        seen.publish(RED)
+        seen.nginx.start(seen.configuration("county"))
+        try_kept(seen)
+        try_anew(seen)
     return seen.conclude()
 
 

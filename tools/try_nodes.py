@@ -31,7 +31,7 @@ from farmkit.trial import go_through
 from farmkit.wanted import PATIENCE, until, want, want_none
 from farmkit.web import connect, loopback, received
 from trials_of_nodes import differing_histories, halted_nodes, replaced_machines, returned_folders
-from trials_of_nodes.returned_folders import suspension
+from trials_of_nodes.returned_folders import WATCHED, suspension
 
 
 def publish(nodes):
@@ -81,7 +81,7 @@ def pieces(nodes):
 
 
 def median(nodes):
-    answers = [timed(nodes.get, 0, "/status") for _ in range(40)]
+    answers = [timed(nodes[0].ask, "/status") for _ in range(40)]
     want("no answer", all(answer.status == 200 for answer, _ in answers))
     return round(statistics.median(took for _, took in answers), 1)
 
@@ -169,7 +169,7 @@ def dual(nodes):
     """nodes that listen at [::], and whose peers are listed by addresses of IPv4"""
     if not socket.has_dualstack_ipv6():
         return "left out: no IPv6 here"
-    nodes.kill_all()
+    nodes.end()
     for i in range(NODES):
         nodes.start(i, more=("--listen", f"[::]:{nodes.peer[i]}"))
     until(lambda: all(nodes[i].metrics().get("wfarm_peers_connected") == NODES - 1 for i in range(NODES)))
@@ -217,7 +217,7 @@ def forged(nodes):
 
 def forgot(nodes):
     """a node with an old copy of its folder or a new one, a clone, and the folder that has all once a copy of
-    it was started, are suspended until they are cleared"""
+    it was started, are suspended until an operator clears each stopped node's folder by `wfarm clear`"""
     nodes.publish_all(*(a_map(f"first{k}") for k in range(4)))
     nodes.kill(2)
     shutil.copytree(nodes[2].folder, nodes.folder / "old")
@@ -236,13 +236,14 @@ def forgot(nodes):
     for i in range(NODES):
         nodes[i].clear()
         nodes.start(i)
-    until(lambda: all(nodes.health(i)[0] == 200 for i in range(NODES)))
+    until(lambda: all(nodes[i].health()[0] == 200 for i in range(NODES)), WATCHED)
+    nodes.publish_whole(2, a_map("after"))
     nodes.level()
     shutil.copytree(nodes[2].folder, nodes.folder / "clone")
     with nodes.beside(2, nodes.folder / "clone") as clone:
         clone.start()
         want_none(suspension(nodes, 2, PATIENCE))
-        said.append(nodes.health(2)[1])
+        said.append(nodes[2].health()[1])
     return "; ".join(said)
 
 
@@ -253,7 +254,7 @@ def suspended_on(nodes, folder, name):
     nodes.start(2)
     wrong = suspension(nodes, 2)
     want(f"{name}: {', '.join(wrong)}", not wrong)
-    told = nodes.health(2)[1]
+    told = nodes[2].health()[1]
     nodes.kill(2)
     return told
 

@@ -9,20 +9,19 @@ a Debian made before (debootstrap with the packages of INCLUDED), copied from; e
 is from the older program, where one is given. Wants root, debootstrap, systemd-container, iproute2.
 """
 
-import collections
 import pathlib
 import re
 import shutil
 import subprocess
 import sys
 import tempfile
-import threading
 import time
 
 import make_deb
-from farmkit.command import tell_missing
+from farmkit.processes import run
 from farmkit.repository import TOP
-from try_deb import debian, missing, package, words
+from farmkit.trial import meanwhile
+from try_deb import debian, need_here, package, words
 from try_units import Container
 
 INCLUDED = ("systemd,systemd-sysv,dbus,python3,python3-minimal,adduser,procps,iproute2,nginx-light,curl,sudo,"
@@ -73,24 +72,19 @@ class Machine(Container):
         self.file(path).write_text(text)
 
 
-class Page:
-    """The page: the blocks of commands under its headings."""
-
-    def __init__(self):
-        self.sections = {}
-        for section in re.split(r"(?m)^## ", PAGE.read_text())[1:]:
-            heading, body = section.split("\n", 1)
-            blocks = re.findall(r"```sh\n(.*?)```", body, re.DOTALL)
-            self.sections[heading] = [[line.split("  #")[0].strip() for line in block.strip().splitlines()]
-                                      for block in blocks]
-
-    def block(self, heading, number=0):
-        return self.sections[heading][number]
+def blocks_of_page():
+    """The blocks of commands under each heading of the page."""
+    found = {}
+    for section in re.split(r"(?m)^## ", PAGE.read_text())[1:]:
+        heading, body = section.split("\n", 1)
+        found[heading] = [[line.split("  #")[0].strip() for line in block.strip().splitlines()]
+                          for block in re.findall(r"```sh\n(.*?)```", body, re.DOTALL)]
+    return found
 
 
 class Walk:
     def __init__(self, folder, root, program, older):
-        self.folder, self.root, self.page = pathlib.Path(folder), root, Page()
+        self.folder, self.root, self.page = pathlib.Path(folder), root, blocks_of_page()
         self.old, self.new = package(older, "0.0.9", folder), package(program, make_deb.version_now(), folder)
         self.machines, self.nodes = [], []
 
@@ -124,19 +118,22 @@ class Walk:
 
     def follow(self, machine, heading, block=0, number=0):
         """Does the commands of a block, as those of a node: what the last one writes."""
-        return [machine.do(self.as_node(command, number)) for command in self.page.block(heading, block)][-1]
+        return [machine.do(self.as_node(command, number)) for command in self.page[heading][block]][-1]
 
     def install(self, machine, package_file):
         """The page's installation, of this package."""
-        machine.do(re.sub(r"wfarm_\S+\.deb", package_file.name, self.page.block("Begin")[0]))
+        machine.do(re.sub(r"wfarm_\S+\.deb", package_file.name, self.page["Begin"][0][0]))
 
     def status_is_well(self, farm="/etc/wfarm/nodes"):
         return lambda: self.first.inside("wfarmctl", "--farm", farm, "status").returncode == 0
 
+    def status_lines(self):
+        return self.first.inside("wfarmctl", "status").stdout.splitlines()
+
     def prepare(self, machine, number, package_file, makes_folder=True):
         """"Begin" up to the start of the node, perhaps without its folder."""
         self.install(machine, package_file)
-        for command in self.page.block("Begin")[1:-1]:
+        for command in self.page["Begin"][0][1:-1]:
             if makes_folder or "/var/lib" not in command:
                 machine.do(self.as_node(command, number))
         machine.edit(f"/etc/wfarm/node-{number}.conf",
@@ -147,12 +144,12 @@ class Walk:
         for number, machine in enumerate(self.nodes):
             self.prepare(machine, number, self.old)
         for number, machine in enumerate(self.nodes):
-            machine.do(self.as_node(self.page.block("Begin")[-1], number))
+            machine.do(self.as_node(self.page["Begin"][0][-1], number))
         self.first.wait("wfarmctl status finds all well", self.status_is_well())
 
     def publish(self):
         """"Publish, and go back"."""
-        publish, history, get, diff, rollback = self.page.block("Publish, and go back")
+        publish, history, get, diff, rollback = self.page["Publish, and go back"][0]
         for name in ("county", "roads"):
             self.first.do(f"cp {EXAMPLES}/{name}.map /root/county.map")
             told = self.first.do(publish)
@@ -209,11 +206,9 @@ class Walk:
     def upgrade(self):
         """"Upgrade": one machine after the other, while clients ask; what status shows meanwhile."""
         for number, machine in enumerate((*self.nodes, self.renderer)):
-            states = Meanwhile(lambda: [line[STATE_COLUMN:].strip() for line in self.first.inside(
-                "wfarmctl", "status").stdout.splitlines()[1:]])
-            self.install(machine, self.new)
-            machine.wait("all are well", self.status_is_well())
-            seen = states.stop()
+            with meanwhile(lambda: [line[STATE_COLUMN:].strip() for line in self.status_lines()[1:]]) as seen:
+                self.install(machine, self.new)
+                machine.wait("all are well", self.status_is_well())
             told = machine.inside("wfarm", "--version").stdout.strip()
             machine.see(f"after the upgrade of {'the replica' if number == 3 else f'node {number}'} "
                         f"({told}); status showed {', '.join(sorted(seen))}",
@@ -222,9 +217,8 @@ class Walk:
 
     def while_clients_ask(self, step):
         """Goes a step, in which no client may get an error."""
-        clients = Meanwhile(lambda: [self.has_picture()])
-        step()
-        answers = clients.stop()
+        with meanwhile(lambda: [self.has_picture()]) as answers:
+            step()
         self.renderer.see(f"clients got {answers[True]} pictures meanwhile, and {answers[False]} errors",
                           answers[True] and not answers[False])
 
@@ -242,7 +236,7 @@ class Walk:
         health = ["curl", "--silent", f"{NODES[1]}:9090/healthz"]
         new.wait("it joins", lambda: new.inside(*health).stdout.startswith("joins, "))
         time.sleep(AGREES_AFTER)
-        self.first.do(f"echo node 1 | {self.page.block(heading, 1)[0]} --publish")
+        self.first.do(f"echo node 1 | {self.page[heading][1][0]} --publish")
         self.first.wait("all are well", self.status_is_well())
         counts = [machine.property(f"wfarm-node@{number}", "NRestarts")
                   for number, machine in enumerate(self.nodes)]
@@ -260,7 +254,7 @@ class Walk:
         for machine in (*self.nodes, self.renderer):
             self.follow(machine, heading, 2)
         self.follow(self.renderer, heading, 3)
-        begin, restart, restart_replica = self.page.block(heading, 4)
+        begin, restart, restart_replica = self.page[heading][4]
         new.do(begin)
         for number in (0, 1):
             self.nodes[number].do(self.as_node(restart, number))
@@ -272,8 +266,8 @@ class Walk:
 
     def answers(self, number):
         """Whether `wfarmctl status` reaches a node."""
-        lines = self.first.inside("wfarmctl", "status").stdout.splitlines()
-        return any(line.startswith(f"node {number} ") and "unreachable" not in line for line in lines)
+        return any(line.startswith(f"node {number} ") and "unreachable" not in line
+                   for line in self.status_lines())
 
     def second_farm(self):
         """"Two farms"."""
@@ -289,24 +283,6 @@ class Walk:
                           and not self.has_picture(ROADS, OTHER_SITE))
         for number, machine in enumerate(self.nodes):
             machine.do(f"systemctl disable --now wfarm-node@roads-{number}")
-
-
-class Meanwhile(threading.Thread):
-    """Calls something again and again until it is stopped, and counts what it returned."""
-
-    def __init__(self, call):
-        super().__init__(daemon=True)
-        self.call, self.over, self.seen = call, threading.Event(), collections.Counter()
-        self.start()
-
-    def run(self):
-        while not self.over.wait(0.02):
-            self.seen.update(self.call())
-
-    def stop(self):
-        self.over.set()
-        self.join()
-        return self.seen
 
 
 def begin_anew(walk):
@@ -346,30 +322,22 @@ def attempt(walk):
     begin_anew(walk)
 
 
-def bridge(wanted):
-    """Makes the bridge between the hosts, or removes it."""
-    if wanted:
-        bridge(False)
-        subprocess.run(["ip", "link", "add", BRIDGE, "type", "bridge"], check=True)
-        subprocess.run(["ip", "link", "set", BRIDGE, "up"], check=True)
-    else:
-        subprocess.run(["ip", "link", "delete", BRIDGE], check=False, capture_output=True)
-
-
 def walk_through(options, folder):
     root = options.root
     if root is None:
         root = pathlib.Path(folder) / "debian"
         debian(None, root, INCLUDED)
     walk = Walk(folder, root, options.program, options.older or options.program)
-    bridge(True)
+    run("ip", "link", "delete", BRIDGE, check=False)
+    run("ip", "link", "add", BRIDGE, "type", "bridge")
+    run("ip", "link", "set", BRIDGE, "up")
     try:
         if walk.boot():
             attempt(walk)
     finally:
         for machine in walk.machines:
             machine.stop()
-        bridge(False)
+        run("ip", "link", "delete", BRIDGE, check=False)
     return walk.wrong()
 
 
@@ -377,8 +345,7 @@ def main():
     asked = words(__doc__)
     asked.add_argument("--older", metavar="PROGRAM", help="the program before the upgrade; else the same")
     options = asked.parse_args()
-    if lacking := missing(options, "systemd-nspawn", "nsenter", "ip"):
-        return tell_missing(lacking)
+    need_here(options, "systemd-nspawn", "nsenter", "ip")
     with tempfile.TemporaryDirectory(prefix="wfarm-pages-") as folder:
         wrong = walk_through(options, folder)
     print(f"{wrong} wrong")

@@ -6,10 +6,9 @@ of `crates/wf_test_simulation`.
 """
 
 import collections
-import os
+import itertools
 import random
 import re
-import selectors
 import shutil
 import subprocess
 import sys
@@ -19,21 +18,20 @@ import time
 from farmkit.command import add_cases, listed, program_parser
 from farmkit.mapfiles import PIXEL, map_of
 from farmkit.measure import percentile
-from farmkit.nodes import Nodes
+from farmkit.nodes import NODES, Nodes
 from farmkit.processes import UNSIGNALLED, Replica, free_ports, limited
 from farmkit.tapes import MOST_MAPS, tape_of
 from farmkit.trial import go_through
-from farmkit.wanted import is_so_within, until, want, want_none
+from farmkit.wanted import is_so_within, until, want
 from farmkit.web import Listener, connect, loopback
 
-VOTERS = 3
 PATIENCE = 60
 
 
 class Farm(Nodes):
     """Voters that run, three of them or so many, perhaps with this tape, and replicas of theirs."""
 
-    def __init__(self, options, top, name, tape=None, farm="tried", voters=VOTERS):
+    def __init__(self, options, top, name, tape=None, farm="tried", voters=NODES):
         super().__init__(options.program, top / name, voters, farm, has_readers=True)
         self.tape, self.replicas = tape, []
 
@@ -66,8 +64,9 @@ class Farm(Nodes):
 
 
 def ask_at(replica, sources):
-    """Starts a replica anew with other sources."""
+    """Starts a replica anew with other sources and an empty log."""
     replica.kill()
+    replica.log.write_bytes(b"")
     replica.words[replica.words.index("--peers") + 1] = ",".join(sources)
     replica.start()
 
@@ -122,38 +121,33 @@ class Repeater(Listener):
                 self.brought += len(reply) > 40
 
 
-def differences(farm, replica):
-    """What a replica has that no voter has. Asked for first, its sequence is no later."""
-    if replica.ended() is not None:
-        return [f"it has ended: {replica.last_line()}"]
+def compare(farm, replica):
+    """A replica has nothing that no voter has. Asked for first, its sequence is no later."""
+    want(f"{replica.known_as} has ended: {replica.last_line()}", replica.ended() is None)
     published, top = replica.published() or 0, farm.top()
-    if published > top:
-        return [f"it says published {published}, and the voters have {top}"]
+    want(f"{replica.known_as} says published {published}, and the voters have {top}", published <= top)
     voter = max(farm.each, key=lambda voter: voter.published() or 0)
-    return [f"another picture at {sequence}" for sequence in range(1, published + 1)
-            if replica.ask(PIXEL % sequence) != voter.ask(PIXEL % sequence)]
+    for sequence in range(1, published + 1):
+        want(f"{replica.known_as}: another picture at {sequence}",
+             replica.ask(PIXEL % sequence) == voter.ask(PIXEL % sequence))
 
 
-def follows(farm, replica, numbers, pause, is_enough=lambda: False):
-    """Publishes these maps until it is enough: what was wrong with a replica, and whether it has all."""
-    wrong = set(differences(farm, replica))
-    for number in numbers:
-        if wrong or is_enough():
-            break
+def follow(farm, replica, numbers, pause, is_enough=lambda: False):
+    """Publishes these maps until it is enough, which a replica has to get, and nothing else."""
+    compare(farm, replica)
+    for number in itertools.takewhile(lambda _: not is_enough(), numbers):
         farm.publish_numbers(number)
         time.sleep(pause)
-        wrong.update(differences(farm, replica))
+        compare(farm, replica)
     top = farm.top()
-    if not wrong and not is_so_within(lambda: replica.published() == top, 10):
-        wrong.add(f"ten seconds later it says published {replica.published()}, and the voters {top}")
-    wrong.update(differences(farm, replica))
-    return sorted(wrong)
+    is_level = is_so_within(lambda: replica.published() == top, 10)
+    want(f"{replica.known_as} hasn't published {top} ten seconds later, as the voters have", is_level)
+    compare(farm, replica)
 
 
 def twice(options, top):
     """a source that sends each reply twice, among three and alone: no map is published under two sequences,
     and the replica learns on"""
-    found = []
     with Farm(options, top, "twice") as farm:
         farm.publish_numbers(0)
         for name, others in (("alone", []), ("among three", farm.readers[1:])):
@@ -162,48 +156,39 @@ def twice(options, top):
             is_so_within(replica.published, 5)
             # a source that brings nothing for a second isn't asked again before the others
             first = farm.top()
-            wrong = follows(farm, replica, range(first, first + 30), 1.3, lambda: source.brought >= 3)
+            follow(farm, replica, range(first, first + 30), 1.3, lambda: source.brought >= 3)
             want("the source that repeats was never asked for maps", source.brought)
-            found += [f"{name}: {what}" for what in wrong]
             replica.kill()
             source.end()
-    want_none(found)
     print("twice: a source that sends each reply twice, alone and among three: followed")
 
 
 def foreign(options, top):
     """one source among three is of another farm, or of another history with fewer or more maps: it is skipped
     with a warning"""
-    found = []
-    theirs, others = Farm(options, top, "theirs", voters=1), Farm(options, top, "others", farm="others",
-                                                                  voters=1)
-    with Farm(options, top, "ours") as ours, theirs, others:
+    with (Farm(options, top, "ours") as ours, Farm(options, top, "theirs", voters=1) as theirs,
+          Farm(options, top, "others", farm="others", voters=1) as others):
         ours.publish_numbers(*range(3))
         others.publish_numbers(*range(3))
         theirs.publish_numbers(100)
         for name, farm in (("of another farm", others), ("of fewer maps", theirs), ("of more maps", theirs)):
             if name == "of more maps":
                 theirs.publish_numbers(*range(101, 131))
-            found += [f"{name}: {what}" for what in beside(ours, farm, f"beside one {name}")]
-    want_none(found)
+            follow_beside(ours, farm, f"a replica beside one {name}")
     print("foreign: one source among three of another farm, and of another history with fewer and more maps: "
           "skipped with a warning")
 
 
-def beside(ours, foreign_farm, name):
-    """What is wrong with a replica that has one source of another farm among three."""
+def follow_beside(ours, foreign_farm, name):
+    """A replica that has one source of another farm among three follows, and warns."""
     replica = ours.replica(name)
     until(lambda: replica.published() == ours.top(), 20)
-    replica.kill()
-    replica.log.write_bytes(b"")
     ask_at(replica, [ours.readers[0], *foreign_farm.readers, ours.readers[1]])
     is_so_within(lambda: replica.ended() is not None, 5)
     top = ours.top()
-    wrong = follows(ours, replica, range(top, top + 2), 1)
-    if ' warn lost source=1 why="refused by it: ' not in replica.log.read_text():
-        wrong.append("no warning about it")
+    follow(ours, replica, range(top, top + 2), 1)
+    want(f"{name}: no warning", ' warn lost source=1 why="refused by it: ' in replica.log.read_text())
     replica.kill()
-    return wrong
 
 
 # ---- tapes and chains
@@ -235,7 +220,6 @@ def begin_with(farm, replica, content, left, told):
     file.unlink(missing_ok=True)
     if content is not None:
         file.write_bytes(content)
-    replica.log.write_bytes(b"")
     ask_at(replica, map(loopback, free_ports(1)))
     want(f"not {left} maps without a source", is_so_within(lambda: replica.published() == left, 20))
     want(f"no line {told}", told in replica.log.read_text())
@@ -275,50 +259,33 @@ def chain(options, top):
 
 # ---- times
 
-class Lines(threading.Thread):
-    """The lines that processes write into pipes, each with the time at which it came."""
+def noted(process, seen):
+    """Starts a process anew, and notes each line of its log with the time at which it comes."""
+    def note():
+        for line in process.process.stderr:
+            seen.append((time.monotonic(), process, line))
 
-    def __init__(self):
-        super().__init__(daemon=True)
-        self.selector, self.seen, self.rests = selectors.DefaultSelector(), [], {}
-
-    def pipe(self, process):
-        """Starts a process that writes into a pipe."""
-        reader, writer = os.pipe()
-        self.rests[reader] = b""
-        process.start(stderr=writer)
-        os.close(writer)
-        self.selector.register(reader, selectors.EVENT_READ, process)
-
-    def run(self):
-        while True:
-            for key, _ in self.selector.select(1):
-                now, came = time.monotonic(), os.read(key.fd, 1 << 16)
-                if not came:
-                    self.selector.unregister(key.fd)
-                    os.close(key.fd)
-                *lines, self.rests[key.fd] = (self.rests[key.fd] + came).split(b"\n")
-                self.seen.extend((now, key.data, line.decode()) for line in lines)
+    process.kill()
+    process.start(stderr=subprocess.PIPE, text=True)
+    threading.Thread(target=note, daemon=True).start()
 
 
 def lag(options, top):
     """from a voter's publication until each replica has learned it, by their logs, in a quiet farm: p99 below
     100 ms"""
-    lines, draw, count = Lines(), random.Random(1), 300
+    seen, draw, count = [], random.Random(1), 300
     with Farm(options, top, "lag") as farm:
         replicas = farm.some(options.replicas)
         for process in farm.each + replicas:
-            process.kill()
-            lines.pipe(process)
-        lines.start()
+            noted(process, seen)
         for process in farm.each + replicas:
             until(lambda: process.published() is not None, PATIENCE)
         time.sleep(2)
         for number in range(1, count + 1):
-            farm.publish_whole(draw.randrange(VOTERS), map_of(number, 2_000))
+            farm.publish_whole(draw.randrange(NODES), map_of(number, 2_000))
             time.sleep(draw.uniform(0, 0.06))
         time.sleep(1)
-    lags = lags_in(lines.seen)
+    lags = lags_in(seen)
     print(f"lag: {count} maps at {len(replicas)} replicas: median {percentile(lags, 0.5):.0f} ms, p99 "
           f"{percentile(lags, 0.99):.0f} ms, most {max(lags):.0f} ms")
     want("a map didn't come", len(lags) == count * len(replicas))
@@ -368,7 +335,7 @@ def rest(options, top):
         replicas = farm.some(options.replicas)
         time.sleep(2)
         both = spent_by(farm.each + replicas, 10)
-    beside, own = both[:VOTERS], both[VOTERS:]
+    beside, own = both[:NODES], both[NODES:]
     print(f"rest: a voter costs {max(alone):.2f} % of a core alone, {max(beside):.2f} % with {len(replicas)} "
           f"replicas; a replica {max(own):.2f} %")
     want("replicas at rest cost two percent or more",

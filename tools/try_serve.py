@@ -18,47 +18,35 @@ import tempfile
 
 from farmkit.command import program_parser
 from farmkit.folder import contents
+from farmkit.mapfiles import GET_MAP, PIXEL, map_of, picture_of
 from farmkit.processes import UNSIGNALLED, Farm, limited, serve_words
 from farmkit.trial import Trial
 from farmkit.web import CAPABILITIES
 
-MAP = """MAP NAME "sq" EXTENT 0 0 4 4 PROJECTION "init=epsg:3857" END
-LAYER NAME sq TYPE POLYGON CLASS STYLE COLOR %s END END
-FEATURE POINTS 1 1 3 1 3 3 1 3 END END END END"""
-QUERY = ("VERSION=1.3.0&REQUEST=GetMap&LAYERS=sq&STYLES=&CRS=EPSG:3857&BBOX=0,0,4,4&WIDTH=4&HEIGHT=4"
-         "&FORMAT=image/x-portable-pixmap")
-
-
-def square(inside):
-    """The picture of MAP by QUERY, with this colour inside."""
-    white = b"\xff\xff\xff"
-    return b"P6\n4 4\n255\n" + 4 * white + 2 * (white + 2 * inside + white) + 4 * white
+NEWEST = PIXEL.removesuffix("&MAPSEQ=%d")
 
 
 def three_nodes(seen, program, folder):
     farm = Farm(program, 20, folder)
-    red, blue = (MAP % "255 0 0").encode(), (MAP % "0 0 255").encode()
-    seen.same("a publish", farm.ask("/publish", red), (202, b"accepted for 1\n"))
+    seen.same("a publish", farm.ask("/publish", map_of(7)), (202, b"accepted for 1\n"))
     for node, proposal in ((1, "none"), (2, "none"), (0, "published 1")):
         wanted = "node %d published 1 proposal %s\n" % (node, proposal)
         seen.same("node %d" % node, farm.ask("/status"), (200, wanted.encode()))
     documents = [farm.ask(CAPABILITIES) for _ in range(3)]
     seen.same("equal capabilities", documents.count(documents[0]), 3)
     seen.same("the sequence in them", b'updateSequence="1"' in documents[0][1], True)
-    pictures = [farm.ask("/wms?" + QUERY) for _ in range(3)]
-    seen.same("equal pictures", pictures, [(200, square(b"\xff\x00\x00"))] * 3)
-    seen.same("a second publish", farm.ask("/publish", blue), (202, b"accepted for 2\n"))
-    seen.same("the old map", farm.ask("/wms?%s&MAPSEQ=1" % QUERY), (200, square(b"\xff\x00\x00")))
-    seen.same("the new map", farm.ask("/wms?" + QUERY), (200, square(b"\x00\x00\xff")))
+    seen.same("equal pictures", [farm.ask(NEWEST) for _ in range(3)], [(200, picture_of(7))] * 3)
+    seen.same("a second publish", farm.ask("/publish", map_of(8)), (202, b"accepted for 2\n"))
+    seen.same("the old map", farm.ask(PIXEL % 1), (200, picture_of(7)))
+    seen.same("the new map", farm.ask(NEWEST), (200, picture_of(8)))
     seen.same("no map", farm.ask("/publish", b'MAP INCLUDE "x" END'), (400, b"M5 4\n"))
     seen.same("no such path", farm.ask("/x")[0], 404)
     seen.same("a publish by GET", farm.ask("/publish")[0], 405)
     seen.same("a map over the limit", farm.ask("/publish", b" " * 131_073)[0], 413)
     seen.same("one far over it", farm.ask("/publish", b" " * 200_000)[0], 413)
-    large = "/wms?" + QUERY.replace("WIDTH=4&HEIGHT=4", "WIDTH=200&HEIGHT=200")
     for more in (0, 20_000):
-        seen.same("a picture, %d bytes after the head" % more,
-                  len(farm.ask_with_more(large, more).partition(b"\r\n\r\n")[2]), 120_015)
+        told = farm.ask_with_more(GET_MAP.format(200) % 2, more)
+        seen.same("a picture, %d bytes after the head" % more, len(told.partition(b"\r\n\r\n")[2]), 120_015)
     farm.end()
     again = Farm(program, 3, folder)
     for node in range(3):
@@ -74,12 +62,12 @@ def start(program, folder, nodes=3, log=False):
     return ended.returncode, ended.stdout, ended.stderr
 
 
-def farm_with(program, folder, colors):
-    """A folder of three nodes with maps of these colours."""
+def farm_with(program, folder, *numbers):
+    """A folder of three nodes with the maps of these numbers."""
     folder.mkdir()
-    farm = Farm(program, 3 * len(colors), folder)
-    for color in colors:
-        farm.ask("/publish", (MAP % color).encode())
+    farm = Farm(program, 3 * len(numbers), folder)
+    for number in numbers:
+        farm.ask("/publish", map_of(number))
         farm.ask("/status")
         farm.ask("/status")
     farm.end()
@@ -87,9 +75,9 @@ def farm_with(program, folder, colors):
 
 def rejections(seen, program, folder):
     """Starts that are rejected for a cause, which the log names."""
-    farm_with(program, folder, ["255 0 0", "0 0 255"])
+    farm_with(program, folder, 7, 8)
     other = folder.parent / "other"
-    farm_with(program, other, ["0 255 0"])
+    farm_with(program, other, 9)
     copy = shutil.copytree(folder, folder.parent / "foreign")
     shutil.copy(other / "node-1.tape", copy / "node-1.tape")
     differ = f'cause="tapes differ" file="{copy}/node-0.tape" other="{copy}/node-1.tape" sequence=1'
@@ -122,8 +110,7 @@ def beginnings(seen, program, folder):
 def log(seen, program, folder):
     with tempfile.TemporaryFile("w+") as lines:
         farm = Farm(program, 3, folder, log=True, stderr=lines)
-        answers = [farm.ask("/publish", body)[0]
-                   for body in ((MAP % "1 2 3").encode(), b"MAP", (MAP % "1 2 3").encode())]
+        answers = [farm.ask("/publish", body).status for body in (map_of(5), b"MAP", map_of(5))]
         farm.end()
         lines.seek(0)
         log = [line.rstrip("\n").partition(" ")[2] for line in lines]
@@ -143,16 +130,15 @@ def files_that_cannot_grow(seen, program, folder):
     start(program, copy)  # shortens the tapes
     most = max(map(len, contents(copy).values())) + 20
     farm = Farm(program, 3, copy, preexec_fn=limited(most))
-    farm.ask("/publish", (MAP % "9 9 9").encode())
+    farm.ask("/publish", map_of(6))
     seen.same("the signal ends the program", farm.process.wait(timeout=20), -signal.SIGXFSZ)
     farm = Farm(program, 6, copy, before=UNSIGNALLED, preexec_fn=limited(most))
-    answers = [farm.ask("/publish", (MAP % "9 9 9").encode())[0] for _ in range(6)]
+    answers = [farm.ask("/publish", map_of(6)).status for _ in range(6)]
     seen.same("without the signal it is 503 in the end", answers[-1], 503)
     farm.end()
     more = Farm(program, 2, copy)
-    seen.same("with more room what was published is there", more.ask(f"/wms?{QUERY}&MAPSEQ=1"),
-              (200, square(b"\xff\x00\x00")))
-    seen.same("and a publish is taken", more.ask("/publish", (MAP % "9 9 9").encode())[0], 202)
+    seen.same("with more room what was published is there", more.ask(PIXEL % 1), (200, picture_of(7)))
+    seen.same("and a publish is taken", more.ask("/publish", map_of(6)).status, 202)
     more.end()
 
 

@@ -16,33 +16,20 @@ import tempfile
 import time
 
 import make_deb
-from farmkit.command import tell_missing
 from farmkit.processes import children, end
-from farmkit.trial import Trial
-from try_deb import debian, missing, package, words
+from try_deb import Root, debian, need_here, package, words
 
 INCLUDED = "systemd,systemd-sysv,dbus,python3,python3-minimal,adduser,procps"
 NODES = 3
 FIRST_PORT = 8180  # of the nodes' clients; wfarm.service has 8080
 PATIENCE = 180
-NODE_CONF = ("PEERS={peers}\nHTTP=127.0.0.1:{http}\nADMIN=127.0.0.1:{admin}\n"
-             "MORE=--readers 127.0.0.1:{readers}\n")
-SERVE_CONF = "PORT={}\nNODES=3\n"
-REPLICA_CONF = "FARM=county\nPEERS={readers}\nHTTP=127.0.0.1:8090\nADMIN=127.0.0.1:9190\n"
 
 
-class Container(Trial):
-    """A Debian that is booted in a folder, and what was seen in it."""
-
-    def __init__(self, path):
-        super().__init__()
-        self.path, self.process, self.leader = path, None, None
+class Container(Root):
+    """A Debian that is booted in a folder."""
 
     def wait(self, what, is_so, seconds=PATIENCE):
         super().wait(what, is_so, seconds)
-
-    def before_boot(self, *words):
-        return subprocess.run(["chroot", str(self.path), *words], capture_output=True, text=True)
 
     def boot(self, *network):
         """Boots it, by default with a network of its own; whether its systemd answers."""
@@ -50,10 +37,10 @@ class Container(Trial):
                  *(network or ("--private-network",)), "--directory", str(self.path)]
         console = (self.path.parent / "console").open("wb")
         self.process = subprocess.Popen(words, stdin=subprocess.DEVNULL, stdout=console, stderr=console)
+        self.leader = None
         until = time.monotonic() + PATIENCE
         while time.monotonic() < until and self.process.poll() is None:
-            started = children(self.process.pid)
-            self.leader = str(started[0]) if started else None
+            self.leader = next(map(str, children(self.process.pid)), None)
             if self.leader and self.inside("systemctl", "is-system-running").stdout.strip() in ("running",
                                                                                                 "degraded"):
                 return True
@@ -75,39 +62,37 @@ class Container(Trial):
         return self.inside("wfarmctl", "status").returncode == 0
 
     def stop(self):
-        if self.process is not None:
-            if self.leader:
-                self.inside("systemctl", "poweroff")
-            try:
-                self.process.wait(30)
-            except subprocess.TimeoutExpired:
-                end(self.process)
+        if self.leader:
+            self.inside("systemctl", "poweroff")
+        try:
+            self.process.wait(30)
+        except subprocess.TimeoutExpired:
+            end(self.process)
 
 
 def prepare(container, program, folder):
     """Installs an older version of the package, and makes the nodes' folders and settings."""
     old = package(program, "0.0.9", folder)
     shutil.copy(old, container.path / "root")
-    ran = container.before_boot("dpkg", "--install", "/root/" + old.name)
-    container.see("the package is installed", ran.returncode == 0, ran.stderr)
+    container.see_done("the package is installed", container.chroot("dpkg", "--install", "/root/" + old.name))
     settings = container.path / "etc/wfarm"
     settings.mkdir(exist_ok=True)
-    lines = []
+    peers, readers = (",".join(f"127.0.0.1:{first + number}" for number in range(NODES))
+                      for first in (7000, 7010))
     for number in range(NODES):
         state, user = f"/var/lib/wfarm/node-{number}", ["chroot", "--userspec=wfarm:wfarm", "/"]
-        container.before_boot("install", "-d", "-o", "wfarm", "-g", "wfarm", state)
-        made = container.before_boot(*user, "wfarm", "init", "--state", state, "--farm", "county", "--id",
-                                     str(number), "--nodes", str(NODES))
-        container.see(f"init of node {number}", made.returncode == 0, made.stderr)
-        peers = ",".join(f"127.0.0.1:{7000 + each}" for each in range(NODES))
-        conf = NODE_CONF.format(peers=peers, http=FIRST_PORT + number, admin=9090 + number,
-                                readers=7010 + number)
-        (settings / f"node-{number}.conf").write_text(conf)
-        lines.append(f"127.0.0.1:{FIRST_PORT + number} 127.0.0.1:{9090 + number}\n")
+        container.chroot("install", "-d", "-o", "wfarm", "-g", "wfarm", state)
+        container.see_done(f"init of node {number}", container.chroot(
+            *user, "wfarm", "init", "--state", state, "--farm", "county", "--id", str(number), "--nodes",
+            str(NODES)))
+        (settings / f"node-{number}.conf").write_text(
+            f"PEERS={peers}\nHTTP=127.0.0.1:{FIRST_PORT + number}\nADMIN=127.0.0.1:{9090 + number}\n"
+            f"MORE=--readers 127.0.0.1:{7010 + number}\n")
     for name, port in (("county", 8391), ("stopped", 8392)):
-        (settings / f"{name}.conf").write_text(SERVE_CONF.format(port))
-    readers = ",".join(f"127.0.0.1:{7010 + each}" for each in range(NODES))
-    (settings / "replica-0.conf").write_text(REPLICA_CONF.format(readers=readers))
+        (settings / f"{name}.conf").write_text(f"PORT={port}\nNODES=3\n")
+    (settings / "replica-0.conf").write_text(
+        f"FARM=county\nPEERS={readers}\nHTTP=127.0.0.1:8090\nADMIN=127.0.0.1:9190\n")
+    lines = [f"127.0.0.1:{FIRST_PORT + number} 127.0.0.1:{9090 + number}\n" for number in range(NODES)]
     (settings / "nodes").write_text("".join(lines) + "replica 127.0.0.1:8090 127.0.0.1:9190\n")
 
 
@@ -129,8 +114,7 @@ def answers(container):
 
 def attempt(container, program, folder):
     units = [f"wfarm-node@{number}" for number in range(NODES)] + ["wfarm-replica@0", "wfarm@county", "wfarm"]
-    started = container.inside("systemctl", "start", *units)
-    container.see("the units are started", started.returncode == 0, started.stderr)
+    container.see_done("the units are started", container.inside("systemctl", "start", *units))
     container.wait("all are active", lambda: container.is_active(*units))
     container.wait("wfarmctl status finds all well", container.is_well)
     told = container.inside("wfarmctl", "publish", "/usr/share/wfarm/examples/county.map")
@@ -142,9 +126,8 @@ def attempt(container, program, folder):
     container.wait("all are well again", lambda: container.is_well() and answers(container))
     wear_out(container, units[2])
     newer = upgrade(container, program, folder, units)
-    stopped = container.inside("systemctl", "stop", *units)
-    container.see("the units are stopped", stopped.returncode == 0
-                  and not any(container.is_active(unit) for unit in units))
+    container.see_done("the units are stopped", container.inside("systemctl", "stop", *units),
+                       not any(container.is_active(unit) for unit in units))
     container.see("no program is left", container.inside("pgrep", "-x", "wfarm").returncode == 1)
     remove(container, newer, units)
 
@@ -154,21 +137,19 @@ def remove(container, package_name, units):
     wants = container.path / "etc/systemd/system/multi-user.target.wants"
     container.inside("systemctl", "enable", "--now", *units)
     container.wait("all nodes run", container.is_well)
-    removed = container.inside("dpkg", "--remove", "wfarm")
-    container.see("the package is removed", removed.returncode == 0, removed.stderr)
+    container.see_done("the package is removed", container.inside("dpkg", "--remove", "wfarm"))
     container.see("each unit was stopped", not any(container.is_active(unit) for unit in units))
     container.see("no program is left", container.inside("pgrep", "-x", "wfarm").returncode == 1)
-    container.see("it is installed again",
-                  container.inside("dpkg", "--install", "/root/" + package_name).returncode == 0)
+    container.see_done("it is installed again",
+                       container.inside("dpkg", "--install", "/root/" + package_name))
     container.see("units that were enabled are still, and aren't started",
                   container.property("wfarm-node@0", "UnitFileState") == "enabled"
                   and not container.is_active("wfarm-node@0"))
     container.inside("systemctl", "start", *units)
     container.wait("the nodes go on", container.is_well)
-    purged = container.inside("dpkg", "--purge", "wfarm")
-    container.see("it is purged", purged.returncode == 0
-                  and not any(container.is_active(unit) for unit in units), purged.stderr)
-    left = [link.name for link in wants.glob("wfarm*")] if wants.exists() else []
+    container.see_done("it is purged", container.inside("dpkg", "--purge", "wfarm"),
+                       not any(container.is_active(unit) for unit in units))
+    left = [link.name for link in wants.glob("wfarm*")]
     container.see("no unit is enabled any more", not left, left)
     container.see("the nodes' folders stay", (container.path / "var/lib/wfarm/node-0/farm").exists())
 
@@ -203,8 +184,7 @@ def upgrade(container, program, folder, units):
     container.wait("a unit that can't run has failed",
                    lambda: container.property("wfarm-node@8", "ActiveState") == "failed")
     before = [container.property(unit, "MainPID") for unit in units]
-    ran = container.inside("dpkg", "--install", "/root/" + new.name)
-    container.see("the package is upgraded", ran.returncode == 0, ran.stderr)
+    container.see_done("the package is upgraded", container.inside("dpkg", "--install", "/root/" + new.name))
     after = [container.property(unit, "MainPID") for unit in units]
     container.see("each service runs the new program", not set(before) & set(after))
     container.see("one that failed stays so, and one that was stopped too",
@@ -216,20 +196,18 @@ def upgrade(container, program, folder, units):
 
 def main():
     options = words(__doc__).parse_args()
-    if lacking := missing(options, "systemd-nspawn", "nsenter"):
-        return tell_missing(lacking)
+    need_here(options, "systemd-nspawn", "nsenter")
     with tempfile.TemporaryDirectory() as folder:
         path = pathlib.Path(folder) / "root"
         debian(options.root, path, INCLUDED)
         container = Container(path)
         prepare(container, options.program, folder)
         try:
-            if container.boot():
-                container.see("systemd runs in a container", True)
+            is_up = container.boot()
+            container.see("systemd runs in a container", is_up,
+                          (path.parent / "console").read_text(errors="replace")[-500:])
+            if is_up:
                 attempt(container, options.program, folder)
-            else:
-                container.see("systemd runs in a container", False,
-                              (path.parent / "console").read_text(errors="replace")[-500:])
         finally:
             container.stop()
     return container.conclude()

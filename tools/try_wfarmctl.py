@@ -3,11 +3,9 @@
 some are killed, stopped, given an old copy of their folder, a disk that is full, or a tape that was changed.
 """
 
-import contextlib
 import json
 import pathlib
 import re
-import resource
 import shlex
 import shutil
 import socket
@@ -19,14 +17,11 @@ from unittest import mock
 
 from farmkit import trial
 from farmkit.command import add_slack, program_parser
-from farmkit.mapfiles import canonical
-from farmkit.nodes import Nodes
-from farmkit.processes import UNSIGNALLED, Replica, ctl_words, wfarmctl, write_nodes
+from farmkit.mapfiles import a_map, canonical
+from farmkit.nodes import NODES, Nodes
+from farmkit.processes import Replica, ctl_words, wfarmctl, write_nodes
 from farmkit.repository import EXAMPLES
-from farmkit.web import Listener
-
-MAP = ('MAP NAME "{}" EXTENT 0 0 4 4 PROJECTION "init=epsg:3857" END '
-       'WEB METADATA "wms_title" "{}" END END END\n')
+from farmkit.web import Listener, loopback
 
 
 class Stranger(Listener):
@@ -52,20 +47,11 @@ class Trial(trial.Trial):
         nodes = Nodes(self.program, self.folder / name, farm=name, has_readers=True).init_all()
         file = self.folder / f"{name}.nodes"
         write_nodes(file, nodes.each)
-        self.readers = ",".join(nodes.readers)
-        return nodes.each, file
-
-    def start(self, nodes=None):
-        for node in nodes or self.nodes:
-            node.start()
-
-    def kill(self, nodes=None):
-        for node in nodes or self.nodes:
-            node.kill()
+        return nodes, file
 
     def map(self, name, title=""):
         path = self.folder / f"{name}.map"
-        path.write_text(MAP.format(name, title or name))
+        path.write_bytes(a_map(name, title or name))
         return path
 
     def call(self, *words, file=None, seconds=30, program=None):
@@ -81,15 +67,16 @@ class Trial(trial.Trial):
             for part in ([parts] if isinstance(parts, str) else parts))
         self.see(what, holds, (status, told, wrong))
 
-    def all_at(self, sequence, nodes=None):
-        return all(node.published() == sequence for node in nodes or self.nodes)
+    def all_at(self, sequence, *those):
+        """Whether all nodes or these have published up to this sequence."""
+        return all(self.nodes.published(each) == sequence for each in those or range(NODES))
 
     def canonical(self, path):
         return canonical(self.program, path.read_bytes()).decode()
 
 
 def try_well(trial):
-    trial.start()
+    trial.nodes.start(*range(NODES))
     trial.wait("status: a new farm is well", lambda: trial.call("status")[0] == 0)
     told = trial.call("status")[1]
     trial.see("status: a head and a line per node, each ok",
@@ -122,7 +109,7 @@ def try_well(trial):
 
 
 def try_history(trial):
-    code, told, error = trial.call("history")
+    code, told, _ = trial.call("history")
     lines = [line.split() for line in told.splitlines()]
     trial.see("history: a head, a line per map, and what is left", code == 0 and len(lines) == 5
               and lines[-1] == "4,093 of 4,096 left".split(), told)
@@ -132,14 +119,14 @@ def try_history(trial):
     told = trial.call("history", "--log", trial.nodes[0].log)[1]
     trial.see("history: when, by the log of the node that took the maps",
               len(re.findall(r"(?m)^ +[123] 20\d\d-\d\d-\d\dT\d\d:\d\d:\d\dZ +\d+ ", told)) == 3, told)
-    code, told, error = trial.call("status", "-o", "json")
-    read = json.loads(told) if code == 0 else {"processes": [{}]}
+    told = trial.call("status", "-o", "json")[1]
+    read = json.loads(told)
     trial.see("status: as JSON", (read.get("well"), read.get("published"), read.get("left"),
                                   read.get("differ")) == (True, 3, 4093, None), told)
     fields = {"name": "node 1", "published": 3, "majority": True, "state": "ok", "peers": 2,
               "proposal": "none"}
     trial.see("status: each process, and whether it hears a majority",
-              fields.items() <= dict(read["processes"][-2:][0]).items(), told)
+              fields.items() <= read["processes"][1].items(), told)
     trial.see("status: of which version and revision",
               all(each["version"] and each["revision"] for each in read["processes"]), told)
     try_export(trial)
@@ -152,12 +139,11 @@ def try_export(trial):
     maps = [trial.call("map", at)[1] for at in (1, 2, 3)]
     trial.see("export: a file each", [file.read_text() for file in files] == maps, files)
     trial.tells("verify: an export", "verify", folder, out=f"{folder}: whole, published 3\n")
-    (folder / "0003.map").unlink(missing_ok=True)
+    (folder / "0003.map").unlink()
     trial.tells("verify: one that lacks a map", "verify", folder, error="the map of sequence 3 is missing")
     trial.see("export: it goes on", trial.call("export", folder)[0] == 0
               and sorted(folder.glob("*.map")) == files != [])
     second = folder / "0002.map"
-    second.parent.mkdir(exist_ok=True)
     second.write_text(maps[0])
     trial.tells("export: never beside another farm's maps", "export", folder,
                 error="0002.map: not the farm's map of sequence 2")
@@ -168,17 +154,13 @@ def try_export(trial):
 
 def try_file_of_nodes(trial):
     """A file of nodes that isn't right, and hosts that are silent."""
-    lines = trial.file.read_text().splitlines(keepends=True)
-    swapped = trial.folder / "swapped.nodes"
-    swapped.write_text("".join([lines[0], lines[2], lines[1], lines[3]]))
+    swapped, away = trial.folder / "swapped.nodes", trial.folder / "silent.nodes"
+    write_nodes(swapped, [trial.nodes[number] for number in (1, 0, 2)])
     trial.tells("status: a node that answers in another's line", "status", file=swapped, code=1,
                 has="node 1 answers at ")
-    with contextlib.ExitStack() as held:
-        silent = [held.enter_context(socket.create_server(("127.0.0.1", 0))).getsockname()[1]
-                  for _ in range(4)]
-        away = trial.folder / "silent.nodes"
-        away.write_text(trial.file.read_text() + "".join(f"replica 127.0.0.1:{port} 127.0.0.1:{port}\n"
-                                                         for port in silent))
+    with socket.create_server(("127.0.0.1", 0)) as silent:
+        address = loopback(silent.getsockname()[1])
+        away.write_text(trial.file.read_text() + 4 * f"replica {address} {address}\n")
         begun = time.monotonic()
         told = trial.call("status", file=away)[1]
         took = time.monotonic() - begun
@@ -207,9 +189,10 @@ def try_strangers(trial):
 
 
 def try_replica(trial):
-    replica = Replica(trial.program, trial.folder / "first" / "replica", "first", trial.readers)
+    replica = Replica(trial.program, trial.folder / "first" / "replica", "first",
+                      ",".join(trial.nodes.readers))
     file = trial.folder / "replica.nodes"
-    file.write_text(trial.file.read_text() + f"replica {replica.clients} {replica.operator}\n")
+    write_nodes(file, [*trial.nodes.each, replica])
     replica.start()
     trial.wait("status: a replica is well once it has all maps",
                lambda: trial.call("status", file=file)[0] == 0)
@@ -221,7 +204,7 @@ def try_replica(trial):
 
 
 def try_failures(trial):
-    first, second, third = trial.nodes
+    first, _, third = trial.nodes.each
     third.kill()
     code, told, _ = trial.call("status")
     trial.see("status: a node that was killed", code == 1 and "unreachable" in told.splitlines()[3]
@@ -244,32 +227,31 @@ def try_failures(trial):
     trial.tells("publish: why the last node didn't", "publish", trial.map("sixth"), seconds=1,
                 error="node 1 still proposes another map: no majority")
     third.go_on()
-    trial.wait("the map is published once the majority is back", lambda: trial.all_at(6, trial.nodes[1:]))
+    trial.wait("the map is published once the majority is back", lambda: trial.all_at(6, 1, 2))
     first.start()
     trial.wait("once, and everywhere", lambda: trial.all_at(6))
-    trial.kill()
+    trial.nodes.end()
     read = json.loads(trial.call("status", "-o", "json")[1])
     trial.see("status: as JSON, what isn't known where no node answers",
               (read["well"], read["published"], read["left"]) == (False, None, None), read)
     trial.tells("publish: no node", "publish", trial.map("seventh"), seconds=2, error="not published")
-    trial.start()
+    trial.nodes.start(*range(NODES))
     trial.wait("status: well again", lambda: trial.call("status")[0] == 0)
 
 
 def try_suspended(trial):
-    node, kept = trial.nodes[2], trial.folder / "kept"
-    node.kill()
-    shutil.copytree(node.folder, kept)
-    node.start()
+    nodes, kept = trial.nodes, trial.folder / "kept"
+    nodes.kill(2)
+    shutil.copytree(nodes[2].folder, kept)
+    nodes.start(2)
     trial.wait("a node is started again", lambda: trial.call("status")[0] == 0)
-    node.kill()
-    shutil.rmtree(node.folder)
-    shutil.copytree(kept, node.folder)
-    node.start()
+    nodes.kill(2)
+    nodes.put(2, kept)
+    nodes.start(2)
     trial.wait("status: it is suspended, and which peer remembers what", lambda: re.search(
         r" suspended: node \d at 127\.0\.0\.1:\d+ remembers \w+", trial.call("status")[1].splitlines()[3]))
     trial.see("status: so the farm isn't well", trial.call("status")[0] == 1)
-    for each in trial.nodes:
+    for each in nodes.each:
         each.kill()
         each.clear()
         each.start()
@@ -277,15 +259,13 @@ def try_suspended(trial):
 
 
 def try_full(trial):
-    node = trial.nodes[2]
-    node.kill()
-    node.start(before=UNSIGNALLED)
-    trial.wait("a node is started again", lambda: node.published() == 6)
-    resource.prlimit(node.running().pid, resource.RLIMIT_FSIZE, (100, resource.RLIM_INFINITY))
+    trial.nodes.restart_limitable(2)
+    trial.wait("a node is started again", lambda: trial.all_at(6, 2))
+    trial.nodes.limit(2, 100)
     trial.tells("publish: two of three", "publish", trial.map("eighth"), out="published 7 at node 0\n")
     trial.wait("status: the node whose tape can't grow is halted",
                lambda: trial.call("status")[1].splitlines()[3].endswith(" halted"))
-    resource.prlimit(node.running().pid, resource.RLIMIT_FSIZE, 2 * (resource.RLIM_INFINITY,))
+    trial.nodes.limit(2, None)
     trial.wait("status: with more room it is well by itself", lambda: trial.call("status")[0] == 0)
 
 
@@ -295,7 +275,7 @@ def try_copy(trial):
     maps = [trial.call("map", sequence)[1] for sequence in range(1, source.published() + 1)]
     trial.tells("export: what came since", "export", export, out=f"exported {len(maps)} maps to {export}\n")
     shutil.copytree(export, part, ignore=shutil.ignore_patterns("history", "000[3-9].map", "00[1-9]?.map"))
-    trial.kill(trial.nodes[::2])
+    trial.nodes.kill(0, 2)
     copy_to(trial, "second", source.operator, maps)
     source.kill()
     copy_to(trial, "third", source.folder, maps)
@@ -307,7 +287,7 @@ def try_copy(trial):
 
 def copy_to(trial, name, source, maps, first=None):
     nodes, file = trial.farm(name)
-    trial.start(nodes)
+    nodes.start(*range(NODES))
     trial.wait(f"a new farm {name}", lambda: trial.call("status", file=file)[0] == 0)
     if first is not None:
         trial.tells("copy: the first maps", "copy", first, file, out="copied 2 maps\n")
@@ -324,21 +304,19 @@ def copy_to(trial, name, source, maps, first=None):
     if first is not None:
         trial.tells("copy: never onto a farm that has other maps", "copy", first, file,
                     error="has published maps already")
-    trial.kill(nodes)
+    nodes.end()
 
 
 def try_verify(trial):
-    folders = [node.folder for node in trial.nodes]
-    code, told, error = trial.call("verify", *folders)
-    trial.see("verify: whole tapes of one farm", code == 0 and told.count(": whole, published 7") == 3,
-              (told, error))
+    folders = [node.folder for node in trial.nodes.each]
+    trial.tells("verify: whole tapes of one farm", "verify", *folders,
+                out="".join(f"{node.tape}: whole, published 7\n" for node in trial.nodes.each))
     trial.tells("verify: folders of two farms", "verify", folders[0], trial.folder / "second" / "1",
                 error="not folders of one farm")
-    tape = folders[0] / "node-0.tape"
+    tape = trial.nodes[0].tape
     whole = tape.read_bytes()
     tape.write_bytes(whole[:-3])
-    trial.see("verify: a torn record at the end is what a crash leaves",
-              trial.call("verify", folders[0])[0] == 0)
+    trial.tells("verify: a torn record at the end is what a crash leaves", "verify", folders[0])
     tape.write_bytes(b"\x63" + whole[1:])
     trial.tells("verify: a bad record", "verify", folders[0], error="not every tape is whole")
     tape.write_bytes(whole)
@@ -350,12 +328,12 @@ def try_changed(trial):
     node = trial.nodes[2]
     tape, farm = node.tape, node.folder / "farm"
     tape.write_bytes(tape.read_bytes().replace(b"another title", b"Another title"))
-    trial.tells("verify: histories that differ", "verify", *(each.folder for each in trial.nodes),
+    trial.tells("verify: histories that differ", "verify", *(each.folder for each in trial.nodes.each),
                 error=f"the histories of {trial.nodes[0].tape} and {tape} differ from sequence 2 on")
-    trial.start(trial.nodes[:2])
-    trial.wait("two of three nodes", lambda: trial.all_at(7, trial.nodes[:2]))
+    trial.nodes.start(0, 1)
+    trial.wait("two of three nodes", lambda: trial.all_at(7, 0, 1))
     node.start()
-    trial.wait("a node whose tape was changed doesn't start", lambda: node.process.poll() == 1)
+    trial.wait("a node whose tape was changed doesn't start", lambda: node.ended() == 1)
     trial.see("its last line", node.last_line() == "bad folder: the tape has another history up to 7",
               node.last_line())
     farm.write_text(re.sub("(?m)^known .*\n", "", farm.read_text()).replace("wfarm folder 2",
@@ -369,7 +347,7 @@ def try_changed(trial):
     trial.tells("publish: by the others", "publish", trial.map("ninth"), out="published 8 at node 0\n")
     trial.tells("publish: the published map again, if it is asked for", "publish",
                 trial.folder / "ninth.map", "--again", out="published 9 at node 0\n")
-    trial.see("and nobody has ended", [each.process.poll() for each in trial.nodes] == [None] * 3)
+    trial.see("and nobody has ended", [each.ended() for each in trial.nodes.each] == [None] * 3)
 
 
 def try_words(trial):
@@ -399,7 +377,7 @@ def main():
             for attempt in TRIALS:
                 attempt(seen)
         finally:
-            seen.kill()
+            seen.nodes.end()
     return seen.conclude()
 
 

@@ -41,20 +41,6 @@ def send(peer: socket.socket, data: bytes, ends: bool = True) -> None:
     drain(peer)
 
 
-def pieces(peer: socket.socket, data: bytes, pause: float = 0.005) -> None:
-    """Sends a byte at a time."""
-    peer.setsockopt(socket.IPPROTO_TCP, socket.TCP_NODELAY, 1)
-    for byte in data:
-        peer.sendall(bytes([byte]))
-        time.sleep(pause)
-    drain(peer)
-
-
-def part(peer: socket.socket, draw: random.Random, data: bytes) -> None:
-    """Sends a beginning, and ends or stays silent."""
-    send(peer, data[:draw.randrange(1, len(data))], draw.random() < 0.5)
-
-
 # ---- at a clients' or an operator's port
 
 def trickling(peer: socket.socket, _: random.Random) -> None:
@@ -132,10 +118,17 @@ class Strangers:
         raise NotImplementedError
 
     def half(self, peer: socket.socket, draw: random.Random) -> None:
-        part(peer, draw, self.whole(draw))
+        """A beginning, which ends or stays silent."""
+        whole = self.whole(draw)
+        send(peer, whole[:draw.randrange(1, len(whole))], draw.random() < 0.5)
 
     def in_pieces(self, peer: socket.socket, draw: random.Random) -> None:
-        pieces(peer, self.whole(draw))
+        """A byte at a time."""
+        peer.setsockopt(socket.IPPROTO_TCP, socket.TCP_NODELAY, 1)
+        for byte in self.whole(draw):
+            peer.sendall(bytes([byte]))
+            time.sleep(0.005)
+        drain(peer)
 
     def noise(self, peer: socket.socket, draw: random.Random) -> None:
         send(peer, draw.choice((GOOD, bytes(200), draw.randbytes(5_000), self.whole(draw)[:8] * 1_000)),

@@ -4,23 +4,24 @@ they make of one folder."""
 import os
 import pathlib
 import re
-import time
+from collections import Counter
 from collections.abc import Iterator, Sequence
 
 from farmkit.folder import File, Folder, contents
+from farmkit.wanted import is_so_within
 
 # those that are followed, and those that would change a file in a way that nothing here follows
 FOLLOWED = ("open openat creat close lseek write fsync fdatasync rename renameat renameat2 unlink unlinkat "
-            "sendto sendmsg")
+            "sendto sendmsg").split()
 OTHERS = ("pwrite64 writev pwritev pwritev2 truncate ftruncate fallocate link linkat symlink symlinkat mkdir "
           "mkdirat rmdir sync syncfs sync_file_range sendfile splice copy_file_range io_uring_setup "
-          "io_submit dup dup2 dup3 chdir fchdir")
+          "io_submit dup dup2 dup3 chdir fchdir").split()
 # those that may be the last of a program, done or not
-FINISHED = "write rename renameat renameat2 open openat unlink"
+FINISHED = "write rename renameat renameat2 open openat unlink".split()
 MOST_BYTES = 1 << 24
 LINE = re.compile(r"(\d+) +(\w+)\((.*)\) += (-?\d+|\?)(?: .*)?")
 UNFINISHED = re.compile(r"(\d+) +(\w+)\((.*?),? *<unfinished \.\.\.>")
-END = re.compile(r"\d+ +\+\+\+ (killed by|exited with) (\w+)")
+END = re.compile(r"^\d+ +\+\+\+ (?:killed by|exited with) \w+ \+\+\+\n?\Z", re.MULTILINE)
 TEXT = re.compile(r'"((?:\\x[0-9a-f]{2})*)"(\.\.\.)?')
 
 
@@ -29,12 +30,10 @@ class Unfollowed(Exception):
 
 
 def texts(words: str) -> list[bytes]:
-    found = []
-    for spelled, cut in TEXT.findall(words):
-        if cut:
-            raise Unfollowed(f"a text of over {MOST_BYTES} bytes")
-        found.append(bytes.fromhex(spelled.replace("\\x", "")))
-    return found
+    found = TEXT.findall(words)
+    if any(cut for _, cut in found):
+        raise Unfollowed(f"a text of over {MOST_BYTES} bytes")
+    return [bytes.fromhex(spelled.replace("\\x", "")) for spelled, _ in found]
 
 
 class Call:
@@ -53,21 +52,15 @@ def traced(words: Sequence[str], trace: str | pathlib.Path, cut: tuple[str, int]
     more = [] if cut is None else ["-e", f"inject={cut[0]}:signal=SIGKILL:when={cut[1]}"]
     # -D: the program is our own child, and strace a child of it
     return ["strace", "-D", "-f", "-q", "-xx", "-s", str(MOST_BYTES), "-e",
-            "trace=" + ",".join("?" + name for name in (FOLLOWED + " " + OTHERS).split()), *more, "-o",
-            str(trace), *words]
+            "trace=" + ",".join("?" + name for name in FOLLOWED + OTHERS), *more, "-o", str(trace), *words]
 
 
 def calls(trace: str | pathlib.Path, seconds: float = 10) -> Iterator[Call]:
     """The calls of a trace, once the program has ended."""
-    until = time.monotonic() + seconds
-    while True:
-        lines = pathlib.Path(trace).read_text().splitlines()
-        if lines and END.fullmatch(lines[-1].rstrip("+ ")):
-            break
-        if time.monotonic() > until:
-            raise Unfollowed("the trace doesn't end")
-        time.sleep(0.005)
-    for line in lines[:-1]:
+    file = pathlib.Path(trace)
+    if not is_so_within(lambda: END.search(file.read_text()), seconds, 0.005):
+        raise Unfollowed("the trace doesn't end")
+    for line in file.read_text().splitlines()[:-1]:
         if found := LINE.fullmatch(line):
             yield Call(found[2], found[3], None if found[4] == "?" else int(found[4]))
         elif found := UNFINISHED.fullmatch(line):
@@ -112,7 +105,7 @@ class Follower:
         self.path, self.folder, self.watcher, self.without = os.fspath(path), folder, watcher, without
         self.handles: dict[int, Handle] = {}
         self.doubtful: Call | None = None
-        self.last: str | None = None
+        self.last = ""
 
     def name_of(self, path: bytes) -> str | None:
         """The name in the folder that a path leads to; "" is the folder; None a path that leads elsewhere."""
@@ -123,12 +116,14 @@ class Follower:
         return name if above == self.path else None
 
     def follow(self, call: Call) -> None:
-        if call.name in OTHERS.split():
-            self.refuse(call)
         # what failed changed nothing; whether the call was done that the program ended in, the folder says
+        if call.result is not None and call.result < 0:
+            return
+        if call.name in OTHERS:
+            self.refuse(call)
         elif call.result is None:
             self.doubtful = call
-        elif call.result >= 0:
+        else:
             self.act(call)
 
     def refuse(self, call: Call) -> None:
@@ -211,7 +206,7 @@ class Follower:
     def end(self) -> None:
         """Compares the model with the folder; the call that the program ended in was done, or it wasn't."""
         real, last = contents(self.path), self.doubtful
-        if self.folder.contents() != real and last is not None and last.name in FINISHED.split():
+        if self.folder.contents() != real and last is not None and last.name in FINISHED:
             last.result = len(last.texts[0]) if last.name == "write" else 1 << 20
             self.act(last)
         ours = self.folder.contents()
@@ -220,10 +215,11 @@ class Follower:
 
 
 def follow(trace: str | pathlib.Path, path: str, folder: Folder, watcher: Watcher,
-           without: str | None = None) -> int:
-    """Does the calls of a trace to a folder, whose files are at the path. How many calls."""
-    follower, count = Follower(path, folder, watcher, without), 0
-    for count, call in enumerate(calls(trace), 1):
+           without: str | None = None) -> Counter[str]:
+    """Does the calls of a trace to a folder, whose files are at the path. How many of each name."""
+    follower, counts = Follower(path, folder, watcher, without), Counter[str]()
+    for call in calls(trace):
         follower.follow(call)
+        counts[call.name] += 1
     follower.end()
-    return count
+    return counts

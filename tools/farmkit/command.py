@@ -80,6 +80,12 @@ def of_debian(name: str) -> Any:
         sys.exit(tell_missing([f"Python's {name.partition('.')[0]}, which /usr/bin/python3 of Debian has"]))
 
 
+def need(*programs: str, root: bool = False) -> None:
+    """Ends the script where one of these programs isn't here, or root where it is wanted."""
+    if lacking := lacks(*programs, root=root):
+        sys.exit(tell_missing(lacking))
+
+
 def tell_missing(things: Iterable[str]) -> int:
     """Says what is missing: the status for it."""
     print("missing: " + ", ".join(things), file=sys.stderr)

@@ -1,5 +1,5 @@
-"""A block device that loses, at a power cut, what wasn't flushed: a loop device over a file of a file system
-of our own, by FUSE."""
+"""A block device that loses, at a power cut, what wasn't flushed: a loop device over a file that we serve, by
+FUSE."""
 
 import contextlib
 import ctypes
@@ -15,24 +15,19 @@ from collections.abc import Callable
 from farmkit.command import lacks
 from farmkit.processes import run
 
-# what the kernel asks a file system for, by their numbers in linux/fuse.h, as are all forms below
-LOOKUP, FORGET, GETATTR, SETATTR, OPEN, READ, WRITE = 1, 2, 3, 4, 14, 15, 16
-STATFS, RELEASE, FSYNC, FLUSH, INIT, OPENDIR, RELEASEDIR = 17, 18, 20, 25, 26, 27, 29
-INTERRUPT, DESTROY, BATCH_FORGET = 36, 38, 42
-UNANSWERED = (FORGET, INTERRUPT, BATCH_FORGET)
+# what the kernel asks a file system for, by their numbers in linux/fuse.h, as are all forms below; it goes on
+# where it is told that there is nothing else
+GETATTR, SETATTR, OPEN, READ, WRITE, FSYNC, INIT = 3, 4, 14, 15, 16, 20, 26
+UNANSWERED = FORGET, INTERRUPT, BATCH_FORGET = 2, 36, 42
 MOST_WRITE = 1 << 17
 DIRECT_IO = 1
-OPENED = struct.pack("<QII", 0, DIRECT_IO, 0)
 # the answers that are always the same
 CONSTANT = {
     INIT: struct.pack("<IIIIHHIIHHI28x", 7, 31, MOST_WRITE, 0, 12, 10, MOST_WRITE, 1, 32, 0, 0),
-    OPEN: OPENED, OPENDIR: OPENED, FLUSH: b"", RELEASE: b"", RELEASEDIR: b"", DESTROY: b"",
-    STATFS: struct.pack("<QQQQQIIII24x", 1, 0, 0, 1, 0, 4096, 255, 4096, 0),
+    OPEN: struct.pack("<QII", 0, DIRECT_IO, 0),
 }
-ROOT, DISK = 1, 2
-NAME = b"disk"
 LIBC = ctypes.CDLL(None, use_errno=True)
-HEAD = struct.Struct("<IIQQIIIHH")
+HEAD = struct.Struct("<4xIQ24x")
 ANSWER = struct.Struct("<IiQ")
 
 
@@ -91,46 +86,38 @@ class Disk:
 
 
 class Mounted:
-    def __init__(self, disk: Disk, folder: pathlib.Path) -> None:
-        self.disk, self.folder = disk, folder
+    """A file, mounted over this one, whose bytes are those of a disk."""
+
+    def __init__(self, disk: Disk, file: pathlib.Path) -> None:
+        self.disk, self.file = disk, file
         self.channel = os.open("/dev/fuse", os.O_RDWR | os.O_CLOEXEC)
-        settings = f"fd={self.channel},rootmode=40000,user_id=0,group_id=0"
-        if LIBC.mount(b"cut_power", os.fsencode(folder), b"fuse", 6, settings.encode()):
+        settings = f"fd={self.channel},rootmode=100000,user_id=0,group_id=0"
+        if LIBC.mount(b"cut_power", os.fsencode(file), b"fuse", 6, settings.encode()):
             os.close(self.channel)
             raise OSError(ctypes.get_errno(), "mount")
         self.thread = threading.Thread(target=self.serve, daemon=True)
         self.thread.start()
 
     def serve(self) -> None:
-        while True:
-            try:
-                asked = os.read(self.channel, MOST_WRITE + 4096)
-            except OSError:
-                return
-            if not asked:
-                return
-            _, kind, unique, node, *_ = HEAD.unpack_from(asked)
-            if kind in UNANSWERED:
-                continue
-            error, given = self.answer(kind, node, asked[HEAD.size:])
-            with contextlib.suppress(OSError):
-                os.write(self.channel, ANSWER.pack(ANSWER.size + len(given), -error, unique) + given)
+        with contextlib.suppress(OSError):
+            while asked := os.read(self.channel, MOST_WRITE + 4096):
+                kind, unique = HEAD.unpack_from(asked)
+                if kind not in UNANSWERED:
+                    error, given = self.answer(kind, asked[HEAD.size:])
+                    with contextlib.suppress(OSError):
+                        os.write(self.channel, ANSWER.pack(ANSWER.size + len(given), -error, unique) + given)
 
-    def answer(self, kind: int, node: int, given: bytes) -> tuple[int, bytes]:
+    def answer(self, kind: int, given: bytes) -> tuple[int, bytes]:
         """An error's number, or 0, and what is given back."""
         if kind in CONSTANT:
             return 0, CONSTANT[kind]
-        if kind == LOOKUP:
-            if given != NAME + b"\0":
-                return errno.ENOENT, b""
-            return 0, struct.pack("<QQQQII", DISK, 0, 3600, 3600, 0, 0) + self.attributes(DISK)
         if kind in (GETATTR, SETATTR):
-            return 0, struct.pack("<QII", 3600, 0, 0) + self.attributes(node)
-        if kind == READ:
+            size = len(self.disk.content)
+            return 0, struct.pack("<Q8xQQQ36xII12xI4x", 3600, 1, size, size // 512, 0o100600, 1, 4096)
+        if kind in (READ, WRITE):
             at, size = struct.unpack_from("<8xQI", given)
-            return 0, bytes(self.disk.content[at:at + size])
-        if kind == WRITE:
-            at, size = struct.unpack_from("<8xQI", given)
+            if kind == READ:
+                return 0, bytes(self.disk.content[at:at + size])
             self.disk.write(at, given[40:40 + size])
             return 0, struct.pack("<II", size, 0)
         if kind == FSYNC:
@@ -138,16 +125,10 @@ class Mounted:
             return 0, b""
         return errno.ENOSYS, b""
 
-    def attributes(self, node: int) -> bytes:
-        """The attributes of the folder or the disk."""
-        size, mode = (0, 0o40755) if node == ROOT else (len(self.disk.content), 0o100600)
-        return struct.pack("<QQQQQQIIIIIIIIII", node, size, size // 512, 0, 0, 0, 0, 0, 0, mode, 1, 0, 0, 0,
-                           4096, 0)
-
     def unmount(self) -> None:
         """Takes it away. Where something else still has the device, as a container that began meanwhile,
         its thread goes on: else it would read from what is opened next under the number of its channel."""
-        LIBC.umount2(os.fsencode(self.folder), 2)
+        LIBC.umount2(os.fsencode(self.file), 2)
         self.thread.join(1)
         if not self.thread.is_alive():
             os.close(self.channel)
@@ -157,14 +138,14 @@ class Machine:
     """A mounted disk with ext4, where a rename doesn't write out the file (`noauto_da_alloc`)."""
 
     def __init__(self, above: str | pathlib.Path, content: bytes | bytearray) -> None:
-        self.below, self.folder = pathlib.Path(above) / "below", pathlib.Path(above) / "above"
-        for folder in (self.below, self.folder):
-            folder.mkdir(exist_ok=True)
+        below, self.folder = pathlib.Path(above) / "below", pathlib.Path(above) / "above"
+        below.touch()
+        self.folder.mkdir(exist_ok=True)
         self.disk = Disk(bytes(content))
-        self.mounted = Mounted(self.disk, self.below)
+        self.mounted = Mounted(self.disk, below)
         self.loop: str | None = None
         try:
-            self.loop = run("losetup", "--find", "--show", str(self.below / "disk")).strip()
+            self.loop = run("losetup", "--find", "--show", str(below)).strip()
             run("mount", "-t", "ext4", "-o", "noauto_da_alloc", self.loop, str(self.folder))
         except subprocess.CalledProcessError:
             self.stop()
@@ -172,9 +153,9 @@ class Machine:
 
     def stop(self) -> None:
         """Takes everything down; what goes to the disk meanwhile is lost, if its power is off."""
-        subprocess.run(["umount", str(self.folder)], capture_output=True)
+        run("umount", str(self.folder), check=False)
         if self.loop:
-            subprocess.run(["losetup", "-d", self.loop], capture_output=True)
+            run("losetup", "-d", self.loop, check=False)
         self.mounted.unmount()
 
 
@@ -187,13 +168,11 @@ def formatted(size: int, above: str | pathlib.Path) -> bytes:
 
 def is_permitted(above: str | pathlib.Path) -> bool:
     """Whether a device may be made here."""
-    if lacks("losetup", "mkfs.ext4"):
-        return False
-    try:
-        Machine(above, formatted(16 << 20, above)).stop()
-    except (OSError, subprocess.CalledProcessError):
-        return False
-    return True
+    if not lacks("losetup", "mkfs.ext4"):
+        with contextlib.suppress(OSError, subprocess.CalledProcessError):
+            Machine(above, formatted(16 << 20, above)).stop()
+            return True
+    return False
 
 
 def fill(folder: pathlib.Path) -> None:

@@ -40,24 +40,24 @@ def ends_of(every: Iterator[str]) -> set[str]:
     return {path[at:] for path in every for at in (0, *(slash.end() for slash in re.finditer("/", path)))}
 
 
-def documents(top: pathlib.Path = TOP) -> list[pathlib.Path]:
-    return [top / path for path in sorted(paths(top)) if path.endswith(".md") and "/must-fail/" not in path]
+def documents() -> list[pathlib.Path]:
+    return [TOP / path for path in sorted(paths()) if path.endswith(".md") and "/must-fail/" not in path]
 
 
 class Document:
     def __init__(self, path: pathlib.Path) -> None:
         self.path = path
         self.lines = path.read_text(encoding="utf-8").splitlines()
-        self.prose = list(self.outside_code())
+        self.prose = [line for _, line in self.outside_code()]
 
-    def outside_code(self) -> Iterator[str]:
-        """The lines that stand outside blocks of code."""
+    def outside_code(self) -> Iterator[tuple[int, str]]:
+        """The lines that stand outside blocks of code, with their numbers."""
         is_code = False
-        for line in self.lines:
+        for number, line in enumerate(self.lines, 1):
             if line.lstrip().startswith("```"):
                 is_code = not is_code
             elif not is_code:
-                yield line
+                yield number, line
 
     @property
     def name(self) -> str:
@@ -133,9 +133,9 @@ def lost_sections(document: Document) -> Iterator[str]:
             yield f'{file.name} has no section "{section}"'
 
 
-def texts(top: pathlib.Path = TOP) -> list[pathlib.Path]:
+def texts() -> list[pathlib.Path]:
     """The texts of the repository that aren't documents or tests, of the kinds whose comments name one."""
-    return [top / path for path in sorted(paths(top)) if path.endswith(TEXTS) and "/tests/" not in path]
+    return [TOP / path for path in sorted(paths()) if path.endswith(TEXTS) and "/tests/" not in path]
 
 
 def lost_in_text(path: pathlib.Path) -> Iterator[str]:

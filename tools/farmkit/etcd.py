@@ -29,7 +29,7 @@ def in_base64(text: bytes) -> str:
     return base64.b64encode(text).decode()
 
 
-class Etcd:
+class Etcd(contextlib.AbstractContextManager["Etcd"]):
     """Three members with their data in a folder."""
 
     def __init__(self, folder: pathlib.Path) -> None:
@@ -44,9 +44,6 @@ class Etcd:
                      "--initial-cluster", cluster, "--initial-cluster-state", "new", "--logger", "zap",
                      "--log-level", "error"]
             self.members.append(subprocess.Popen(words, stdout=subprocess.DEVNULL, stderr=subprocess.DEVNULL))
-
-    def __enter__(self) -> "Etcd":
-        return self
 
     def __exit__(self, *_: object) -> None:
         for member in self.members:

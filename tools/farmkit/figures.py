@@ -44,12 +44,10 @@ def differing_rows(every: list[Document]) -> Iterator[str]:
 def differing_names(every: list[Document]) -> Iterator[str]:
     """Names with a version of which two documents have different ones."""
     for pattern in ALIKE:
-        first = ""
-        for document in every:
-            for name in pattern.findall("\n".join(document.lines)):
-                first = first or name
-                if name != first:
-                    yield f"{document.name}: {name}; another document has {first}"
+        found = [(it.name, name) for it in every for name in pattern.findall("\n".join(it.lines))]
+        for document, name in found:
+            if name != found[0][1]:
+                yield f"{document}: {name}; another document has {found[0][1]}"
 
 
 def constants(crate: str) -> dict[str, int]:

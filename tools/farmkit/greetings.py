@@ -29,6 +29,8 @@ def greeting(these: Nodes, i: int, /, **changes: Any) -> bytes:
         return [int(number, 16) for number in found.groups()] if found else [0] * len(words)
 
     published = these.published(0)
+    history = these[0].says(f"/history?from={published}")[1]
+    digest = bytes.fromhex(history.split()[1]) if history else bytes(32)
     vote = of("voted", "of", "at")
     # (a vote at a sequence that is published needn't be there)
     vote = vote if vote[2] > published else [0, 0, 0]
@@ -36,8 +38,8 @@ def greeting(these: Nodes, i: int, /, **changes: Any) -> bytes:
                             "starts": int(lines["starts"], 16) + 1, "state": SERVES, **changes}
     return GREETING.pack(
         b"wf-node\n", said["version"], said["farm"].encode(), said["nodes"], i, bytes.fromhex(lines["mark"]),
-        said["starts"], b"forger of a life", *of("tried"), *of("promised", "of"), *vote, published,
-        these.digest(), said["state"], 0)
+        said["starts"], b"forger of a life", *of("tried"), *of("promised", "of"), *vote, published, digest,
+        said["state"], 0)
 
 
 def rejected_for(came: bytes) -> int | None:

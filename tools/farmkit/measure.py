@@ -12,6 +12,8 @@ import time
 from collections.abc import Callable, Sequence
 from typing import Any, TypeVar
 
+from farmkit.processes import run
+
 T = TypeVar("T")
 CALLGRIND = ["valgrind", "--tool=callgrind", "--callgrind-out-file=/dev/null"]
 MASSIF = ["valgrind", "--tool=massif", "--peak-inaccuracy=0"]
@@ -43,10 +45,7 @@ def tell(times: Sequence[float]) -> str:
 def ran(words: Sequence[str | pathlib.Path], given: bytes = b"",
         wanted: bytes | None = None) -> "subprocess.CompletedProcess[bytes]":
     """A run of a program that has to end with status 0, or to write these bytes somewhere."""
-    try:
-        done = subprocess.run([str(word) for word in words], input=given, capture_output=True)
-    except OSError as error:
-        sys.exit(f"{words[-1]}: {error.strerror}")
+    done = subprocess.run(words, input=given, capture_output=True)
     if wanted not in done.stdout if wanted is not None else done.returncode:
         said = (done.stdout[-300:] + done.stderr[-300:]).decode()
         sys.exit(f"{' '.join(map(str, words))[:200]}: status {done.returncode}: {said}")
@@ -95,8 +94,7 @@ def load() -> str:
 
 def disk_of(folder: str | pathlib.Path) -> str:
     """The kind of file system that a folder is on, which has to be a disk."""
-    disk = subprocess.run(["stat", "-f", "-c", "%T", folder], capture_output=True, text=True,
-                          check=True).stdout.strip()
+    disk = run("stat", "-f", "-c", "%T", str(folder)).strip()
     if disk in ("tmpfs", "ramfs"):
         sys.exit(f"{folder} is in memory ({disk}): name a folder on a disk (--folder)")
     return disk

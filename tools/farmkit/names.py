@@ -6,18 +6,17 @@ crate's root, a method is one of such a type. Elsewhere a name has to be defined
 to be a file or a folder. PROVED names each crate, and each crate of the kit that one uses.
 """
 
-import itertools
 import re
 from collections.abc import Iterator
 
-from farmkit.documents import MARK
+from farmkit.documents import MARK, Document
 from farmkit.repository import TOP, dependencies
 
 DOCUMENTS = ("PROVED", "ARCHITECTURE", "CHANGES")
 
 CRATE = re.compile(r"wf_\w+|wfarm")
 NAME = re.compile(r"\w+(?:::\w+)*!?")
-PATH = re.compile(r"[\w./{},-]+\.(?:rt|antt|md|txt|py|conf|script)|[\w./{},*-]+/[\w./{},*-]*")
+PATH = re.compile(r"[\w./-]+\.(?:rt|antt|md|txt|py|conf|script)|[\w./-]+/[\w./-]*")
 EXPORT = re.compile(r"^pub use ((?:\w+::)*)(?:\{([^}]*)\}|(\w+(?: as \w+)?));", re.MULTILINE)
 OWNER = re.compile(r"^(?:impl\b.*?|pub trait )(\w+)(?:<[^{]*)? (?:where .*)?\{|^impl\b.* for (\w+)")
 PUBLIC = re.compile(r"^pub (?:fn|const|struct|enum|trait|type) (\w+)", re.MULTILINE)
@@ -49,7 +48,7 @@ class Crate:
         for file in sorted([*self.folder.glob("src/**/*.rt"), *self.folder.glob("specs/**/*.antt"),
                             *self.folder.glob("proofs/*.antt")]):
             text = file.read_text(encoding="utf-8")
-            self.words |= set(itertools.chain.from_iterable(it.findall(text) for it in DEFINED))
+            self.words.update(*(it.findall(text) for it in DEFINED))
             if file.suffix == ".rt":
                 self.note_methods(text)
                 self.aliases |= dict(re.findall(r"^pub type (\w+)(?:<[^=]*>)? = (\w+)", text, re.MULTILINE))
@@ -90,19 +89,11 @@ def unreachable(line: str, every: dict[str, Crate]) -> Iterator[str]:
             yield found[1]
 
 
-def expanded(path: str) -> list[str]:
-    """The paths that a path with words in braces stands for."""
-    several = re.match(r"(.*)\{([^}]*)\}(.*)", path)
-    if several is None:
-        return [path]
-    return [it for word in several[2].split(",") for it in expanded(several[1] + word + several[3])]
-
-
 def is_there(path: str, crates: list[str]) -> bool:
     """Whether a file or a folder is there: from the top, or in one of these crates, or in any if none."""
     places = [TOP, *(TOP / "crates" / it for it in crates or dependencies())]
-    return all(any(any(place.glob(it.strip("/"))) or "/" not in it
-                   and any(place.rglob(it)) for place in places) for it in expanded(path))
+    return any((place / path.strip("/")).exists() or "/" not in path and any(place.rglob(path))
+               for place in places)
 
 
 def undefined(line: str, crates: list[str], words: set[str]) -> Iterator[str]:
@@ -130,13 +121,8 @@ def missing() -> Iterator[tuple[str, int, str, str]]:
             yield "PROVED", 0, name, "isn't named there"
     for document in DOCUMENTS:
         crates: list[str] = []
-        calls = is_code = False
-        text = (TOP / "docs" / f"{document}.md").read_text(encoding="utf-8")
-        for number, line in enumerate(text.splitlines(), 1):
-            is_code ^= line.startswith("```")
-            if is_code or line.startswith("#"):
-                crates = []
-                continue
+        calls = False
+        for number, line in Document(TOP / "docs" / f"{document}.md").outside_code():
             if line.startswith("|") and "Calls; theorems" in line:
                 calls = True
             elif not line.startswith("|"):

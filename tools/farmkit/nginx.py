@@ -1,6 +1,7 @@
 """nginx with an example's configuration on a free port of this machine: names, addresses and certificates
 changed."""
 
+import contextlib
 import pathlib
 import signal
 import ssl
@@ -16,14 +17,6 @@ from farmkit.repository import EXAMPLES
 from farmkit.wanted import seconds_until
 
 TYPES = "types { text/html html; text/css css; text/javascript js; image/png png; }"
-
-
-def certificate(folder: str | pathlib.Path) -> tuple[str, str]:
-    """Makes a certificate of this machine: the paths of it and of its key."""
-    cert, key = f"{folder}/cert.pem", f"{folder}/key.pem"
-    run("openssl", "req", "-x509", "-newkey", "rsa:2048", "-nodes", "-days", "2", "-subj", "/CN=127.0.0.1",
-        "-keyout", key, "-out", cert)
-    return cert, key
 
 
 def changed(example: str, changes: Iterable[tuple[str, str]]) -> str:
@@ -43,13 +36,30 @@ def whole(folder: str | pathlib.Path, site: str) -> str:
             f"http {{ access_log off; {TYPES}\n{temporary}{site}\n}}\n")
 
 
-class Nginx:
+class Nginx(contextlib.AbstractContextManager["Nginx"]):
+    """nginx at a port of its own, with a certificate of this machine where it is for https."""
+
     def __init__(self, folder: str | pathlib.Path, scheme: str = "https") -> None:
         self.folder = pathlib.Path(folder)
         self.file = self.folder / "nginx.conf"
+        self.certificate, self.key = f"{folder}/cert.pem", f"{folder}/key.pem"
         self.process: subprocess.Popen[Any] | None = None
         self.port, = free_ports(1)
         self.address = f"{scheme}://127.0.0.1:{self.port}/"
+        if scheme == "https":
+            run("openssl", "req", "-x509", "-newkey", "rsa:2048", "-nodes", "-days", "2", "-subj",
+                "/CN=127.0.0.1", "-keyout", self.key, "-out", self.certificate)
+
+    def __exit__(self, *_: object) -> None:
+        self.end()
+
+    def site(self, example: str, changes: Iterable[tuple[str, str]]) -> str:
+        """A whole configuration with the site of an example: at this port, by any name, and changed."""
+        return whole(self.folder, changed(example, [
+            ("listen 443 ssl", f"listen 127.0.0.1:{self.port} ssl"),
+            ("server_name maps.county.example", "server_name _"),
+            ("/etc/ssl/maps.county.example.pem", self.certificate),
+            ("/etc/ssl/maps.county.example.key", self.key), *changes]))
 
     def start(self, configuration: str) -> None:
         """Starts nginx with a whole configuration, and waits until it listens."""

@@ -6,11 +6,10 @@ import resource
 import shutil
 import subprocess
 from collections.abc import Sequence
-from typing import Any
 
 from farmkit.processes import UNSIGNALLED, Node, free_ports
 from farmkit.wanted import PATIENCE, Wrong, until, want
-from farmkit.web import Answer, ask, loopback
+from farmkit.web import loopback
 
 NODES = 3
 # seconds until what a node has, and what it heard of its peers, is in its folder
@@ -32,7 +31,6 @@ class Nodes:
         peers = ",".join(map(loopback, self.peer))
         self.each = [Node(program, i, folder / str(i), peers, loopback(self.http[i]), loopback(self.admin[i]),
                           self.readers[i] if has_readers else None) for i in range(count)]
-        self.writers: list[subprocess.Popen[Any]] = []
 
     def __enter__(self) -> "Nodes":
         return self.begin()
@@ -96,7 +94,6 @@ class Nodes:
         assert writer.stdin is not None
         self[i].start(before=UNSIGNALLED, stdout=subprocess.DEVNULL, stderr=writer.stdin)
         writer.stdin.close()
-        self.writers.append(writer)
         self.wait(i)
 
     def limit(self, i: int, most: int | None) -> None:
@@ -116,7 +113,7 @@ class Nodes:
         self.kill(i)
         self.start(i)
 
-    def kill_all(self) -> None:
+    def end(self) -> None:
         for node in self.each:
             if node.process is not None:
                 node.process.kill()
@@ -141,38 +138,13 @@ class Nodes:
             shutil.copytree(folder, self[i].folder)
         self[i].life += 1
 
-    def end(self) -> None:
-        self.kill_all()
-        for writer in self.writers:
-            writer.wait()
-
     # ---- what they are asked
 
-    def get(self, i: int, path: str, port: int | None = None) -> Answer:
-        """An answer of a node, or of another port; status 0 and no body if there is none."""
-        answer = ask(loopback(port or self.http[i]), path, seconds=PATIENCE)
-        return answer if answer.status else Answer(0, b"")
-
-    def operator(self, i: int, path: str) -> tuple[int, str]:
-        """The status and the text of an answer of a node's operator's port; 0 if it doesn't answer."""
-        status, told = self.get(i, path, self.admin[i])
-        return status, told.decode().strip()
-
-    def health(self, i: int) -> tuple[int, str]:
-        """The status and the text of a node's health; 0 if it doesn't answer."""
-        return self.operator(i, "/healthz")
-
-    def votes(self, i: int) -> tuple[int, str]:
-        """The status and the text of whether a node can publish a map now; 0 if it doesn't answer."""
-        return self.operator(i, "/votez")
-
     def connected(self, i: int) -> list[float | None]:
-        """How many peers a node hears, and whether that makes a majority, by its metrics."""
-        told = self[i].metrics()
-        return [told.get(name) for name in ("wfarm_peers_connected", "wfarm_majority_connected")]
+        return self[i].connected()
 
-    def publish(self, i: int, text: bytes, port: int | None = None) -> int:
-        return ask(loopback(port or self.http[i]), "/publish", text, PATIENCE).status
+    def publish(self, i: int, text: bytes) -> int:
+        return self[i].ask("/publish", text, PATIENCE).status
 
     def publish_whole(self, i: int, text: bytes, *others: int) -> None:
         """Publishes a map, and waits until this node and these others have it or another."""
@@ -193,13 +165,9 @@ class Nodes:
 
     def name(self, i: int, sequence: int) -> str | None:
         """The name of the map that a node has published under a sequence; None if it has none there."""
-        status, text = self.operator(i, f"/map?seq={sequence}")
+        status, text = self[i].says(f"/map?seq={sequence}")
         found = re.search(r'NAME "([^"]*)"', text)
         return found[1] if status == 200 and found else None
-
-    def digest(self) -> bytes:
-        line = self.operator(0, f"/history?from={self.published(0)}")[1]
-        return bytes.fromhex(line.split()[1]) if line else bytes(32)
 
     def level(self) -> float:
         """The seconds until all nodes stand at one sequence; their histories are compared."""
@@ -207,7 +175,7 @@ class Nodes:
         top = self.published(0)
         for start in range(1, top + 1, 256):
             # (more may be published between two answers)
-            told = {"\n".join(self.operator(i, f"/history?from={start}")[1].splitlines()[:top - start + 1])
+            told = {"\n".join(self[i].says(f"/history?from={start}")[1].splitlines()[:top - start + 1])
                     for i in range(self.count)}
             want("histories differ", len(told) == 1 and told != {""})
         return seconds

@@ -123,9 +123,8 @@ class Farm(contextlib.AbstractContextManager["Farm"]):
         assert self.process.wait(timeout=20) == 0
 
     def kill(self) -> None:
-        end(self.process)
-        assert self.process.stdout is not None
-        self.process.stdout.close()
+        with self.process:
+            self.process.kill()
 
 
 # ---- wfarm node, wfarm replica
@@ -199,6 +198,18 @@ class Process(contextlib.AbstractContextManager["Process"]):
         """An answer of its operator's port; status 0 where none came."""
         return ask(self.operator, path, None, seconds)
 
+    def says(self, path: str, seconds: float = 20) -> tuple[int, str]:
+        """The status and the text of an answer of its operator's port; 0 and none where it doesn't answer."""
+        status, told = self.ask_operator(path, seconds)
+        return status, told.decode().strip() if status else ""
+
+    def health(self) -> tuple[int, str]:
+        return self.says("/healthz")
+
+    def votes(self) -> tuple[int, str]:
+        """What it says of whether it can publish a map now."""
+        return self.says("/votez")
+
     def published(self, seconds: float = 20) -> int | None:
         """The last sequence that it has published; None where it doesn't answer."""
         line = PUBLISHED.fullmatch(self.ask("/status", seconds=seconds).body)
@@ -208,9 +219,14 @@ class Process(contextlib.AbstractContextManager["Process"]):
         return int(line[1])
 
     def metrics(self) -> dict[str, float]:
-        lines = self.ask_operator("/metrics").body.decode().splitlines()
+        lines = self.says("/metrics")[1].splitlines()
         return {name: float(value) for name, _, value in (line.partition(" ") for line in lines)
                 if name.isidentifier()}
+
+    def connected(self) -> list[float | None]:
+        """How many peers it hears, and whether that makes a majority, by its metrics."""
+        told = self.metrics()
+        return [told.get(name) for name in ("wfarm_peers_connected", "wfarm_majority_connected")]
 
     def processor_seconds(self) -> float:
         """The processor time of it and its threads, from the scheduler, which counts nanoseconds."""

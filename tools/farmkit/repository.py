@@ -2,6 +2,7 @@
 
 import pathlib
 import re
+import shutil
 import subprocess
 import sys
 from collections.abc import Iterable
@@ -41,6 +42,13 @@ def below(name: str, top: pathlib.Path = TOP) -> set[str]:
             found.add(crate)
             waiting += every[crate]
     return found
+
+
+def copy_crates(to: pathlib.Path, *but: str) -> None:
+    """Copies the crates into a folder, without what was built and what has these names."""
+    shutil.copytree(TOP / "crates", to / "crates", ignore=shutil.ignore_patterns("out", *but))
+    for name in ("crates.txt", "HANDLES"):
+        shutil.copy(TOP / name, to)
 
 
 def changed_files(base: str, parts: Iterable[str], until: str | None = "HEAD") -> dict[str, list[str]]:

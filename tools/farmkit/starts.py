@@ -10,9 +10,10 @@ import tempfile
 import threading
 from argparse import Namespace
 from collections import Counter
-from collections.abc import Sequence
+from collections.abc import Callable, Sequence
+from typing import TypeVar
 
-from farmkit.calls import Follower, Call, Watcher, calls, traced
+from farmkit.calls import Watcher, follow, traced
 from farmkit.folder import Files, Folder, contents, drawn, extremes, put
 from farmkit.ledger import MOST_VIOLATIONS
 from farmkit.mapfiles import map_of
@@ -22,6 +23,7 @@ from farmkit.tapes import PUBLISHED, records, tape_of
 from farmkit.wanted import until
 from farmkit.web import loopback
 
+T = TypeVar("T")
 MAPS = 3
 # how long a start may take until it has come as far as is wanted
 START_SECONDS = 20
@@ -52,14 +54,6 @@ class Violations(Counter[str]):
         if words not in self and len(self) < MOST_VIOLATIONS:
             print("violation: " + words, flush=True)
         self[words] += 1
-
-
-class StartFollower(Follower):
-    """Follows a command that makes its folder, where that is there already."""
-
-    def refuse(self, call: Call) -> None:
-        if call.name not in ("mkdir", "mkdirat") or call.result == 0:
-            super().refuse(call)
 
 
 class Start:
@@ -130,19 +124,15 @@ class Alone:
         """Runs a command under strace, up to the cut or as far as is wanted: its folder, and its calls."""
         folder = Folder(contents(self.path))
         Start(traced(self.words(command), self.trace, cut), self.wanted)
-        follower = StartFollower(self.path, folder, Watcher(), self.given.without)
-        counts = Counter[str]()
-        for call in calls(self.trace):
-            follower.follow(call)
-            counts[call.name] += 1
-        follower.end()
-        return folder, counts
+        return folder, follow(self.trace, self.path, folder, Watcher(), self.given.without)
 
-    def begin_others(self, folders: list[Files]) -> None:
-        """Starts whoever runs beside it, each on what its folder has to have."""
-        for node, files in zip(self.others, folders):
-            put(node.folder, files)
+    def beside(self, others: list[Files], files: Files, act: Callable[[], T]) -> tuple[T, list[Files]]:
+        """What is done on these files, while whoever is beside it runs on those; what those have then."""
+        put(self.path, files)
+        for node, theirs in zip(self.others, others):
+            put(node.folder, theirs)
             node.start()
+        return act(), self.end_others()
 
     def end_others(self) -> list[Files]:
         """Ends them: what their folders have then."""
@@ -231,25 +221,16 @@ class Following(Alone):
 def cut_command(subject: Alone, command: str, files: Files, draw: random.Random) -> int:
     """Cuts a command at each of its calls, or some. How many violations."""
     others = subject.end_others()
-    put(subject.path, files)
-    subject.begin_others(others)
-    _, counts = subject.run(command)
-    subject.end_others()
+    (_, counts), _ = subject.beside(others, files, lambda: subject.run(command))
     published, most = published_in(files.get(subject.tape, b"")), subject.given.cuts
     done, violations = Counter[str](), Violations()
     cuts = [(kind, index) for kind in CUT_AT for index in range(1, counts[kind] + 1)]
     for kind, index in cuts if len(cuts) <= most else draw.sample(cuts, most):
-        put(subject.path, files)
-        subject.begin_others(others)
-        folder, _ = subject.run(command, (kind, index))
-        at_cut = subject.end_others()
+        (folder, _), at_cut = subject.beside(others, files, lambda: subject.run(command, (kind, index)))
         done["cuts"] += 1
         done["unsynced"] += is_unsynced(folder)
         for left in (*extremes(folder), drawn(folder, draw)):
-            put(subject.path, left)
-            subject.begin_others(at_cut)
-            said = subject.start()
-            subject.end_others()
+            said, _ = subject.beside(at_cut, left, subject.start)
             done["folders"] += 1
             if why := subject.judge(command, starts_in(files), left, said, published):
                 violations.add(f"{command}, cut at {kind} {index}: {why}")

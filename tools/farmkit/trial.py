@@ -1,8 +1,11 @@
 """What a trial saw, and how its cases went."""
 
+import contextlib
 import pathlib
 import tempfile
-from collections.abc import Callable, Iterable, Sequence
+import threading
+from collections import Counter
+from collections.abc import Callable, Hashable, Iterable, Iterator, Sequence
 from typing import Any
 
 from farmkit.wanted import Wrong, seconds_until
@@ -31,6 +34,24 @@ class Trial:
     def conclude(self) -> int:
         print(f"{self.wrong} wrong")
         return int(bool(self.wrong))
+
+
+@contextlib.contextmanager
+def meanwhile(call: Callable[[], Iterable[Hashable]], pause: float = 0.02) -> Iterator[Counter[Hashable]]:
+    """Calls something again and again in a thread, and counts the things that it returned."""
+    seen, over = Counter[Hashable](), threading.Event()
+
+    def go_on() -> None:
+        while not over.wait(pause):
+            seen.update(call())
+
+    thread = threading.Thread(target=go_on, daemon=True)
+    thread.start()
+    try:
+        yield seen
+    finally:
+        over.set()
+        thread.join()
 
 
 def go_through(every: Iterable[Callable[..., Any]], names: Sequence[str],

@@ -8,7 +8,7 @@ Coordinates are whole numbers, so that equal points are equal.
 """
 
 import math
-from functools import cached_property
+from functools import cache, cached_property
 
 from .errors import library
 from .geometry import meetings
@@ -20,9 +20,7 @@ APART = "FF*F*****"  # two lines share nothing but ends (DE-9IM)
 def distance(point, first, last):
     """How far the point lies from the segment."""
     dx, dy = last[0] - first[0], last[1] - first[1]
-    span = dx * dx + dy * dy
-    if span == 0:
-        return math.dist(point, first)
+    span = dx * dx + dy * dy or 1  # (of a loop, which begins where it ends)
     along = ((point[0] - first[0]) * dx + (point[1] - first[1]) * dy) / span
     along = 0.0 if along < 0 else 1.0 if along > 1 else along
     return math.hypot(point[0] - first[0] - along * dx, point[1] - first[1] - along * dy)
@@ -82,7 +80,6 @@ class Borders:
     def __init__(self, parts):
         self.arcs = {}  # by their points
         self.neighbours = {}  # the points beside a point, or None where shapes meet
-        self.answers = {}  # of `were_apart`
         for part, _ in parts:
             if part[0] == part[-1]:
                 part = [part[-2], *part]
@@ -147,12 +144,11 @@ class Borders:
                 found |= {one, other}
         return found
 
+    @cache
     def were_apart(self, *arcs):
         """Whether one arc didn't cross itself, or two not one another, before anything was left out."""
-        if arcs not in self.answers:
-            one, *others = (self.line_of(arc.points) for arc in arcs)
-            self.answers[arcs] = one.relate_pattern(others[0], APART) if others else one.is_simple
-        return self.answers[arcs]
+        one, *others = (self.line_of(arc.points) for arc in arcs)
+        return one.relate_pattern(others[0], APART) if others else one.is_simple
 
     def simplified(self, part, tolerance):
         """The part that its arcs make at this distance."""

@@ -6,9 +6,11 @@ the edge of the cut is left out, so a shape that leaves the extent and comes bac
 
 import math
 from dataclasses import replace
+from functools import partial
+from itertools import groupby, pairwise
 
 from .errors import MapError
-from .geometry import bounds, greatest_first, longer_side, meet, widened
+from .geometry import bounds, greatest_first, longer_side, once, widened
 from .merging import dissolved
 from .model import EXTENT_DIGITS, LEAST_POINTS
 from .texts import number
@@ -45,8 +47,7 @@ def cut_features(layer, box):
         if all(is_inside(part, box) for part in feature.parts):
             yield feature
             continue
-        near = [part for part in feature.parts if meet(bounds([part]), box)]
-        parts = [piece for part in near for piece in ([part] if is_inside(part, box) else way(part, box))]
+        parts = [piece for part in feature.parts for piece in ([part] if is_inside(part, box) else way(part, box))]
         if layer.kind == "POLYGON":
             parts = without_twice(parts, box)
         parts = [part for part in parts if len(part) >= LEAST_POINTS[layer.kind]]
@@ -72,51 +73,36 @@ def is_kept(point, side):
 def crossing(one, other, side):
     """The point, in whole numbers, where the line between two points meets the side; the same both ways."""
     axis, where, _ = side
-    first, last = sorted((one, other))
+    first, last = sorted((one, other), key=lambda point: point[axis])
     rise, run = last[1 - axis] - first[1 - axis], last[axis] - first[axis]
-    if run < 0:
-        rise, run = -rise, -run
-        first = last
     across = first[1 - axis] + (2 * rise * (where - first[axis]) + run) // (2 * run)
     return (where, across) if axis == 0 else (across, where)
 
 
 def cut_points(part, box):
-    return [[point for point in part if all(is_kept(point, side) for side in sides_of(box))]]
+    return [[point for point in part if is_inside([point], box)]]
+
+
+def cut_at(part, side):
+    """The points of the part behind its first, those where it crosses the side too."""
+    for before, point in pairwise(part):
+        if is_kept(before, side) != is_kept(point, side):
+            yield crossing(before, point, side)
+        yield point
 
 
 def cut_line(line, box):
     lines = [line]
     for side in sides_of(box):
-        lines = [piece for one in lines for piece in cut_line_at(one, side)]
+        whole = [[one[0], *cut_at(one, side)] for one in lines]
+        lines = [once(run) for one in whole for kept, run in groupby(one, partial(is_kept, side=side)) if kept]
     return lines
-
-
-def cut_line_at(line, side):
-    """The pieces of the line on the kept side."""
-    result, piece = [], [line[0]] if is_kept(line[0], side) else []
-    for before, point in zip(line, line[1:]):
-        step(piece, before, point, side)
-        if piece and not is_kept(point, side):
-            result.append(piece)
-            piece = []
-    return [piece for piece in [*result, piece] if len(piece) > 1]
-
-
-def step(piece, before, point, side):
-    """Adds what of a line between two points is on the kept side."""
-    ends = [crossing(before, point, side)] if is_kept(before, side) != is_kept(point, side) else []
-    for end in [*ends, point] if is_kept(point, side) else ends:
-        if piece[-1:] != [end]:
-            piece.append(end)
 
 
 def cut_ring(ring, box):
     """The ring within the box, by Sutherland and Hodgman's method: parts of it hang together along the edges."""
     for side in sides_of(box):
-        piece = []
-        for before, point in zip(ring, ring[1:]):
-            step(piece, before, point, side)
+        piece = once(point for point in cut_at(ring, side) if is_kept(point, side))
         if len(piece) < 3:
             return []
         ring = piece if piece[0] == piece[-1] else [*piece, piece[0]]
@@ -138,7 +124,6 @@ def along_edges(ring, on_edges):
         for axis, where, points in on_edges:
             if before[axis] == where == point[axis]:
                 low, high = sorted((before, point))
-                between = sorted(other for other in points if low < other < high)
-                result += between if before < point else between[::-1]
+                result += sorted((other for other in points if low < other < high), reverse=point < before)
         result.append(point)
     return result

@@ -3,7 +3,6 @@
 import contextlib
 import importlib
 import sys
-import warnings
 
 
 class MapError(Exception):
@@ -45,9 +44,7 @@ class Notes:
 def library(name, package):
     """The module, or an error that names its Debian package."""
     try:
-        with warnings.catch_warnings():
-            warnings.simplefilter("ignore", DeprecationWarning)
-            return importlib.import_module(name)
+        return importlib.import_module(name)
     except ImportError as error:
         raise MapError(
             f"Python's {name} isn't there: apt-get install {package}, and run this tool by Debian's Python, "

@@ -17,29 +17,17 @@ STEP = 1.03  # by which a distance grows where borders that would cross kept too
 
 
 @dataclass
-class Largest:
-    """The largest displacement, rounding included: in metres, in pixels, and where (in millionths of a unit; None where points
-    were rounded alone)."""
-
-    metres: float
-    pixels: float
-    place: tuple
-
-    def __str__(self):
-        metres = f"{self.metres:,.0f}" if self.metres >= 100 else f"{self.metres:.3g}"
-        return f"{metres} m, {self.pixels:.2g} pixels of {MOST_PIXELS:,}"
-
-
-@dataclass
 class Written:
-    """A map's text, how large it is, and what became too small to draw."""
+    """A map's text, how large it is, and what became too small to draw. The largest displacement is in words, its place in
+    millionths of a unit."""
 
     text: str
     features: int
     points: int
     lost_parts: int
     lost_features: list
-    largest: Largest = None
+    largest: str = ""
+    place: tuple = None
 
     def excess(self):
         """Which limit the map is over, or None."""
@@ -110,16 +98,14 @@ class Fitting:
         """A distance on the largest picture of the extent."""
         return distance / self.unit * MOST_PIXELS / longer_side(self.extent)
 
-    def distance(self, tolerance):
-        """The distance in words: in metres on the ground and in pixels."""
-        metres = tolerance / self.unit * self.metres
-        return f"{metres:,.4g} m on the ground, {self.pixels(tolerance):.2g} pixels of a picture {MOST_PIXELS:,} pixels wide"
-
     def largest(self, tolerance):
+        """The largest displacement, rounding included, and where it is; None where points were rounded alone."""
         distance, point = self.borders.displacement(tolerance)
-        place = point and tuple(side * 10**EXTENT_DIGITS // self.unit for side in point)
         whole = distance + ROUNDING
-        return Largest(whole / self.unit * self.metres, self.pixels(whole), place)
+        metres = whole / self.unit * self.metres
+        spelled = f"{metres:,.0f}" if metres >= 100 else f"{metres:.3g}"
+        place = point and tuple(side * 10**EXTENT_DIGITS // self.unit for side in point)
+        return f"{spelled} m, {self.pixels(whole):.2g} pixels of {MOST_PIXELS:,}", place
 
 
 def rounded(the_map, digits, notes):
@@ -174,9 +160,10 @@ def finished(the_map, options, notes):
     if excess is not None:
         remedy = "write --fit" if not options.simplify else "simplify more, or write --fit"
         raise MapError(f"the map has {excess}: {remedy}, take a part by --extent, leave out layers or features, or make two maps (docs/MAPFILES.md)")
-    written.largest = fitting.largest(tolerance)
+    written.largest, written.place = fitting.largest(tolerance)
     if tolerance is not None:
-        notes.add(f"simplified by {fitting.distance(tolerance)}")
+        notes.add(f"simplified by {tolerance / fitting.unit * fitting.metres:,.4g} m on the ground, "
+                  f"{fitting.pixels(tolerance):.2g} pixels of a picture {MOST_PIXELS:,} pixels wide")
     if written.lost_parts:
         notes.lost(f"{written.lost_parts} parts of shapes that became too small to draw")
     tell_lost(written.lost_features, "", notes)

@@ -2,15 +2,18 @@
 
 import math
 import warnings
+from itertools import groupby
 
 from .errors import MapError, library
 from .model import EXTENT_DIGITS, LEAST_POINTS
 
 EARTH_RADIUS = 6_378_137.0  # metres, of the sphere of EPSG:3857
-METRES_A_DEGREE = math.radians(1) * EARTH_RADIUS
 DIGITS = {"4326": 6, "3857": 1}  # after the point, unless asked otherwise
 WORLD = {"4326": (180.0, 90.0), "3857": (math.pi * EARTH_RADIUS, 20_048_966.2)}  # half its width and height
 ROUNDING = 1e-9  # of the world's half, by which a point at its edge may lie outside
+CURES = {
+    "4326": "give the data's own system (--source), or cut the data (ogr2ogr -wrapdateline)",
+    "3857": "give the data's own system (--source), cut the data at 85.06 degrees, or write --crs 4326"}
 
 
 def checked(points, crs, kind, place):
@@ -18,20 +21,14 @@ def checked(points, crs, kind, place):
     half_width, half_height = WORLD[crs]
     for x, y, *_ in points:
         if not (math.isfinite(x) and math.isfinite(y)):
-            raise MapError(f"{place}: a point without a place in EPSG:{crs} ({x:g} {y:g}): {cure(crs)}")
+            raise MapError(f"{place}: a point without a place in EPSG:{crs} ({x:g} {y:g}): {CURES[crs]}")
         if abs(x) > half_width * (1 + ROUNDING) or abs(y) > half_height * (1 + ROUNDING):
-            raise MapError(f"{place}: the point {x:g} {y:g} lies outside of EPSG:{crs}: {cure(crs)}")
+            raise MapError(f"{place}: the point {x:g} {y:g} lies outside of EPSG:{crs}: {CURES[crs]}")
     if kind != "POINT":
         for (x, *_), (then, *_) in zip(points, points[1:]):
             if half_width < abs(then - x) < 2 * half_width * (1 - ROUNDING):
                 raise MapError(f"{place}: it crosses 180 degrees ({x:g} to {then:g}): cut it there (ogr2ogr -wrapdateline)")
     return points
-
-
-def cure(crs):
-    if crs == "3857":
-        return "give the data's own system (--source), cut the data at 85.06 degrees, or write --crs 4326"
-    return "give the data's own system (--source), or cut the data (ogr2ogr -wrapdateline)"
 
 
 def bounds(parts):
@@ -66,12 +63,17 @@ def on_grid(parts, kind, digits):
     for part in parts:
         points = [(round(point[0] * scale), round(point[1] * scale)) for point in part]
         if kind != "POINT":
-            points = points[:1] + [point for before, point in zip(points, points[1:]) if point != before]
+            points = once(points)
         if kind == "POLYGON" and points and points[0] != points[-1]:
             points.append(points[0])
         if len(points) >= LEAST_POINTS[kind]:
             result.append(points)
     return greatest_first(result, kind)
+
+
+def once(points):
+    """The points, those that follow their like left out."""
+    return [point for point, _ in groupby(points)]
 
 
 def greatest_first(parts, kind):
@@ -89,7 +91,7 @@ def ring_area(ring):
 def metres_a_unit(crs, extent):
     """How many metres on the ground a unit of the system is, upwards from the middle of the extent (in units)."""
     if crs == "4326":
-        return METRES_A_DEGREE
+        return math.radians(1) * EARTH_RADIUS
     return 1 / math.cosh((extent[1] + extent[3]) / 2 / EARTH_RADIUS)
 
 

@@ -4,7 +4,6 @@ The map is drawn by the program, as every node will draw it. Data are drawn by i
 limits, one over another; a mapfile is drawn by MapServer.
 """
 
-import re
 import shutil
 import subprocess
 import tempfile
@@ -14,7 +13,7 @@ from urllib.parse import quote
 
 from pixmap_to_png import png
 
-from .errors import MapError, library
+from .errors import MapError, library, saying
 from .geometry import bounds, longer_side, meet, widened
 from .model import EXTENT_DIGITS, Class, Feature, Label, Layer, Map, canonical_text
 from .texts import ascii_letters, number
@@ -68,29 +67,20 @@ class Painter:
             raise MapError(f"--program {self.program}: {error}") from error
         if done.returncode != 0 or not done.stdout.startswith(b"P6"):
             raise MapError(f"{self.program} draw doesn't draw the map: {(done.stderr or done.stdout).decode().strip()}")
-        return self.pixels(done.stdout)
-
-    def pixels(self, pixmap):
-        head = re.match(rb"P6\s+(?:#[^\n]*\s+)?(\d+) (\d+)\s+255\n", pixmap)
-        pixels = self.numpy.frombuffer(pixmap, "uint8", offset=head.end())
-        return pixels.reshape(int(head[2]), int(head[1]), 3).copy()
+        return pixels_of(done.stdout)
 
     def source(self, fitting, extent):
         """A map of any size, the points of which that no picture shows are left out: its shapes in pieces, then its labels.
         Each piece has colours of its own, so that what it paints is known, white too."""
         codes = {}
-        picture = self.numpy.full(size_of(extent, self.side)[::-1], WHITE, "uint32")
+        picture = self.numpy.zeros(size_of(extent, self.side)[::-1], int)
         the_map = seen(fitting, extent, self.side)
         for piece in [*pieces(the_map, extent), *labels(the_map)]:
             for layer in piece.layers:
                 layer.classes = [coded_class(group, codes) for group in layer.classes]
-            drawn = self.drawn(piece, canonical_text(piece), extent).astype("uint32")
-            drawn = drawn[:, :, 0] << 16 | drawn[:, :, 1] << 8 | drawn[:, :, 2]
+            drawn = self.drawn(piece, canonical_text(piece), extent) @ (1 << 16, 1 << 8, 1)
             picture = self.numpy.where(drawn == WHITE, picture, drawn)
-        result = self.numpy.full((*picture.shape, 3), 255, "uint8")
-        for color, code in codes.items():
-            result[picture == code] = color
-        return result
+        return self.numpy.array([(255, 255, 255), *codes], "uint8")[picture]
 
     def caption(self, text, width):
         """A line of letters that labels have."""
@@ -102,14 +92,18 @@ class Painter:
         return self.drawn(the_map, canonical_text(the_map), size, width)
 
 
+def pixels_of(pixmap):
+    """A P6 pixmap as an array of numpy of height, width and 3."""
+    _, size, _, pixels = pixmap.split(b"\n", 3)
+    width, height = map(int, size.split())
+    return library("numpy", "python3-numpy").frombuffer(bytearray(pixels), "uint8").reshape(height, width, 3)
+
+
 def coded_class(group, codes):
     """The class in colours that stand for its own: 1, 2, 3, .."""
 
     def coded(color):
-        if color is None:
-            return None
-        code = codes.setdefault(color, len(codes) + 1)
-        return code >> 16, code >> 8 & 255, code & 255
+        return color and tuple(codes.setdefault(color, len(codes) + 1).to_bytes(3, "big"))
 
     styles = [replace(style, color=coded(style.color), outline=coded(style.outline)) for style in group.styles]
     return replace(group, styles=styles, label=group.label and replace(group.label, color=coded(group.label.color)))
@@ -160,50 +154,41 @@ def labels(the_map):
         yield whole
 
 
-class MapServer:
-    """Draws a mapfile by MapServer's library, in the system of the map that is made of it."""
-
-    def __init__(self, path, names, crs, scale):
-        self.path, self.names, self.crs, self.scale = path, names, crs, scale
-        self.script = library("mapscript", "python3-mapscript")
-
-    def drawn(self, extent, width, height):
-        """A P6 pixmap of the extent, in units. Layers are on or off, and symbols as large, as at the scale."""
-        script = self.script
-        try:
-            the_map = script.mapObj(str(self.path))
-            the_map.applyDefaultSubstitutions()
-            for layer in map(the_map.getLayer, range(the_map.numlayers)):
-                is_on = self.names is None or layer.name in self.names
-                layer.status = script.MS_ON if is_on else script.MS_OFF
-                if not layer.getProjection():
-                    layer.setProjection(the_map.getProjection())
-            the_map.setProjection(f"init=epsg:{self.crs}")
-            the_map.units = script.projectionObj(f"init=epsg:{self.crs}").getUnits()
-            half, half_up = (extent[2] - extent[0]) / width / 2, (extent[3] - extent[1]) / height / 2  # its extent ends in a pixel's middle
-            the_map.setSize(width, height)
-            the_map.setExtent(extent[0] + half, extent[1] + half_up, extent[2] - half, extent[3] - half_up)
-            if self.scale:
-                dots = self.scale / the_map.scaledenom
-                the_map.resolution, the_map.defresolution = the_map.resolution * dots, the_map.defresolution * dots
-            return pixmap_of(script, the_map)
-        except (OSError, script.MapServerError, script.MapServerChildError) as error:
-            raise MapError(f"{self.path}: MapServer can't draw it for --preview: {error}") from error
-
-
-def pixmap_of(script, the_map):
-    image = script.outputFormatObj("GDAL/PNM", "pixmap")
-    image.imagemode, image.transparent = script.MS_IMAGEMODE_RGB, script.MS_OFF
-    the_map.appendOutputFormat(image)
-    the_map.selectOutputFormat("pixmap")
-    with tempfile.NamedTemporaryFile(suffix=".ppm") as file:
-        the_map.draw().save(file.name)
-        return Path(file.name).read_bytes()
+def drawn_by_mapserver(path, names, crs, scale, side, extent):
+    """A P6 pixmap of a mapfile's layers, of these names or all, by MapServer's library, in the system of the map that is made
+    of it. The extent is in millionths of a unit. Layers are on or off, and symbols as large, as at the scale."""
+    script = library("mapscript", "python3-mapscript")
+    with saying(f"{path}: MapServer can't draw it for --preview: @",
+                OSError, script.MapServerError, script.MapServerChildError):
+        the_map = script.mapObj(str(path))
+        the_map.applyDefaultSubstitutions()
+        for layer in map(the_map.getLayer, range(the_map.numlayers)):
+            is_on = names is None or layer.name in names
+            layer.status = script.MS_ON if is_on else script.MS_OFF
+            if not layer.getProjection():
+                layer.setProjection(the_map.getProjection())
+        the_map.setProjection(f"init=epsg:{crs}")
+        the_map.units = script.projectionObj(f"init=epsg:{crs}").getUnits()
+        width, height = size_of(extent, side)
+        minx, miny, maxx, maxy = (side / 10**EXTENT_DIGITS for side in extent)
+        half, half_up = (maxx - minx) / width / 2, (maxy - miny) / height / 2  # its extent ends in a pixel's middle
+        the_map.setSize(width, height)
+        the_map.setExtent(minx + half, miny + half_up, maxx - half, maxy - half_up)
+        if scale:
+            dots = scale / the_map.scaledenom
+            the_map.resolution, the_map.defresolution = the_map.resolution * dots, the_map.defresolution * dots
+        image = script.outputFormatObj("GDAL/PNM", "pixmap")
+        image.imagemode, image.transparent = script.MS_IMAGEMODE_RGB, script.MS_OFF
+        the_map.appendOutputFormat(image)
+        the_map.selectOutputFormat("pixmap")
+        with tempfile.NamedTemporaryFile(suffix=".ppm") as file:
+            the_map.draw().save(file.name)
+            return Path(file.name).read_bytes()
 
 
 def write(path, painter, the_map, written, source):
     """Writes the preview. The source is a function of an extent, in millionths of a unit, to pixels."""
-    numpy, largest = painter.numpy, written.largest
+    numpy = painter.numpy
 
     def beside(left, right):
         gap = numpy.full((left.shape[0], GAP, 3), GREY, "uint8")
@@ -211,14 +196,14 @@ def write(path, painter, the_map, written, source):
 
     pictures = [source(the_map.extent), painter.drawn(the_map, written.text, the_map.extent)]
     closer = []
-    if largest.place is not None:
-        near = surroundings(the_map.extent, largest.place)
+    if written.place is not None:
+        near = surroundings(the_map.extent, written.place)
         for picture in pictures:
             frame(picture, the_map.extent, near)
         closer = [beside(source(near), painter.drawn(the_map, written.text, near))]
     width = pictures[0].shape[1]
     heads = [painter.caption(text, width) for text in ("SOURCE", "MAP")]
-    below = painter.caption(f"LARGEST DISPLACEMENT {largest}".upper(), 2 * width + GAP)
+    below = painter.caption(f"LARGEST DISPLACEMENT {written.largest}".upper(), 2 * width + GAP)
     whole = numpy.concatenate([beside(*heads), beside(*pictures), below, *closer])
     pixmap = b"P6\n%d %d\n255\n" % (whole.shape[1], whole.shape[0]) + whole.tobytes()
     path.write_bytes(png(pixmap))

@@ -1,16 +1,19 @@
 """Data as an agency has them, made anew: communes, roads and towns in EPSG:2056, as shapefile and GeoPackage, and mapfiles."""
 
+import json
 import math
 import random
-from itertools import product, repeat
+from itertools import product
 from pathlib import Path
+from string import Template
 
-from osgeo import gdal, ogr, osr
+from osgeo import gdal
 
 gdal.UseExceptions()
 
 WEST, SOUTH, WIDTH, HEIGHT = 2_600_000, 1_200_000, 100_000, 50_000  # metres of EPSG:2056
 USES = ("Wald", "Wiese", "Stadt", "Fels")
+LATIN = {"layerCreationOptions": ["ENCODING=ISO-8859-1"]}  # of a shapefile
 
 
 def crooked(first, last, depth, random_source):
@@ -28,13 +31,12 @@ def coverage(columns, rows, depth):
     source = random.Random(73)
     step_x, step_y = WIDTH / columns, HEIGHT / rows
 
-    def corner(column, row):
-        inner_x, inner_y = 0 < column < columns, 0 < row < rows
-        x = WEST + column * step_x + inner_x * source.uniform(-0.25, 0.25) * step_x
-        y = SOUTH + row * step_y + inner_y * source.uniform(-0.25, 0.25) * step_y
-        return x, y
+    def pushed(place, count, step):
+        """Where a corner lies, pushed aside where it isn't at the edge."""
+        return place * step + (0 < place < count) * source.uniform(-0.25, 0.25) * step
 
-    corners = {(c, r): corner(c, r) for c in range(columns + 1) for r in range(rows + 1)}
+    corners = {(c, r): (WEST + pushed(c, columns, step_x), SOUTH + pushed(r, rows, step_y))
+               for c in range(columns + 1) for r in range(rows + 1)}
     across = {(c, r): crooked(corners[c, r], corners[c + 1, r], depth, source) for c in range(columns) for r in range(rows + 1)}
     upward = {(c, r): crooked(corners[c, r], corners[c, r + 1], depth, source) for c in range(columns + 1) for r in range(rows)}
     rings = []
@@ -46,62 +48,40 @@ def coverage(columns, rows, depth):
     return rings
 
 
-def geometry(kind, points):
-    """A POINT, a LINESTRING, or a POLYGON of one ring."""
-    listed = ", ".join(f"{x!r} {y!r}" for x, y in points)
-    return ogr.CreateGeometryFromWkt(f"{kind} (({listed}))" if kind == "POLYGON" else f"{kind} ({listed})")
+def feature(kind, coordinates, **properties):
+    """A feature of GeoJSON, without a geometry if its kind is None."""
+    shape = kind and {"type": kind, "coordinates": coordinates}
+    return {"type": "Feature", "properties": properties, "geometry": shape}
 
 
-def write_polygons(path, rings, fields=(), values=(), epsg=2056):
-    """A GeoPackage of one table, each polygon with the values of its fields."""
-    rows = [(geometry("POLYGON", ring), own) for ring, own in zip(rings, values or repeat(()))]
-    write_table(path, ogr.wkbPolygon, fields, rows, epsg=epsg)
+def collection(*features, **members):
+    return json.dumps({"type": "FeatureCollection", **members, "features": features})
 
 
-def write_table(path, kind, fields, rows, table=None, epsg=2056, options=()):
-    """A shapefile, or a table of a GeoPackage, which may have others. Rows are (geometry, values). A field is of texts or
-    of whole numbers, as the first row's value."""
-    if path.suffix == ".gpkg" and path.exists():
-        data = gdal.OpenEx(str(path), gdal.OF_VECTOR | gdal.OF_UPDATE)
-    else:
-        driver = "GPKG" if path.suffix == ".gpkg" else "ESRI Shapefile"
-        data = ogr.GetDriverByName(driver).CreateDataSource(str(path))
-    system = osr.SpatialReference()
-    system.ImportFromEPSG(epsg)
-    system.SetAxisMappingStrategy(osr.OAMS_TRADITIONAL_GIS_ORDER)
-    layer = data.CreateLayer(table or path.stem, system, kind, options=list(options))
-    for name, value in zip(fields, rows[0][1]):
-        layer.CreateField(ogr.FieldDefn(name, ogr.OFTString if isinstance(value, str) else ogr.OFTInteger))
-    layer.StartTransaction()
-    for shape, values in rows:
-        feature = ogr.Feature(layer.GetLayerDefn())
-        if shape is not None:
-            feature.SetGeometry(shape)
-        for name, value in zip(fields, values):
-            feature[name] = value
-        layer.CreateFeature(feature)
-    layer.CommitTransaction()
+def write_table(path, features, table=None, epsg=2056, **how):
+    """A shapefile, or a table of a GeoPackage, which may have others, of features in the system."""
+    gdal.VectorTranslate(str(path), collection(*features), accessMode="append", layerName=table or path.stem,
+                         dstSRS=f"EPSG:{epsg}", reproject=False, **how)
 
 
 def write_data(folder, columns=20, rows=10, depth=5, roads=300, towns=60):
     """communes.shp in Latin-1, and net.gpkg with the tables roads and towns."""
     source = random.Random(37)
     names = ("Genève", "Zürich", "Neuchâtel", "Bülach", "Fribourg", "Aigle")
-    communes = [(geometry("POLYGON", ring), (f"{names[i % 6]} {i}", USES[i * 7 % 4], i * 37 % 5000, i + 1))
-                for i, ring in enumerate(coverage(columns, rows, depth))]
-    write_table(folder / "communes.shp", ogr.wkbPolygon, ("NAME", "USE", "POP", "NR"), communes,
-                options=["ENCODING=ISO-8859-1"])
+    write_table(folder / "communes.shp", [
+        feature("Polygon", [ring], NAME=f"{names[i % 6]} {i}", USE=USES[i * 7 % 4], POP=i * 37 % 5000, NR=i + 1)
+        for i, ring in enumerate(coverage(columns, rows, depth))], **LATIN)
     ways = []
     for i in range(roads):
         start = WEST + source.uniform(0, WIDTH), SOUTH + source.uniform(0, HEIGHT)
         angle, far = source.uniform(0, 2 * math.pi), source.uniform(2_000, 9_000)
         end = (min(max(start[0] + far * math.cos(angle), WEST), WEST + WIDTH), min(max(start[1] + far * math.sin(angle), SOUTH), SOUTH + HEIGHT))
-        ways.append((geometry("LINESTRING", [*crooked(start, end, 4, source), end]),
-                     ("AHNK"[i % 4], f"{'AHNK'[i % 4]}{i}", i % 3)))
-    write_table(folder / "net.gpkg", ogr.wkbLineString, ("class", "number", "lanes"), ways, "roads")
-    places = [(geometry("POINT", [(WEST + source.uniform(0, WIDTH), SOUTH + source.uniform(0, HEIGHT))]),
-               (f"Stadt-{i}", source.randrange(200, 90_000))) for i in range(towns)]
-    write_table(folder / "net.gpkg", ogr.wkbPoint, ("name", "people"), places, "towns")
+        own = {"class": "AHNK"[i % 4], "number": f"{'AHNK'[i % 4]}{i}", "lanes": i % 3}
+        ways.append(feature("LineString", [*crooked(start, end, 4, source), end], **own))
+    write_table(folder / "net.gpkg", ways, "roads")
+    write_table(folder / "net.gpkg", [
+        feature("Point", [WEST + source.uniform(0, WIDTH), SOUTH + source.uniform(0, HEIGHT)],
+                name=f"Stadt-{i}", people=source.randrange(200, 90_000)) for i in range(towns)], "towns")
 
 
 LABEL = 'LABEL COLOR 40 40 40 SIZE TINY POSITION CC END'
@@ -113,7 +93,4 @@ def write(folder, labels=True, **sizes):
     values = {"west": WEST, "south": SOUTH, "east": WEST + WIDTH, "north": SOUTH + HEIGHT,
               "labels": '  LABELITEM "NAME"' if labels else "", "label": LABEL if labels else ""}
     for form in (Path(__file__).parent / "agency_files").iterdir():
-        text = form.read_text()
-        for word, value in values.items():
-            text = text.replace("{" + word + "}", str(value))
-        (folder / form.name).write_text(text)
+        (folder / form.name).write_text(Template(form.read_text()).substitute(values))

@@ -40,12 +40,9 @@ def made(tool, words, folder):
     return done.stdout.decode(), done.stderr.decode().strip()
 
 
-def canonical(program, text):
-    return subprocess.run([program, "canon"], input=text, capture_output=True)
-
-
-def picture(program, query, text):
-    return subprocess.run([program, "draw", query], input=text, capture_output=True).stdout
+def answer(program, text, *words):
+    """What the program says of a mapfile."""
+    return subprocess.run([program, *words], input=text, capture_output=True)
 
 
 def fault(tool, case, folder, program, keep):
@@ -82,7 +79,7 @@ def wrong_error(case, done, lines):
 def wrong_map(case, done, lines, program):
     if done.returncode != 0:
         yield f"status {done.returncode}: {lines}"
-    own = canonical(program, done.stdout)
+    own = answer(program, done.stdout, "canon")
     if own.stdout != done.stdout:
         yield f"wfarm canon has another text: {own.stderr.decode().strip()}"
     present = done.stdout.decode().splitlines()

@@ -2,7 +2,6 @@
 
 import json
 import re
-import subprocess
 from pathlib import Path
 
 import numpy
@@ -10,19 +9,19 @@ from shapely.geometry import Polygon
 from shapely.ops import unary_union
 
 from farmkit.measure import timed
+from farmkit.repository import EXAMPLES
 from maps.borders import weights
-from maps.preview import CAPTION, GAP
+from maps.preview import CAPTION, GAP, pixels_of, size_of
 from maps.texts import number
 
 from . import agency, pictures
-from .case import TOOLS, canonical, made
+from .case import TOOLS, answer, made
 from .constructs import table_of_the_page
 from .keywords import a_map_of_each_keyword, keywords_of_the_page
 
 COMMUNES = ["--name", "a", "--crs", "3857", "--layer", "communes.shp", "--label", "NAME", "--ascii"]
 TABLE = ["--name", "a", "--crs", "3857", "--layer", "a.gpkg"]
 WARDS = ["--name", "a", "--layer", "wards.geojson", "--label", "ward", "--class-by", "party"]
-EXAMPLES = TOOLS.parent / "examples"
 DATA = TOOLS / "geojson"
 
 
@@ -53,10 +52,9 @@ def borders_do_not_cross(folder, program, keep):
     tongue = [(0, 0), (50, 0), (50, 49), (52, 49), (52, 0), (100, 0), (100, 100), (60, 100), (51, 51), (40, 100), (0, 100), (0, 0)]
     inner = [(44, 90), (51, 55), (56, 90), (44, 90)]
     rings = [[(2600000 + 100 * x, 1200000 + 100 * y) for x, y in ring] for ring in (tongue, inner)]
-    agency.write_polygons(folder / "a.gpkg", rings)
+    agency.write_table(folder / "a.gpkg", [agency.feature("Polygon", [ring]) for ring in rings])
     for distance in (100, 200, 500, 1000, 2000, 4000):
-        text, _ = made("make_map.py", ["--simplify", str(distance), *TABLE], folder)
-        polygons = polygons_of(text)
+        polygons = polygons_of(made("make_map.py", ["--simplify", str(distance), *TABLE], folder)[0])
         if not all(polygon.is_valid for polygon in polygons) or (len(polygons) == 2 and polygons[0].intersection(polygons[1]).area > 1):
             return f"at {distance} m the polygons cross"
     return None
@@ -101,8 +99,8 @@ def one_shape_looks_alike(folder, program, keep):
 
 def neighbours_as_one_look_alike(folder, program, keep):
     """Neighbours of one colour without labels become one shape without the borders between them."""
-    uses = [(agency.USES[i * 7 // 3 % 4],) for i in range(72)]
-    agency.write_polygons(folder / "a.gpkg", agency.coverage(12, 6, 3), ("use",), uses)
+    agency.write_table(folder / "a.gpkg", [agency.feature("Polygon", [ring], use=agency.USES[i * 7 // 3 % 4])
+                                           for i, ring in enumerate(agency.coverage(12, 6, 3))])
     return unlike(folder, program, ["--by-class", *TABLE, "--class-by", "use"], 800, 0.8)
 
 
@@ -113,7 +111,7 @@ def own_maps_stay(folder, program, keep):
     for name in ("roads", "parcels", "lakes", "towns"):
         strict = ["--strict"] if name == "roads" else []  # the others have points without symbols, double quotes, other metadata
         text, _ = made("import_mapfile.py", [*strict, "--digits", "6", str(EXAMPLES / f"{name}.map")], folder)
-        own = canonical(program, (EXAMPLES / f"{name}.map").read_bytes()).stdout.decode()
+        own = answer(program, (EXAMPLES / f"{name}.map").read_bytes(), "canon").stdout.decode()
         (folder / "own.map").write_text(own)
         made("import_mapfile.py", [*strict, "--digits", "6", "own.map"], folder)
         before, after = (pictures.drawn_by_wfarm(program, each, 1024) for each in (own, text))
@@ -122,13 +120,14 @@ def own_maps_stay(folder, program, keep):
     return None
 
 
-def shown(folder, program, keep, name, words, least, layers=None):
+def shown(folder, program, keep, name, words, least, layers=None, **sizes):
     """Imports agency.map and looks how many pixels of the pictures are equal. Told, too, is how many are if MapServer's
     smoothed borders count as the nearer colour."""
+    agency.write(folder, **sizes)
     text, said = made("import_mapfile.py", [*words, "agency.map"], folder)
     drawn = {f"{name}-mapserver.ppm": pictures.drawn_by_mapserver(folder / "agency.map", text, 1024, layers),
              f"{name}.ppm": pictures.drawn_by_wfarm(program, text, 1024)}
-    theirs, ours = map(pictures.pixels_of, drawn.values())
+    theirs, ours = map(pixels_of, drawn.values())
     unsmoothed = pictures.nearest(theirs, numpy.unique(ours.reshape(-1, 3), axis=0))
     plain, share = pictures.share_equal(ours, theirs), pictures.share_equal(ours, unsmoothed)
     print(f"{name}: {plain:.2%} of the pixels are equal, {share:.2%} without MapServer's smoothing; {said.splitlines()[-1]}")
@@ -139,14 +138,13 @@ def shown(folder, program, keep, name, words, least, layers=None):
 
 
 def polygons_beside_mapserver(folder, program, keep):
-    agency.write(folder, labels=False, columns=12, rows=6, roads=1, towns=1)
     words = ["--crs", "3857", "--fit", "--layers", "communes"]
-    return shown(folder, program, keep, "polygons", words, 0.97, ["communes"])
+    sizes = {"columns": 12, "rows": 6, "roads": 1, "towns": 1}
+    return shown(folder, program, keep, "polygons", words, 0.97, ["communes"], labels=False, **sizes)
 
 
 def whole_map_beside_mapserver(folder, program, keep):
     """All of an agency's map, with its labels, which have other letters: most of it is alike."""
-    agency.write(folder)
     return shown(folder, program, keep, "agency", ["--crs", "3857", "--fit", "--by-class", "--ascii"], 0.75)
 
 
@@ -176,25 +174,31 @@ def a_part_has_more_detail(folder, program, keep):
 
 def sides_of_preview(folder, program, text):
     """The share of the pixels of each side of p.png, at its top, that are the map's own picture."""
-    ours = pictures.pixels_of(pictures.drawn_by_wfarm(program, text, 400))
+    ours = pixels_of(pictures.drawn_by_wfarm(program, text, 400))
     top = pictures.pixels_of_png(folder / "p.png")[CAPTION : CAPTION + len(ours)]
     return [pictures.share_equal(side, ours) for side in (top[:, :400], top[:, 400 + GAP :])]
 
 
-def preview_of_data(folder, program, keep):
-    """Where nothing is simplified, both sides are the map's own picture."""
-    text, _ = made("make_map.py", ["--preview", str(folder / "p.png"), "--program", program, *WARDS], DATA)
+def preview_and_query_of_data(folder, program, keep):
+    """Where nothing is simplified, both sides are the map's own picture. --query writes a query that draws the whole map."""
+    words = ["--preview", str(folder / "p.png"), "--query", str(folder / "query"), "--program", program, *WARDS]
+    text, _ = made("make_map.py", words, DATA)
+    query = (folder / "query").read_text().strip()
+    drawn = answer(program, text.encode(), "draw", query).stdout
+    if not re.match(rb"P6\n400 267\n", drawn):
+        return f"{query}: {drawn[:40]}"
     return None if sides_of_preview(folder, program, text) == [1, 1] else "the preview has another picture"
 
 
 def preview_of_many_points(folder, program, keep):
     """50,000 points: the map's side is its picture but for the frame, the source's nearly."""
-    agency.write_polygons(folder / "a.gpkg", agency.coverage(20, 10, 6), ("name", "use"), [(f"Ö{i}", i % 7) for i in range(200)])
+    agency.write_table(folder / "a.gpkg", [agency.feature("Polygon", [ring], name=f"Ö{i}", use=i % 7)
+                                           for i, ring in enumerate(agency.coverage(20, 10, 6))])
     words = ["--fit", "--preview", "p.png", "--program", program, *TABLE, "--class-by", "use"]
     (text, said), took = timed(made, "make_map.py", words, folder)
     source, ours = sides_of_preview(folder, program, text)
     print(f"preview of 51,200 points: {took / 1000:.1f} seconds, {source:.2%} of the source's pixels are the map's; {said.splitlines()[-1]}")
-    size, tall = pictures.pixels_of_png(folder / "p.png").shape[:2], pictures.height_of(text, 400)
+    size, tall = pictures.pixels_of_png(folder / "p.png").shape[:2], size_of(pictures.map_of(text).extent, 400)[1]
     is_whole = size == (2 * tall + 2 * CAPTION, 2 * 400 + GAP)
     return None if is_whole and ours > 0.995 and 0.95 < source < ours else f"{size}, {source}, {ours}"
 
@@ -227,19 +231,12 @@ def fast_enough(folder, program, keep):
     """200 communes, 300 roads and 60 towns by --fit in 15 seconds; 100,000 points of a GeoPackage in a minute."""
     agency.write(folder, depth=4)
     _, took = timed(made, "import_mapfile.py", ["--crs", "3857", "--fit", "--ascii", "agency.map"], folder)
-    agency.write_polygons(folder / "big.gpkg", agency.coverage(20, 10, 7), ("name",), [(f"C{i}",) for i in range(200)])
+    agency.write_table(folder / "big.gpkg", [agency.feature("Polygon", [ring], name=f"C{i}")
+                                             for i, ring in enumerate(agency.coverage(20, 10, 7))])
     words = ["--name", "a", "--fit", "--layer", "big.gpkg", "--label", "name"]
     _, long = timed(made, "make_map.py", words, folder)
     print(f"speed: the agency's map in {took / 1000:.1f} seconds, 102,400 points in {long / 1000:.1f}")
     return None if took < 15_000 and long < 60_000 else "too slow"
-
-
-def query_of_the_map(folder, program, keep):
-    """--query writes a query that draws the whole map."""
-    text, _ = made("make_map.py", ["--query", str(folder / "query"), *WARDS], DATA)
-    query = (folder / "query").read_text().strip()
-    drawn = pictures.picture(program, query, text.encode())
-    return None if re.match(rb"P6\n400 267\n", drawn) else f"{query}: {drawn[:40]}"
 
 
 def report_of_what_is_lost(folder, program, keep):
@@ -253,7 +250,7 @@ def report_of_what_is_lost(folder, program, keep):
 
 def wrong_json(program, text):
     """What `check --format json` says that `check` doesn't, or a place that isn't the offset's."""
-    said, as_json = (subprocess.run([program, "check", *words], input=text, capture_output=True) for words in ([], ["--format", "json"]))
+    said, as_json = answer(program, text, "check"), answer(program, text, "check", "--format", "json")
     if (said.returncode, said.stderr, bool(said.stdout)) != (as_json.returncode, as_json.stderr, bool(as_json.stdout)):
         return f"{said} {as_json}"
     if not said.stdout:
@@ -282,5 +279,5 @@ CHECKS = {
     check.__name__.replace("_", " "): check for check in (
         borders_stay_shared, borders_do_not_cross, weights_of_a_line, numbers_as_written, one_shape_looks_alike,
         neighbours_as_one_look_alike, own_maps_stay, polygons_beside_mapserver, whole_map_beside_mapserver, fast_enough,
-        cut_borders_stay_shared, a_part_has_more_detail, preview_of_data, preview_of_many_points, preview_of_a_mapfile, own_map_of_mapserver,
-        query_of_the_map, report_of_what_is_lost, table_of_the_page, keywords_of_the_page, a_map_of_each_keyword, check_as_json)}
+        cut_borders_stay_shared, a_part_has_more_detail, preview_and_query_of_data, preview_of_many_points, preview_of_a_mapfile,
+        own_map_of_mapserver, report_of_what_is_lost, table_of_the_page, keywords_of_the_page, a_map_of_each_keyword, check_as_json)}

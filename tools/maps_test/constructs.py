@@ -6,6 +6,7 @@ from pathlib import Path
 
 from farmkit.documents import Document
 
+from .agency import collection, feature
 from .case import Case
 from .keywords import PAGE
 
@@ -33,9 +34,7 @@ PLACES = {
     "style": lambda text, kind, more: layer(f"CLASS STYLE {text} END {more} END", kind),
     "label": lambda text, kind, more: layer(f"CLASS {FILL} LABEL {text} END END"),
     "grid": lambda text, kind, more: layer(f"{text} CLASS {FILL} END", kind, "", "")}
-DATA = (
-    '{"type": "FeatureCollection", "features": [{"type": "Feature", "properties": {"use": "a", "n": 4}, "geometry": '
-    '{"type": "Polygon", "coordinates": [[[1, 1], [5, 1], [5, 5], [1, 1]]]}}]}')
+DATA = collection(feature("Polygon", [[[1, 1], [5, 1], [5, 5], [1, 1]]], use="a", n=4))
 LINE = re.compile(r"(.*?): (\w+)/?(\w*) ?(.*?)( =>.*?)?(?: \| (.*))?")  # name, place, kind, text, => instead, more
 
 

@@ -1,10 +1,11 @@
 """The keywords of docs/MAPFILES.md beside those of the program, block by block."""
 
 import re
-import subprocess
 
 from farmkit.documents import Document
 from farmkit.repository import TOP
+
+from .case import answer
 
 PAGE = TOP / "docs" / "MAPFILES.md"
 # Each block with the keywords that lead into it, and a map that has each keyword of each.
@@ -35,18 +36,13 @@ def written():
     return found
 
 
-def named(program, before):
-    """The keywords that `wfarm check` names in a block where another word stands."""
-    done = subprocess.run([program, "check"], input=f"{before} OTHER".encode(), capture_output=True)
-    allowed = re.search(r"Found OTHER\. Allowed: (.*), or the END of ", done.stdout.decode())
-    return set(allowed[1].split(", ")) if allowed else set()
-
-
 def keywords_of_the_page(folder, program, keep):
-    """The page's table has the keywords that the program names in each block, and no other."""
+    """The page's table has the keywords that `wfarm check` names in each block, where another word stands, and no other."""
     page = written()
     for block, before in BEFORE.items():
-        if apart := page.get(block, set()) ^ named(program, before):
+        said = answer(program, f"{before} OTHER".encode(), "check").stdout.decode()
+        allowed = re.search(r"Found OTHER\. Allowed: (.*), or the END of ", said)
+        if apart := page.get(block, set()) ^ set(allowed[1].split(", ") if allowed else ()):
             return f"{block}: {', '.join(sorted(apart))} are written or named alone"
     return None
 
@@ -56,5 +52,4 @@ def a_map_of_each_keyword(folder, program, keep):
     lacking = set().union(*written().values()) - set(re.findall(r"\b[A-Z]{3,}\b", WHOLE))
     if lacking - {"END"}:
         return f"the map has no {', '.join(sorted(lacking))}"
-    done = subprocess.run([program, "check"], input=WHOLE.encode(), capture_output=True)
-    return done.stdout.decode() or None
+    return answer(program, WHOLE.encode(), "check").stdout.decode() or None

@@ -2,23 +2,8 @@
 
 import json
 
-from osgeo import gdal, ogr
-
-from .agency import geometry, write_polygons, write_table
+from .agency import LATIN, collection, feature, write_table
 from .case import Case
-
-
-def feature(kind, coordinates, **properties):
-    return {"type": "Feature", "properties": properties, "geometry": {"type": kind, "coordinates": coordinates}}
-
-
-def without(**properties):
-    return {"type": "Feature", "properties": properties, "geometry": None}
-
-
-def collection(*features, **members):
-    return json.dumps({"type": "FeatureCollection", **members, "features": list(features)})
-
 
 SQUARE = [[0, 0], [2, 0], [2, 2], [0, 2], [0, 0]]
 TWO = [feature("Point", [1, 1], name="one"), feature("Point", [2, 3], name="two")]
@@ -36,8 +21,8 @@ def named(value, **others):
 
 
 GEOMETRY = [
-    made("null geometry", [*TWO, without(name="x")], error=r"made.geojson: feature 3: it has no geometry.*--skip"),
-    made("null geometry, skipped", [*TWO, without(name="x")], ["--skip"], notes=("left out .*feature 3: it has no geometry",)),
+    made("null geometry", [*TWO, feature(None, [], name="x")], error=r"made.geojson: feature 3: it has no geometry.*--skip"),
+    made("null geometry, skipped", [*TWO, feature(None, [], name="x")], ["--skip"], notes=("left out .*feature 3: it has no geometry",)),
     made("empty polygon", [*TWO, feature("Polygon", [])], error=r"feature 3: it has no geometry"),
     made("polygon with an empty ring", [*TWO, feature("Polygon", [[]])], error=r"feature 3"),
     made("collection", [*TWO, {"type": "Feature", "properties": {}, "geometry": {"type": "GeometryCollection", "geometries": [
@@ -134,7 +119,8 @@ def wavy(points):
     return [[i / 1000, (i * i % 7) / 1000] for i in range(points)]
 
 
-FRAME = feature("Polygon", [[[0, 0], [9, 0], [9, 9], [0, 9], [0, 0]], [[3, 3], [3, 6], [6, 6], [6, 3], [3, 3]]])
+HOLED = [[[0, 0], [9, 0], [9, 9], [0, 9], [0, 0]], [[3, 3], [3, 6], [6, 6], [6, 3], [3, 3]]]
+FRAME = feature("Polygon", HOLED)
 COMB = feature("Polygon", [[[0, 0], [8, 0], [8, 1], [2, 1], [2, 2], [8, 2], [8, 3], [0, 3], [0, 0]]])
 EXTENTS = [
     made("a hole", [FRAME], lines=("6 6",)),
@@ -149,7 +135,6 @@ EXTENTS = [
     made("a comb in two pieces", [COMB], ["--extent=4,-1,7,4"], lines=("3.970703 0", "3.970703 2", "3.970703 3"), absent=("2 1", "8 0")),
     made("a preview without a program", TWO, ["--preview", "p.png", "--program", "./nix"], error=r"--program ./nix: .*No such file")]
 
-
 LIMITS = [
     made("too many features", [feature("Point", [i % 50, i // 50], n=i) for i in range(2001)], ["--items", "n"], error=r"2,001 features, over the limit of 2,000: write --fit"),
     made("too many points", [feature("LineString", wavy(20001))], error=r"20,001 points, over the limit of 20,000: write --fit"),
@@ -163,26 +148,19 @@ LIMITS = [
 
 
 def two_tables(folder):
-    rows = [(geometry("POINT", [(7, 47)]), ("a",)), (geometry("POINT", [(8, 46)]), ("b",))]
     for table in ("one", "two"):
-        write_table(folder / "a.gpkg", ogr.wkbPoint, ("name",), rows, table, 4326)
+        write_table(folder / "a.gpkg", [feature("Point", [7, 47], name="a"), feature("Point", [8, 46], name="b")], table, 4326)
 
 
 def shapefile(folder, beside=(".prj", ".cpg")):
-    rows = [(geometry("LINESTRING", [(2600000, 1200000), (2700000, 1250000)]), ("Genève",))]
-    write_table(folder / "a.shp", ogr.wkbLineString, ("name",), rows, options=["ENCODING=ISO-8859-1"])
+    write_table(folder / "a.shp", [feature("LineString", [[2600000, 1200000], [2700000, 1250000]], name="Genève")], **LATIN)
     for ending in {".prj", ".cpg"} - set(beside):
         (folder / f"a{ending}").unlink(missing_ok=True)
 
 
-def curve(folder):
-    arc = ogr.CreateGeometryFromWkt("CIRCULARSTRING (0 0, 1 1, 2 0)")
-    write_table(folder / "a.gpkg", ogr.wkbCircularString, (), [(arc, ())], epsg=4326)
-
-
 def invalid_polygon(folder):
-    bow = [(0, 0), (2, 2), (2, 0), (0, 2), (0, 0)]
-    write_polygons(folder / "a.gpkg", [bow, [(0, 0), (2, 0), (1, 1), (0, 0)]], epsg=4326)
+    bow = [[0, 0], [2, 2], [2, 0], [0, 2], [0, 0]]
+    write_table(folder / "a.gpkg", [feature("Polygon", [ring]) for ring in (bow, [[0, 0], [2, 0], [1, 1], [0, 0]])], epsg=4326)
 
 
 def cut_shapefile(folder):
@@ -190,13 +168,10 @@ def cut_shapefile(folder):
     (folder / "a.shp").write_bytes((folder / "a.shp").read_bytes()[:110])
 
 
-HOLED = ogr.CreateGeometryFromWkt("POLYGON Z ((0 0 7,9 0 7,9 9 7,0 9 7,0 0 7),(3 3 7,3 6 7,6 6 7,6 3 7,3 3 7))")
-
-
 def odd_rows(folder, path="a.gpkg"):
     """A polygon with a hole and heights, then one without a geometry."""
-    rows = [(HOLED, ("Zürich",)), (None, ("nowhere",))]
-    write_table(folder / path, ogr.wkbPolygon25D, ("name",), rows, epsg=4326)
+    high = [[[x, y, 7] for x, y in ring] for ring in HOLED]
+    write_table(folder / path, [feature("Polygon", high, name="Zürich"), feature(None, [], name="nowhere")], epsg=4326)
 
 
 OSM = """<?xml version="1.0"?><osm version="0.6">
@@ -224,9 +199,9 @@ FORMATS = [
     Case("a cut shapefile", SHP, make=cut_shapefile, error=r"a.shp: "),
     Case("OpenStreetMap", ["--name", "a", "--layer", "a.osm", "--table", "lines", "--where", "highway = 'primary'", "--label", "name"], {"a.osm": OSM},
          lines=('TEXT "Ring"', "7.2 47.1")),
-    Case("a curve", GPKG, make=curve, notes=("curves became straight lines",)),
+    Case("a curve", ["--name", "a", "--layer", "a.csv", "--source", "EPSG:4326"], {"a.csv": 'n,WKT\n1,"CIRCULARSTRING (0 0, 1 1, 2 0)"\n'},
+         notes=("curves became straight lines",)),
     Case("a polygon that crosses itself", GPKG, make=invalid_polygon, lines=("EXTENT 0 0 2 2",)),
     Case("a polygon that crosses itself, simplified", [*GPKG, "--simplify", "1000"], make=invalid_polygon)]
 
-gdal.UseExceptions()
 CASES = GEOMETRY + FILES + TEXTS + CLASSES + EXTENTS + LIMITS + FORMATS

@@ -7,47 +7,33 @@ import threading
 import numpy
 from osgeo import gdal
 
-from maps.preview import MapServer
+from maps import preview
+from maps.model import EXTENT_DIGITS, Layer, Map
 
-from .case import picture
+from .case import answer
 
 ONE_AT_A_TIME = threading.Lock()  # MapServer's library isn't made for threads
 
 
-def extent_of(text):
-    """The sides of a map's extent, from its canonical text."""
-    return [float(side) for side in re.search(r"^EXTENT (.*)$", text, re.MULTILINE)[1].split()]
-
-
-def crs_of(text):
-    return "3857" if '"init=epsg:3857"' in text else "4326"
-
-
-def height_of(text, width):
-    minx, miny, maxx, maxy = extent_of(text)
-    return max(1, round(width * (maxy - miny) / (maxx - minx)))
-
-
-def drawn_by_wfarm(program, text, width):
-    """The pixmap of all layers."""
-    crs = "CRS:84" if crs_of(text) == "4326" else "EPSG:3857"
+def map_of(text):
+    """What of a map, by its canonical text, a query of its picture tells: system, extent, and the names of its layers."""
+    crs = "3857" if '"init=epsg:3857"' in text else "4326"
+    sides = re.search(r"^EXTENT (.*)$", text, re.MULTILINE)[1].split()
+    extent = [round(float(side) * 10**EXTENT_DIGITS) for side in sides]
     names = re.findall(r'^LAYER\nNAME "(.*)"$', text, re.MULTILINE)
-    box = ",".join(f"{side:.6f}" for side in extent_of(text))
-    query = (f"VERSION=1.3.0&REQUEST=GetMap&LAYERS={','.join(names)}&CRS={crs}&BBOX={box}"
-             f"&WIDTH={width}&HEIGHT={height_of(text, width)}&FORMAT=image/x-portable-pixmap")
-    return picture(program, query, text.encode())
+    return Map("", "", "", "", crs, EXTENT_DIGITS, extent, [Layer(name, name, "", [], []) for name in names])
 
 
-def drawn_by_mapserver(path, text, width, layers=None):
+def drawn_by_wfarm(program, text, side):
+    """The pixmap of all layers."""
+    return answer(program, text.encode(), "draw", preview.picture_query(map_of(text), side)).stdout
+
+
+def drawn_by_mapserver(path, text, side, layers=None):
     """The pixmap of the mapfile in the system and extent of the map that was made of it."""
+    the_map = map_of(text)
     with ONE_AT_A_TIME:
-        return MapServer(path, layers, crs_of(text), None).drawn(extent_of(text), width, height_of(text, width))
-
-
-def pixels_of(pixmap):
-    _, size, _, pixels = pixmap.split(b"\n", 3)
-    width, height = map(int, size.split())
-    return numpy.frombuffer(pixels, "uint8").reshape(height, width, 3)
+        return preview.drawn_by_mapserver(path, layers, the_map.crs, None, side, the_map.extent)
 
 
 def pixels_of_png(path):

@@ -111,7 +111,7 @@ class Cuts(unittest.TestCase):
                          '7 sendmsg(5, {msg_iov=[{iov_base="\\x61\\x62", iov_len=2}, '
                          '{iov_base="\\x63", iov_len=1}]}, 0) = 2\n7 +++ exited with 0 +++\n')
         watcher = unittest.mock.create_autospec(calls.Watcher, instance=True)
-        self.assertEqual(calls.follow(trace, str(path), folder, watcher), 4)
+        self.assertEqual(calls.follow(trace, str(path), folder, watcher).total(), 4)
         watcher.sent.assert_called_once_with(b"ab")
         self.assertEqual(folder.names["tape"].left(0), b"ab")
 

@@ -21,13 +21,12 @@ import make_deb
 import plant_bugs
 from farmkit import tapes
 from farmkit.processes import PUBLISHED
-
-TOP = pathlib.Path(__file__).resolve().parents[2]
+from farmkit.repository import TOP
 
 
 def scripts() -> list[pathlib.Path]:
     """The scripts of tools/ and bench/, and the demo."""
-    return sorted([*TOP.glob("tools/*.py"), *TOP.glob("bench/*.py"), TOP / "demo", TOP / "tools/wfarmctl"])
+    return [path for path in check_python.scripts() if path.parent in (TOP, TOP / "tools", TOP / "bench")]
 
 
 class Help(unittest.TestCase):
@@ -65,8 +64,9 @@ class Planted(unittest.TestCase):
         bug = min((TOP / "tools" / "planted").glob("*.diff")).stem
         for violations in ([], ["node 1 is suspended"]):
             played, told = mock.Mock(return_value=(violations, {})), io.StringIO()
-            with mock.patch.multiple(plant_bugs, copy_to=mock.DEFAULT, compiled=mock.DEFAULT, play=played), \
-                    mock.patch("subprocess.run"), contextlib.redirect_stdout(told):
+            fakes = {"copy_crates": mock.DEFAULT, "compiled": mock.DEFAULT, "play": played}
+            with (mock.patch.multiple(plant_bugs, **fakes), mock.patch("subprocess.run"),
+                  contextlib.redirect_stdout(told)):
                 self.assertEqual(plant_bugs.try_bugs([bug]), not violations)
             self.assertIn(violations[0] if violations else "NOT FOUND", told.getvalue())
 

@@ -16,7 +16,7 @@ from farmkit.mapfiles import a_map, canonical, map_of
 from farmkit.nodes import KEPT, NO_MAJORITY, VOTES
 from farmkit.processes import free_ports, wfarmctl, write_nodes
 from farmkit.tapes import digest_of, publications
-from farmkit.wanted import is_so_within, named, unless, until, want, want_none
+from farmkit.wanted import is_so_within, named, seconds_until, unless, until, want, want_none
 from trials_of_nodes.returned_folders import answers, put_back_copy, suspension
 
 # sequences, and those at which two histories differ: more are between them than an answer has
@@ -38,7 +38,7 @@ def histories(nodes):
 
 def begin_with(nodes, histories, starting=()):
     """Ends all nodes, gives each a new folder with a tape of such a history, and starts some."""
-    nodes.kill_all()
+    nodes.end()
     for i, texts in enumerate(histories):
         nodes.put(i)
         nodes.init(i)
@@ -50,12 +50,9 @@ def change(nodes, i, old, new):
     """Changes these texts to others on the tape of a stopped node, and in its file `farm`."""
     path, tape = nodes[i].folder / "farm", nodes[i].tape.read_bytes()
     for before, after in zip(old, new):
-        want("texts of unequal lengths", len(before) == len(after))
-        want("a text isn't on the tape", before in tape)
         tape = tape.replace(before, after)
     nodes[i].tape.write_bytes(tape)
     count = int(re.search("published ([0-9a-f]{8})", path.read_text())[1], 16)
-    want(f"{count} sequences", count <= len(new))
     path.write_text(re.sub("digest [0-9a-f]{64}", f"digest {digest_of(new[:count]).hex()}", path.read_text()))
     nodes[i].life += 1
 
@@ -75,12 +72,11 @@ def names_one(nodes, others, text):
 
 def difference(nodes, i, others):
     """What is wrong with a node that has to answer nobody, as its history differs from these peers'."""
-    is_so_within(lambda: nodes.health(i)[0] == 503, SOON)
+    is_so_within(lambda: nodes[i].health()[0] == 503, SOON)
     time.sleep(1)
-    if wrong := endings(nodes, [i]):
-        return wrong
+    wrong = endings(nodes, [i])
     for path in ("/healthz", "/readyz", "/votez"):
-        status, text = nodes.operator(i, path)
+        status, text = nodes[i].says(path)
         is_right = status == 503 and names_one(nodes, others, text)
         wrong += unless(is_right, f"node {i}'s {path} is {status} {text}")
     wrong += unless(not (said := answers(nodes.http[i])), f"node {i} answers a client: {said}")
@@ -90,24 +86,16 @@ def difference(nodes, i, others):
     return wrong + unless(is_told, f"no line of node {i}'s log says which peer differs, where and since when")
 
 
-def agreement(nodes, those, wrong, done):
-    """The seconds until these nodes serve and vote after what was done; what is wrong with them is noted."""
+def agreement(nodes, those, done):
+    """The seconds until these nodes serve and vote after what was done."""
     def serves(i):
-        return nodes.votes(i) == VOTES and nodes.health(i) == (200, "ok") and nodes.published(i) >= 0
+        return nodes[i].votes() == VOTES and nodes[i].health() == (200, "ok") and nodes.published(i) >= 0
 
-    begun = time.time()
-    is_so_within(lambda: all(map(serves, those)), SOON)
-    took = round(time.time() - begun, 1)
-    lacks = [f"node {i} doesn't serve: /votez {nodes.votes(i)}, /healthz {nodes.health(i)}, "
-             f"published {nodes.published(i)}" for i in those if not serves(i)]
-    wrong += named(done, endings(nodes, those) + lacks)
+    took = seconds_until(lambda: all(map(serves, those)), SOON)
+    want_none(named(done, endings(nodes, those)
+                    + [f"node {i} doesn't serve: /votez {nodes[i].votes()}, /healthz {nodes[i].health()}, "
+                       f"published {nodes.published(i)}" for i in those if took is None]))
     return took
-
-
-def serving(nodes, those, published):
-    """Which of these nodes say that they vote, and have published so many; nobody where it is one alone."""
-    found = [i for i in those if nodes.votes(i) == VOTES and nodes.published(i) == published]
-    return found if len(found) > 1 else []
 
 
 def publication(nodes, those, name):
@@ -117,27 +105,23 @@ def publication(nodes, those, name):
     if not is_taken or not is_so_within(lambda: all(nodes.published(i) > before for i in those), SOON):
         return [f"{name}: node {those[0]} published {before}, and now {[nodes.published(i) for i in those]} "
                 f"at {those}"]
-    digests = {nodes.get(i, f"/history?from={before + 1}", nodes.admin[i])[1] for i in those}
+    digests = {nodes[i].says(f"/history?from={before + 1}") for i in those}
     return [] if len(digests) == 1 else [f"{name}: {len(digests)} histories at {those}"]
 
 
-def rows(nodes, wrong):
-    """The states that `wfarmctl status` shows of a farm that isn't well; that it says so else is noted."""
+def shown(nodes):
+    """The states that `wfarmctl status` shows of a farm that isn't well, and its error."""
     file = nodes.folder / "nodes"
     write_nodes(file, nodes.each)
     code, told, error = wfarmctl(nodes.program, file, "status")
-    states = [re.split(r"127\.0\.0\.1:\d+ +", row, maxsplit=1)[1] for row in told.splitlines()[1:]]
-    wrong += unless(code == 1, f"wfarmctl status: {code} {states}")
-    return states + ([error.strip()] if error else [])
-
-
-def shown(states):
+    want(f"wfarmctl status: {code} {told}", code == 1)
+    states = [re.split(r"127\.0\.0\.1:\d+ +", row, maxsplit=1)[1] for row in told.splitlines()[1:]] + [error]
     return " | ".join(re.sub(r"\(.*", "", re.sub(r"(127\.0\.0\.1):\d+", r"\1", " ".join(state.split())))
                       for state in states)
 
 
-def end(wrong, *words):
-    want_none(wrong)
+def end(nodes, wrong, *words):
+    want_none(wrong + endings(nodes, range(nodes.count)))
     return "; ".join(words)
 
 
@@ -148,41 +132,35 @@ def changed(nodes):
     answered while another one is down"""
     x, y = histories(nodes)
     begin_with(nodes, [x, x, x], range(3))
-    until(lambda: all(nodes.votes(i) == VOTES for i in range(3)))
+    until(lambda: all(nodes[i].votes() == VOTES for i in range(3)))
     time.sleep(KEPT)
     nodes.kill(2)
     change(nodes, 2, x, y)
     nodes.start(2)
-    wrong, took = named("first", difference(nodes, 2, {0, 1})), []
+    want_none(named("first", difference(nodes, 2, {0, 1})))
+    took = []
     for k in range(RESTARTS):
         for i in (0, 1) if k % 2 else (1, 0):
             nodes.restart(i)
-        if nodes[2].ended() is not None:
-            nodes.start(2)
-        took.append(agreement(nodes, [0, 1], wrong, f"restart {k}"))
-        wrong += named(f"restart {k}", difference(nodes, 2, {0, 1}) + endings(nodes, [0, 1]))
-        nodes.start(*(i for i in range(3) if nodes[i].ended() is not None))
-        if len(wrong) > 6:
-            break
-    want_none(wrong)
-    wrong += publication(nodes, [0, 1], "with a changed one")
-    states = rows(nodes, wrong)
+        took.append(agreement(nodes, [0, 1], f"restart {k}"))
+        want_none(named(f"restart {k}", difference(nodes, 2, {0, 1}) + endings(nodes, [0, 1])))
+    wrong = publication(nodes, [0, 1], "with a changed one")
+    states = shown(nodes)
     nodes.kill(1)
     wrong += named("node 1 is down", difference(nodes, 0, {2}))
     nodes[2].pause()
     time.sleep(SOON)
     wrong += named("and node 2 is silent", difference(nodes, 0, {2}))
     nodes.start(1)
-    seconds = agreement(nodes, [0, 1], wrong, "node 1 is back")
+    seconds = agreement(nodes, [0, 1], "node 1 is back")
     nodes[2].go_on()
     wrong += publication(nodes, [0, 1], "after it")
     nodes.kill(2)
     change(nodes, 2, y, x)
     nodes.start(2)
-    mended = agreement(nodes, [0, 1, 2], wrong, "node 2's tape is mended")
-    return end(wrong,
-               f"after {RESTARTS} restarts of both others they serve after {took} s, after one came back "
-               f"{seconds} s, mended {mended} s", shown(states))
+    mended = agreement(nodes, [0, 1, 2], "node 2's tape is mended")
+    return end(nodes, wrong, f"after {RESTARTS} restarts of both others they serve after {took} s, after one "
+               f"came back {seconds} s, mended {mended} s", states)
 
 
 def split(nodes):
@@ -194,17 +172,15 @@ def split(nodes):
     nodes.start(1)
     wrong = difference(nodes, 0, {1}) + difference(nodes, 1, {0})
     wrong += unless(not answers(readers), "a reader's connection stays open")
-    states = rows(nodes, wrong)
+    states = shown(nodes)
     nodes.kill(1)
     time.sleep(SOON)
-    wrong += named("node 1 is down too", difference(nodes, 0, {1}))
-    want_none(wrong)
+    want_none(wrong + named("node 1 is down too", difference(nodes, 0, {1})))
     nodes.start(1, 2)
-    took = agreement(nodes, [0, 2], wrong, "node 2 came")
-    wrong += named("node 2 came", difference(nodes, 1, {0, 2})
-                   + publication(nodes, [0, 2], "by two of three"))
-    return end(wrong + endings(nodes, range(3)),
-               f"nobody serves; then two, {took} s after the third was started", shown(states))
+    took = agreement(nodes, [0, 2], "node 2 came")
+    wrong = difference(nodes, 1, {0, 2}) + publication(nodes, [0, 2], "by two of three")
+    return end(nodes, named("node 2 came", wrong),
+               f"nobody serves; then two, {took} s after the third was started", states)
 
 
 def behind(nodes):
@@ -212,65 +188,47 @@ def behind(nodes):
     once one of the two is ended, the others go on"""
     x, y = histories(nodes)
     begin_with(nodes, [x, y, x[:1]], range(3))
-    begun, both = time.time(), 0
-    while not (serve := serving(nodes, range(3), LENGTH)) and time.time() < begun + CAUGHT_UP:
-        both += all((answers(nodes.http[i]) or b"").startswith(b"HTTP") for i in (0, 1))
-        time.sleep(0.2)
-    took = round(time.time() - begun, 1)
-    wrong = unless(not both, f"both node 0 and node 1 answered clients, {both} times")
-    wrong += endings(nodes, range(3))
-    states = rows(nodes, wrong)
-    if serve:
-        said = f"{serve} serve after {took} s"
-        wrong += [f"{serve} serve"] if len(serve) != 2 or 2 not in serve else difference(
-            nodes, 1 - min(serve), {2, min(serve)})
-    else:
-        said = "neither is answered"
-        wrong += difference(nodes, 0, {1}) + difference(nodes, 1, {0})
-        wrong += unless(nodes.votes(2)[0] == 503, f"/votez of node 2, which is behind, is {nodes.votes(2)}, "
-                        f"and no other node votes: connected peers, majority {nodes.connected(2)}")
-        nodes.kill(1)
-        nodes.restart(0)
-        seconds = agreement(nodes, [0, 2], wrong, "node 1 is ended, and node 0 started again")
-        wrong += unless(is_so_within(lambda: nodes.published(2) == LENGTH, SOON), "node 2 hasn't caught up")
-        wrong += publication(nodes, [0, 2], "by two of three")
-        said += f"; without node 1, and node 0 started again, two serve after {seconds} s"
-    mine = nodes.get(2, f"/history?from={LENGTH}", nodes.admin[2])[1].decode().split()[1:2]
-    own = ([], [digest_of(x).hex()], [digest_of(y).hex()])
-    wrong += unless(mine in own, "node 2 has a history that is mixed from both")
-    return end(wrong, said, shown(states))
+    are_both = is_so_within(lambda: all((answers(nodes.http[i]) or b"").startswith(b"HTTP") for i in (0, 1)),
+                            CAUGHT_UP, 0.2)
+    wrong = unless(not are_both, "both node 0 and node 1 answered clients") + endings(nodes, range(3))
+    states = shown(nodes)
+    wrong += difference(nodes, 0, {1}) + difference(nodes, 1, {0})
+    votes = nodes[2].votes()
+    wrong += unless(votes[0] == 503, f"/votez of node 2, which is behind, is {votes}, and no other node "
+                    f"votes: connected peers, majority {nodes.connected(2)}")
+    nodes.kill(1)
+    nodes.restart(0)
+    seconds = agreement(nodes, [0, 2], "node 1 is ended, and node 0 started again")
+    wrong += unless(is_so_within(lambda: nodes.published(2) == LENGTH, SOON), "node 2 hasn't caught up")
+    wrong += publication(nodes, [0, 2], "by two of three")
+    mine = nodes[2].says(f"/history?from={LENGTH}")[1].split()[1:2]
+    wrong += unless(mine == [digest_of(x).hex()], "node 2 has a history that is mixed from both")
+    return end(nodes, wrong, "neither is answered; without node 1, and node 0 started again, two serve after "
+               f"{seconds} s", states)
 
 
 def lagging(nodes):
     """one of another history, and one that lacks the last sequence: it and the third go on by themselves"""
     x, y = histories(nodes)
     begin_with(nodes, [x, y, x[:-1]], range(3))
-    begun = time.time()
-    is_so_within(lambda: nodes.published(0) == nodes.published(2) == LENGTH, CAUGHT_UP)
-    caught_up = round(time.time() - begun, 1)
-    wrong = []
-    agreement(nodes, [0, 2], wrong, "two agree")
-    if not wrong:
-        wrong += publication(nodes, [0, 2], "by two of three")
-    wrong += difference(nodes, 1, {0, 2})
-    states = rows(nodes, wrong)
-    return end(wrong + endings(nodes, range(3)), f"two serve {caught_up} s after the start", shown(states))
+    caught_up = until(lambda: nodes.published(0) == nodes.published(2) == LENGTH, CAUGHT_UP)
+    agreement(nodes, [0, 2], "two agree")
+    wrong = publication(nodes, [0, 2], "by two of three") + difference(nodes, 1, {0, 2})
+    return end(nodes, wrong, f"two serve {caught_up} s after the start", shown(nodes))
 
 
 def halves(nodes):
     """two nodes of one history, two of another, and the fifth is down: nobody is answered; then it comes"""
     x, y = histories(nodes)
     begin_with(nodes, [x, x, y, y, x], range(4))
-    wrong = [what for i in range(4) for what in difference(nodes, i, {2, 3} if i < 2 else {0, 1})]
-    states = rows(nodes, wrong)
-    want_none(wrong)
+    for i in range(4):
+        want_none(difference(nodes, i, {2, 3} if i < 2 else {0, 1}))
+    states = shown(nodes)
     nodes.start(4)
-    took = agreement(nodes, [0, 1, 4], wrong, "node 4 came")
-    for i in (2, 3):
-        wrong += named("node 4 came", difference(nodes, i, {0, 1, 4}))
-    wrong += publication(nodes, [0, 1, 4], "by three of five")
-    return end(wrong + endings(nodes, range(5)),
-               f"nobody serves; then three, {took} s after the fifth was started", shown(states))
+    took = agreement(nodes, [0, 1, 4], "node 4 came")
+    wrong = difference(nodes, 2, {0, 1, 4}) + difference(nodes, 3, {0, 1, 4})
+    return end(nodes, named("node 4 came", wrong) + publication(nodes, [0, 1, 4], "by three of five"),
+               f"nobody serves; then three, {took} s after the fifth was started", states)
 
 
 def alone(nodes):
@@ -280,25 +238,25 @@ def alone(nodes):
     nodes.kill(2)
     nodes.start(1)
     wrong = suspension(nodes, 1)
-    wrong += unless(is_so_within(lambda: nodes.votes(0) == NO_MAJORITY, SOON), f"/votez: {nodes.votes(0)}")
+    is_alone = is_so_within(lambda: nodes[0].votes() == NO_MAJORITY, SOON)
+    wrong += unless(is_alone, f"/votez: {nodes[0].votes()}")
     counts = nodes.connected(0)
-    wrong += unless(counts == [0, 0] and nodes.health(0)[0] == 200,
-                    f"node 0: connected peers, majority {counts}, health {nodes.health(0)}")
+    wrong += unless(counts == [0, 0] and nodes[0].health()[0] == 200,
+                    f"node 0: connected peers, majority {counts}, health {nodes[0].health()}")
     wrong += unless(nodes.publish(0, a_map("waits")) == 202, "node 0 takes no map")
-    states = rows(nodes, wrong)
+    states = shown(nodes)
     first = canonical(nodes.program, a_map("first"))
     changed_first = first.replace(b"first", b"First")
     change(nodes, 2, [first], [changed_first])
     nodes.start(2)
     wrong += named("node 2 came with another history", difference(nodes, 0, {2}) + difference(nodes, 2, {0}))
-    differ = rows(nodes, wrong)
+    differ = shown(nodes)
     nodes.kill(2)
     change(nodes, 2, [changed_first], [first])
-    if nodes[0].ended() is None:
-        nodes.start(2)
-        agreement(nodes, [0, 2], wrong, "node 2 came with its own")
-        wrong += unless(is_so_within(lambda: nodes.name(2, 2) == "waits", SOON), "what waited isn't there")
-    return end(wrong + endings(nodes, range(3)), shown(states), shown(differ))
+    nodes.start(2)
+    agreement(nodes, [0, 2], "node 2 came with its own")
+    wrong += unless(is_so_within(lambda: nodes.name(2, 2) == "waits", SOON), "what waited isn't there")
+    return end(nodes, wrong, states, differ)
 
 
 CASES = [changed, split, behind, lagging, halves, alone]

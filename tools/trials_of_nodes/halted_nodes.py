@@ -6,7 +6,6 @@ and the file that it names.
 """
 
 import contextlib
-import os
 import re
 import shutil
 import subprocess
@@ -15,9 +14,9 @@ import time
 from farmkit.device import fill, make_room
 from farmkit.mapfiles import PICTURE, a_map, canonical, map_of
 from farmkit.nodes import KEPT, NODES
-from farmkit.processes import run
+from farmkit.processes import Node, run
 from farmkit.tapes import ACCEPTED, PROMISED, PUBLISHED, TRIED, record, records
-from farmkit.wanted import is_so_within, unless, until, want, want_none
+from farmkit.wanted import unless, until, want, want_none
 from farmkit.web import CAPABILITIES
 
 # more bytes than the last page of a tape may have left
@@ -33,18 +32,17 @@ def fail_tape(nodes, i):
     time.sleep(KEPT)
     nodes.limit(i, 0)
     nodes.publish(i, a_map("unstored"))
-    until(lambda: nodes.health(i)[0] == 503)
+    until(lambda: nodes[i].health()[0] == 503)
 
 
 def changes_while_halted(nodes, i, published, file, seconds=WATCHED):
     """What shows that a halted node isn't as it was, or that its log doesn't name this file."""
     found, before, begun = set(), len(nodes.lines(i, "tape-not-reopened")), time.time()
     while time.time() < begun + seconds:
-        status, said = nodes.health(i)
+        status, said = nodes[i].health()
         if status != 503:
             found.add(f"node {i} isn't halted: {status} {said}")
-        now = nodes.published(i)
-        if now != published:
+        if (now := nodes.published(i)) != published:
             found.add(f"node {i} says published {now}, and had {published}")
         time.sleep(0.05)
     lines = nodes.lines(i, "tape-not-reopened")[before:]
@@ -54,19 +52,14 @@ def changes_while_halted(nodes, i, published, file, seconds=WATCHED):
     return sorted(found)
 
 
-def two_maps(nodes, sequence):
-    names = {i: nodes.name(i, sequence) for i in range(NODES)}
-    return [f"maps under {sequence}: {names}"] if len({*names.values()} - {None}) > 1 else []
-
-
 def compare_answers(nodes):
     """Compares what all nodes answer at each sequence, once all stand at one."""
     nodes.level()
     for sequence in range(1, nodes.published(0) + 1):
-        for what, ports in ((PICTURE % sequence, nodes.http), (f"/map?seq={sequence}", nodes.admin)):
-            answers = {nodes.get(i, what, ports[i]) for i in range(NODES)}
+        for what, ask in ((PICTURE % sequence, Node.ask), (f"/map?seq={sequence}", Node.ask_operator)):
+            answers = {ask(node, what) for node in nodes.each}
             want(f"{what}: {len(answers)} different answers", len(answers) == 1 and answers.pop()[0] == 200)
-    want("capabilities differ", len({nodes.get(i, CAPABILITIES) for i in range(NODES)}) == 1)
+    want("capabilities differ", len({node.ask(CAPABILITIES) for node in nodes.each}) == 1)
 
 
 # ---- a tape that was removed, or unmounted
@@ -83,10 +76,8 @@ def removed(nodes):
     nodes.limit(1, None)
     nodes.start_all([2])
     nodes.publish(2, a_map("y"))
-    wrong = changes_while_halted(nodes, 1, 1, r"node-1\.tape", SOON)
+    want_none(changes_while_halted(nodes, 1, 1, r"node-1\.tape", SOON))
     nodes.start_all([0])
-    wrong += two_maps(nodes, 1)
-    want_none(wrong)
     want("a tape was made", not nodes[1].tape.exists())
     until(lambda: nodes.published(2) >= 1)
     want("another map than x", {nodes.name(i, 1) for i in range(NODES)} == {"x"})
@@ -98,27 +89,20 @@ def removed(nodes):
     return f"halted for {SOON} s, then: {ended[1]}"
 
 
-def may_mount(folder):
-    if os.geteuid() != 0:
-        return False
-    folder.mkdir()
-    words = ["mount", "-t", "tmpfs", "tmpfs", folder]
-    if is_mounted := subprocess.run(words, capture_output=True).returncode == 0:
-        run("umount", str(folder))
-    folder.rmdir()
-    return is_mounted
-
-
 LEFT_OUT = "left out: wants root, and that file systems may be mounted"
 
 
 @contextlib.contextmanager
 def disk_of(nodes, i):
     """A disk of a megabyte in memory with what the folder of a node has, which doesn't run yet: it is mounted
-    in its place, and at the path that is given. All nodes have ended when it goes."""
+    in its place, and at the path that is given; None where that isn't permitted. All nodes have ended when it
+    goes."""
     place, kept = nodes[i].folder, nodes.folder / "disk"
     kept.mkdir()
-    run("mount", "-t", "tmpfs", "-o", "size=1m", "tmpfs", str(kept))
+    words = ["mount", "-t", "tmpfs", "-o", "size=1m", "tmpfs", kept]
+    if subprocess.run(words, capture_output=True).returncode:
+        yield None
+        return
     shutil.copytree(place, kept, dirs_exist_ok=True)
     shutil.rmtree(place)
     place.mkdir()
@@ -134,41 +118,34 @@ def disk_of(nodes, i):
 def unmounted(nodes):
     """a disk that is full, unmounted while its node runs, and mounted again: it is halted, and is ever only
     the node that it was; not so on a copy that it hasn't locked; wants root"""
-    if not may_mount(nodes.folder / "tried"):
-        return LEFT_OUT
     nodes.kill(2, 1)
     with disk_of(nodes, 1) as disk:
+        if disk is None:
+            return LEFT_OUT
         nodes.start_all([1])
         nodes.publish_whole(0, a_map("x"), 1)
         time.sleep(KEPT)
         fill(disk)
         want("no publish", nodes.publish(0, LONG_MAP) == 202)
-        until(lambda: nodes.health(1)[0] == 503)
+        until(lambda: nodes[1].health()[0] == 503)
         nodes.kill(0)
         run("umount", "-l", str(nodes[1].folder))
         nodes.start_all([2])
         nodes.publish(2, a_map("y"))
         files = rf"{nodes[1].folder}|\bfarm\b|node-1\.tape"
-        wrong = changes_while_halted(nodes, 1, 1, files, SOON)
+        want_none(changes_while_halted(nodes, 1, 1, files, SOON))
         nodes.start_all([0])
-        wrong += two_maps(nodes, 1)
-        want_none(wrong)
         made = [path.name for path in nodes[1].folder.iterdir()]
         want(f"made where the disk was: {made}", not made)
         shutil.copytree(disk, nodes[1].folder, dirs_exist_ok=True, ignore=shutil.ignore_patterns("filling"))
         want_none(changes_while_halted(nodes, 1, 1, files))
         make_room(disk)
         run("mount", "--bind", str(disk), str(nodes[1].folder))
-        # (whether it goes on by itself, or an operator starts it, is left open)
-        is_back = is_so_within(lambda: nodes.health(1)[0] == 200 or nodes.published(1) < 1, 10)
+        until(lambda: nodes[1].health()[0] == 200, 10)
         want(f"node 1 says published {nodes.published(1)}", nodes.published(1) >= 1)
-        if not is_back:
-            nodes.kill(1)
-            nodes.start_all([1])
         nodes.publish_whole(2, a_map("z"))
         compare_answers(nodes)
-        how = "by itself" if is_back else "when it was started"
-        return f"halted for {SOON + WATCHED} s; after it was mounted again it went on {how}"
+        return f"halted for {SOON + WATCHED} s; after it was mounted again it went on by itself"
 
 
 # ---- a full disk
@@ -176,19 +153,19 @@ def unmounted(nodes):
 def room(nodes):
     """a disk that is full for 16 seconds while its node runs, which is halted and serves what it had; a
     publish that needs its vote comes within seconds, with one start more counted; wants root"""
-    if not may_mount(nodes.folder / "tried"):
-        return LEFT_OUT
     nodes.kill(2)
     with disk_of(nodes, 2) as disk:
+        if disk is None:
+            return LEFT_OUT
         nodes.start_all([2])
         nodes.publish_all(a_map("first"))
         starts = nodes.starts(2)
         time.sleep(KEPT)
         fill(disk)
         nodes.publish_whole(0, LONG_MAP)
-        until(lambda: nodes.health(2)[0] == 503)
+        until(lambda: nodes[2].health()[0] == 503)
         want("a halted node took a publish", nodes.publish(2, a_map("refused")) == 503)
-        want("a halted node doesn't answer", nodes.get(2, CAPABILITIES)[0] == 200)
+        want("a halted node doesn't answer", nodes[2].ask(CAPABILITIES).status == 200)
         time.sleep(LONG_HALT)
         nodes.kill(1)
         want("no publish", nodes.publish(0, a_map("third")) == 202)
@@ -287,7 +264,7 @@ def completed(nodes):
     starts = nodes.starts(1)
     nodes.kill(2)
     nodes.publish_whole(0, a_map("second"))
-    until(lambda: nodes.health(1)[0] == 503)
+    until(lambda: nodes[1].health()[0] == 503)
     want("node 1 has published it", nodes.published(1) == 1)
     stored, _ = records(nodes[1].tape.read_bytes())
     want(f"node 1's last record is of kind {stored[-1][0]}", stored[-1][0] == ACCEPTED)
@@ -295,7 +272,7 @@ def completed(nodes):
     want(f"node 0's last record is of kind {failed[0]}", failed[0] == PUBLISHED)
     nodes[1].tape.write_bytes(b"".join(record(*each) for each in [*stored, failed]))
     nodes.limit(1, None)
-    seconds = until(lambda: nodes.health(1)[0] == 200 and nodes.published(1) == 2)
+    seconds = until(lambda: nodes[1].health()[0] == 200 and nodes.published(1) == 2)
     counted = nodes.starts(1) - starts
     nodes.start_all([2])
     nodes.publish_whole(1, a_map("third"))

@@ -1,5 +1,6 @@
 """Cases of `tools/try_nodes.py`: a machine is lost with its disk, and a new folder takes its node's place."""
 
+import contextlib
 import subprocess
 import time
 
@@ -13,14 +14,17 @@ ALLOWED = "--replace-allowed"
 RETIRED = "retired: another folder took its place; end it, and never start its folder again"
 
 
-def started_anew(nodes):
-    """All nodes again, with replacements allowed, and some maps."""
-    nodes.kill_all()
+@contextlib.contextmanager
+def replaceable(nodes):
+    """All nodes again, with replacements allowed, some maps, and a service."""
+    nodes.end()
     for node in nodes.each:
         node.words.append(ALLOWED)
     nodes.start_all()
     write_nodes(nodes.folder / "nodes", nodes.each)
     publish_at_each(nodes, "before")
+    with Service(nodes.each) as service:
+        yield service
 
 
 def lose(nodes, i):
@@ -31,7 +35,7 @@ def lose(nodes, i):
     nodes[i].life += 1
     nodes.init(i, "--replace")
     nodes.start(i)
-    until(lambda: nodes.health(i)[1].startswith("joins"))
+    until(lambda: nodes[i].health()[1].startswith("joins"))
     return old
 
 
@@ -68,9 +72,8 @@ def publish_at_each(nodes, word):
 
 def replaced(nodes):
     """A folder takes a lost one's place, and votes; the old one, started again, is retired."""
-    started_anew(nodes)
     seconds = []
-    with Service(nodes.each) as service:
+    with replaceable(nodes) as service:
         old = lose(nodes, 1)
         nodes.publish_whole(0, a_map("meanwhile"))
         want("it joins, and answers a client", nodes.published(1) == -1)
@@ -101,8 +104,8 @@ def comes_back(nodes, i, old):
     old.rename(nodes[i].folder)
     nodes.start(i)
     nodes[i].life += 1
-    until(lambda: nodes.health(i)[1].startswith("suspended"))
-    said = nodes.health(i)[1]
+    until(lambda: nodes[i].health()[1].startswith("suspended"))
+    said = nodes[i].health()[1]
     told = nodes.lines(i, "suspended")
     want(f"it isn't told that it is retired: {told}", any(RETIRED in line for line in told))
     nodes.kill(i)
@@ -116,7 +119,7 @@ def comes_back(nodes, i, old):
 
 def standing(node):
     """What a node tells of its folder, by the first word, and of replacements: node, count and mark."""
-    lines = node.ask_operator("/replacements").body.decode().splitlines()
+    lines = node.says("/replacements")[1].splitlines()
     known = [line.split()[1:] for line in lines if line.startswith("replaced ")]
     return dict(line.split(" ", 1) for line in lines if " " in line), known
 
@@ -139,36 +142,31 @@ def agree_at_once(i, pairs):
     until(lambda: all([str(i), "1", mark] in standing(asked)[1] for (asked, _), mark in zip(pairs, marks)))
 
 
-def health(node):
-    return node.ask_operator("/healthz").body.decode().strip()
-
-
 def has_half(joiner):
     """Whether half of the nodes have agreed to a folder; one that restarts tells nothing."""
-    few = ("joins, 0 of 2 nodes agreed", "joins, 1 of 2 nodes agreed", "Unanswered")
-    return not health(joiner).startswith(few)
+    told = joiner.health()[1]
+    return told and not told.startswith(("joins, 0 of 2 nodes agreed", "joins, 1 of 2 nodes agreed"))
 
 
 def rivals(nodes):
     """two folders join at once as one node, and each other node agrees to another one first: none votes,
     until a replacement of a higher count is begun; the one that is left behind never votes; an old folder
     that is started beside the new one is retired"""
-    started_anew(nodes)
-    old = lose(nodes, 1)
-    other = nodes.beside(1, nodes.folder / "other", ALLOWED)
-    other.init("tried", "--replace")
-    other.start()
-    until(lambda: health(other).startswith("joins"))
-    with Service([*nodes.each, other]):
-        with other:
+    with replaceable(nodes) as service:
+        old = lose(nodes, 1)
+        with nodes.beside(1, nodes.folder / "other", ALLOWED) as other:
+            other.init("tried", "--replace")
+            other.start()
+            until(lambda: other.health()[1].startswith("joins"))
+            service.processes = [*nodes.each, other]
             agree_at_once(1, ((nodes[0], nodes[1]), (nodes[2], other)))
             nodes.publish_whole(0, a_map("meanwhile"))
             # the one at the listed address may hear of the other one first, and then counts no agreement
             votes = is_so_within(lambda: has_half(nodes[1]) or has_half(other), 8, 0.2)
-            first = [health(each) for each in (nodes[1], other)]
+            first = [each.health()[1] for each in (nodes[1], other)]
             seconds = give_vote(nodes, 1)
             publish_at_each(nodes, "after")
-            left, known = health(other), [standing(node)[1] for node in nodes.each]
+            left, known = other.health()[1], [standing(node)[1] for node in nodes.each]
             want(f"the folder that was left behind: {left}", left.startswith("joins"))
             want(f"what they know: {known}",
                  all([each[:2] for each in told] == [["1", "2"]] for told in known))
@@ -181,11 +179,11 @@ def retired_beside(nodes, i, folder):
     """What an old folder is told that is started beside the one that took its place."""
     with nodes.beside(i, folder, ALLOWED) as old:
         old.start()
-        until(lambda: health(old).startswith("suspended"))
+        until(lambda: old.health()[1].startswith("suspended"))
         want(f"it isn't told that it is retired: {old.last_line()}", RETIRED in old.log.read_text())
         publish_at_each(nodes, "beside")
         want("it answers a client", old.published(2) is None)
-        return health(old)
+        return old.health()[1]
 
 
 def stopped(nodes):
@@ -193,9 +191,8 @@ def stopped(nodes):
     `wfarmctl replace` goes on once it is started again, or is run again, and one folder votes"""
     if lacking := lacks("strace"):
         return f"left out: {lacking}"
-    started_anew(nodes)
     said = []
-    with Service(nodes.each):
+    with replaceable(nodes):
         for call in ("openat", "fsync", "rename"):
             lose(nodes, 1)
             nodes.kill(0)
@@ -215,9 +212,8 @@ def joining(nodes):
     it ceases to join: started again it goes on, and votes"""
     if lacking := lacks("strace"):
         return f"left out: {lacking}"
-    started_anew(nodes)
     killed, usual = 0, nodes[1].before
-    with Service(nodes.each):
+    with replaceable(nodes):
         for call in ("fsync", "rename", "openat"):
             for when in range(1, WRITES + 1):
                 lose(nodes, 1)
@@ -226,12 +222,12 @@ def joining(nodes):
                 # the service starts it so too, once it has noted its own replacement
                 nodes[1].before = dying(call, path, trace, when)
                 nodes.start(1)
-                until(lambda: nodes.health(1)[1].startswith("joins"))
+                until(lambda: nodes[1].health()[1].startswith("joins"))
                 running = begun_replacement(nodes, 1)
                 is_over = is_so_within(lambda: nodes[1].ended() not in (None, 0), 2 * PATIENCE)
                 if not is_over:
                     running.kill()
-                want(f"{call} {when}: it wasn't killed: {nodes.health(1)}", is_over)
+                want(f"{call} {when}: it wasn't killed: {nodes[1].health()}", is_over)
                 killed += 1
                 nodes[1].before = usual
                 nodes.start(1)
@@ -253,9 +249,8 @@ def dying(call, path, trace, when=1):
 def resumed(nodes):
     """`wfarmctl replace` is ended after each of its lines and run again, with the same folder or, where its
     disk is lost too, with another one: it votes"""
-    started_anew(nodes)
     said = []
-    with Service(nodes.each):
+    with replaceable(nodes):
         for lines in range(1, 6):
             for is_lost in (False, True):
                 lose(nodes, 1)
@@ -275,9 +270,8 @@ def resumed(nodes):
 def operators(nodes):
     """two operators run `wfarmctl replace` at once, five times: a folder votes, and all know of one
     replacement"""
-    started_anew(nodes)
     said = []
-    with Service(nodes.each):
+    with replaceable(nodes):
         for _ in range(5):
             lose(nodes, 1)
             both = [begun_replacement(nodes, 1) for _ in range(2)]

@@ -31,21 +31,11 @@ def rejection(nodes, i, line):
     nodes[i].life += 1  # it may say less than before: that is found here
     before = contents(nodes[i].folder)
     nodes.start(i)
-    try:
-        if not is_so_within(lambda: nodes[i].ended() is not None, WATCHED):
-            return [f"it goes on: published {nodes.published(i)}, health {nodes.health(i)}"]
-        code, last = nodes.ended(i)
-        found = unless(code == 1 and last.startswith(line), f"status {code}, {last}")
-        return found + unless(contents(nodes[i].folder) == before, "its files were changed")
-    finally:
-        nodes.kill(i)
-
-
-def all_start(nodes, wrong):
-    """All nodes start, where nothing was wrong before: what a case that was rejected says."""
-    want_none(wrong)
-    nodes.start_all()
-    return f"rejected; level after {nodes.level()} s"
+    is_so_within(lambda: nodes[i].ended() is not None, WATCHED)
+    code, last = nodes[i].ended(), nodes[i].last_line()
+    nodes.kill(i)
+    return (unless(code == 1 and last.startswith(line), f"status {code}, {last}")
+            + unless(contents(nodes[i].folder) == before, "its files were changed"))
 
 
 def with_tape(nodes, i, content, line):
@@ -57,28 +47,22 @@ def with_tape(nodes, i, content, line):
     return found
 
 
-def emptied(nodes):
-    """a start on an emptied tape, in a farm of three and in one of one"""
-    nodes.publish_all(*map(a_map, ("first", "second", "third")))
-    time.sleep(KEPT)
-    nodes.kill_all()
-    line = BACK + "it had published 3, now 0"
-    wrong = named("of three", with_tape(nodes, 1, b"", line))
-    with Nodes(nodes.program, nodes.folder / "alone", 1) as alone:
-        alone.publish_all(*(a_map(f"alone{k}") for k in range(3)))
-        time.sleep(KEPT)
-    alone[0].tape.write_bytes(b"")
-    return all_start(nodes, wrong + named("alone", rejection(alone, 0, line)))
-
-
 def older(nodes):
-    """a start on the tape of two publishes ago"""
+    """a start on the tape of two publishes ago, and on an emptied one, in farms of three and of one"""
     nodes.publish_all(a_map("first"), a_map("second"))
     copy = nodes[1].tape.read_bytes()
     nodes.publish_all(a_map("third"), a_map("fourth"))
     time.sleep(KEPT)
-    nodes.kill_all()
-    return all_start(nodes, with_tape(nodes, 1, copy, BACK + "it had published 4, now 2"))
+    nodes.end()
+    wrong = named("of two publishes ago", with_tape(nodes, 1, copy, BACK + "it had published 4, now 2"))
+    wrong += named("emptied", with_tape(nodes, 1, b"", BACK + "it had published 4, now 0"))
+    with Nodes(nodes.program, nodes.folder / "alone", 1) as alone:
+        alone.publish_all(*(a_map(f"alone{k}") for k in range(3)))
+        time.sleep(KEPT)
+    alone[0].tape.write_bytes(b"")
+    want_none(wrong + named("alone", rejection(alone, 0, BACK + "it had published 3, now 0")))
+    nodes.start_all()
+    return f"rejected; level after {nodes.level()} s"
 
 
 def zeroed(nodes):
@@ -111,7 +95,7 @@ def zeroed(nodes):
 
 def is_suspended(nodes, i):
     """Whether a node says that it is suspended, and which peer remembers more of it than it has."""
-    status, said = nodes.health(i)
+    status, said = nodes[i].health()
     found = re.fullmatch(r"suspended: node (\d) at 127\.0\.0\.1:(\d+) remembers \w.*", said)
     peer, port = map(int, found.groups()) if found else (i, 0)
     return status == 503 and peer != i and peer < NODES and nodes.peer[peer] == port
@@ -131,16 +115,14 @@ def answers(port):
 def suspension(nodes, i, seconds=2 * WATCHED):
     """What is wrong with a node that has to be suspended within this time, and stays so."""
     if not is_so_within(lambda: is_suspended(nodes, i), seconds):
-        status = nodes[i].ended()
-        if status is not None:
-            return [f"node {i} has ended, status {status}: {nodes[i].last_line()}"]
-        return [f"node {i} isn't suspended: {nodes.health(i)}, published {nodes.published(i)}"]
+        return [f"node {i} isn't suspended: {nodes[i].health()}, published {nodes.published(i)}, status "
+                f"{nodes[i].ended()}: {nodes[i].last_line()}"]
     time.sleep(1)
-    wrong = unless(is_suspended(nodes, i), f"node {i} is suspended no more: {nodes.health(i)}")
+    wrong = unless(is_suspended(nodes, i), f"node {i} is suspended no more: {nodes[i].health()}")
     for path in ("/readyz", "/votez"):
-        told = nodes.get(i, path, nodes.admin[i])
-        wrong += unless(told[0] == 503 and told[1].startswith(b"suspended: node "), f"{path}: {told}")
-    wrong += unless(nodes.operator(i, "/metrics")[0] == 200, "its operator's port has no metrics")
+        status, said = nodes[i].says(path)
+        wrong += unless(status == 503 and said.startswith("suspended: node "), f"{path}: {status} {said}")
+    wrong += unless(nodes[i].says("/metrics")[0] == 200, "its operator's port has no metrics")
     return wrong + unless(not (said := answers(nodes.http[i])), f"a client is answered: {said}")
 
 
@@ -154,7 +136,7 @@ def restored(nodes):
     # it has voted; what it says later would tell that it published
     nodes[1].pause()
     time.sleep(KEPT)
-    nodes.kill_all()
+    nodes.end()
     nodes.put(1, copy)
 
     def let_in():
@@ -166,13 +148,7 @@ def restored(nodes):
     wrong = suspension(nodes, 1) + unless(let_in() == before, "node 0 lets node 1 in")
     nodes.kill(0)
     nodes.start_all([2])
-
-    def is_third_published():
-        nodes.publish(2, a_map("third"))
-        time.sleep(0.3)
-        return nodes.published(2) >= 2
-
-    is_so_within(is_third_published, WATCHED)
+    wrong += counted_vote(nodes, 2)
     nodes.start_all([0])
     is_so_within(lambda: nodes.published(2) >= 2, WATCHED)
     names = {i: nodes.name(i, 2) for i in range(NODES)}
@@ -188,7 +164,7 @@ def promised(nodes):
     # so that node 2 leads by node 1's promise
     nodes[0].pause()
     nodes.publish_whole(2, a_map("second"))
-    nodes.kill_all()
+    nodes.end()
     nodes.put(1, copy)
     nodes.start(*range(NODES))
     want_none(suspension(nodes, 1))
@@ -247,24 +223,6 @@ def counted_vote(nodes, i):
     return unless(not is_published, "a map was published by its vote")
 
 
-def cleared(nodes):
-    """an operator ends a suspension by `wfarm clear` on each stopped node's folder, and not by starts"""
-    put_back_copy(nodes)
-    wrong = []
-    for _ in range(2):
-        nodes.start(1)
-        wrong += suspension(nodes, 1)
-        nodes.kill(1)
-    nodes.kill(0, 2)
-    for i in range(NODES):
-        nodes[i].clear()
-    nodes.start(*range(NODES))
-    are_well = is_so_within(lambda: all(nodes.health(i)[0] == 200 for i in range(NODES)), WATCHED)
-    want_none(wrong + unless(are_well, f"after it: {[nodes.health(i) for i in range(NODES)]}"))
-    nodes.publish_whole(1, a_map("after"))
-    return f"level after {nodes.level()} s"
-
-
 def unwritten(nodes):
     """a node that can't write what it hears of its peers is as if it were halted, and its vote doesn't count;
     it goes on once it can write"""
@@ -276,8 +234,8 @@ def unwritten(nodes):
     for path in (heard, second):
         (path / "in the way").mkdir(parents=True)
     nodes.publish_whole(2, a_map("second"))
-    wrong = unless(is_so_within(lambda: nodes.health(1) == (503, "halted"), WATCHED),
-                   f"node 1's health is {nodes.health(1)}")
+    wrong = unless(is_so_within(lambda: nodes[1].health() == (503, "halted"), WATCHED),
+                   f"node 1's health is {nodes[1].health()}")
     is_told = any(re.search(r' folder-not-written file="?\S*heard\S*"? why="', line)
                   for line in nodes.lines(1, "folder-not-written"))
     wrong += unless(is_told, "no line folder-not-written about heard")
@@ -287,8 +245,8 @@ def unwritten(nodes):
     for path in (heard, second):
         shutil.rmtree(path)
     heard.write_bytes(sound)
-    want_none(wrong + unless(is_so_within(lambda: nodes.health(1)[0] == 200, WATCHED),
-                             f"once it can be written node 1's health is {nodes.health(1)}"))
+    want_none(wrong + unless(is_so_within(lambda: nodes[1].health()[0] == 200, WATCHED),
+                             f"once it can be written node 1's health is {nodes[1].health()}"))
     until(lambda: nodes.published(0) > before)
     return "halted; then it went on by itself"
 
@@ -325,4 +283,4 @@ def taken(nodes):
     return f"{len(cases)} tapes"
 
 
-CASES = [emptied, older, zeroed, restored, promised, suspended, cleared, unwritten, taken]
+CASES = [older, zeroed, restored, promised, suspended, unwritten, taken]
