@@ -1,6 +1,6 @@
 #!/usr/bin/env python3
-"""Runs CI, `rt ci`, anew, prints what each crate cost, and writes that into docs/CI.md if the run passed and
-proved all.
+"""Runs `rt ci` anew, as CI does, prints what each crate cost, and writes that into docs/CI.md if the run
+passed and proved all.
 
     python3 tools/gate_cost.py [LOG]
     python3 tools/gate_cost.py --of PID LOG       of an `rt ci` that runs already, and prints to LOG
@@ -24,6 +24,7 @@ import subprocess
 import sys
 import time
 
+from ci import lanes
 from farmkit.command import parser
 from farmkit.kit import ci_takes
 from farmkit.processes import descendants
@@ -94,6 +95,7 @@ def main() -> int:
     options, began, seen, gate = words.parse_args(), time.time(), {}, None
     anew = ["--anew"] if ci_takes("--anew") else []
     if options.of is None:
+        os.environ.setdefault("RT_JOBS", str(lanes()))
         with open(options.log, "w", encoding="utf-8") as out:
             gate = subprocess.Popen(["rt", "ci", *anew], cwd=TOP, stdout=out, stderr=subprocess.STDOUT)
     while os.path.exists(f"/proc/{options.of}") if gate is None else gate.poll() is None:

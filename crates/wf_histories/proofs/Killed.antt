@@ -15,6 +15,7 @@ use Rattle.wf_tape.specs.declared.tape.Tape.{Ghosts as Tape}
 use Rattle.wf_voter.specs.Answer.{AreAllLater, AreEarlier}
 use Rattle.wf_voter.specs.Continuation.{AreRunsFrom, IsEarlier, IsLater}
 use Rattle.wf_voter.specs.declared.voter.Voter.{Voter}
+use Rattle.wf_voter.proofs.Earlier.{its_own}
 use Rattle.wf_histories.specs.Advance.{run_in}
 use Rattle.wf_histories.specs.Answers.{HasMadeAll}
 use Rattle.wf_histories.specs.Killed.{AnswersByThenAreOfNodes, ClientsGetEqually, EarlierAnswersAreOfNodes, InLastRun, InRunOver, IsWithinActs, WasAnsweredByThen, WholeIsWithinActs}
@@ -159,19 +160,6 @@ module _ {T : Type 0} (tapes : Tape T) where
 
   -- ---- clients in their order
 
-  -- a process is at its own moment
-  no_later : (actor : Actor T tapes) → IsLater tapes actor actor
-  no_later actor = record {
-    number = refl;
-    read_from = refl;
-    stood = ([], append-nil actor.stood.items);
-    given = ([], append-nil actor.given.items);
-    emitted = ([], append-nil _);
-  }
-
-  pub own_moment : (process : Process T tapes) → IsEarlier tapes process process
-  own_moment process = record { since = []; ended = sym (append-nil process.ended.items); runs = no_later process.actor }
-
   one_later : (past : Process T tapes) (befores : List (Voter T tapes × ℕ)) → AreAllLater tapes past befores → (place count : ℕ) (voter : Voter T tapes) → slice_get befores place ≡ Some (voter, count)
       → IsEarlier tapes past voter.process
   unfolding AreAllLater
@@ -186,7 +174,7 @@ module _ {T : Type 0} (tapes : Tape T) where
   in_order [] now are place last count last_count voter later order at at_last = absurd (none-some (voter, count) at)
   in_order (before ∷ befores) now are zero zero count last_count voter later order at at_last =
       subst (λ (v : Voter T tapes). IsEarlier tapes voter.process v.process)
-      (ap (λ (entry : Voter T tapes × ℕ). entry.0) (sym (same_Some before (voter, count) at) ∙ same_Some before (later, last_count) at_last)) (own_moment voter.process)
+      (ap (λ (entry : Voter T tapes × ℕ). entry.0) (sym (same_Some before (voter, count) at) ∙ same_Some before (later, last_count) at_last)) (its_own tapes voter.process)
   in_order (before ∷ befores) now are zero (suc last) count last_count voter later order at at_last =
       subst (λ (v : Voter T tapes). IsEarlier tapes v.process later.process) (ap (λ (entry : Voter T tapes × ℕ). entry.0) (same_Some before (voter, count) at))
       (one_later before.0.process befores are.1 last last_count later at_last)

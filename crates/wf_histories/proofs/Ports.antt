@@ -17,10 +17,11 @@ use Rattle.wf_replica_command.specs.ReplicaLoop.{follower_of}
 use Rattle.wf_sockets.specs.declared.connection.Connection.{Ghosts as Connection}
 use Rattle.wf_tape.specs.declared.tape.Tape.{Ghosts as Tape}
 use Rattle.wf_voter.proofs.Continuation.{earlier_twice}
+use Rattle.wf_voter.proofs.Earlier.{its_own}
 use Rattle.wf_voter.specs.Continuation.{IsEarlier}
 use Rattle.wf_histories.proofs.Agreement.{held}
 use Rattle.wf_histories.proofs.Answers.{was_ever}
-use Rattle.wf_histories.proofs.Killed.{by_then, own_moment, whole_is_within}
+use Rattle.wf_histories.proofs.Killed.{by_then, whole_is_within}
 use Rattle.wf_histories.proofs.Told.{begun_served, list_served}
 use Rattle.wf_histories.specs.Killed.{IsWithinActs}
 use Rattle.wf_histories.specs.Nodes.{NodeProcess}
@@ -66,7 +67,7 @@ nodes_reply tapes = λ n before earlier folders steps are i p past member is_in 
 pub whole_nodes_reply : {N : Type 0} (tapes : Tape N) → WholeNodesReplyByFarm tapes
 whole_nodes_reply tapes = λ n before earlier folders steps are i p member is_in whole.
     let now = p.has.on.voter.process in
-    nodes_reply tapes n before earlier folders steps are i p now member is_in (own_moment tapes now) (whole_is_within tapes p whole) p.has.on.exchanges p.has.on.replied
+    nodes_reply tapes n before earlier folders steps are i p now member is_in (its_own tapes now) (whole_is_within tapes p whole) p.has.on.exchanges p.has.on.replied
 
 -- ---- a replica
 

@@ -1,5 +1,5 @@
 -- What readers were replied, as the node goes on and more is asked.
-use Rattle.std.proofs.Common.{◌≡◌, ℕ, List, [], ◌∷◌, ◌++◌, refl, sym, subst, ap, ◌∙◌}
+use Rattle.std.proofs.Common.{◌≡◌, ℕ, List, [], ◌∷◌, ◌++◌, sym, subst}
 use Rattle.std.proofs.Math.Logic.{∥∥₁_map}
 use Rattle.wf_def.specs.Definition.{Definition}
 use Rattle.wf_peer_connections.specs.Exchanges.{AreRepliedBy, Exchange, HasReplied}
@@ -7,7 +7,7 @@ use Rattle.wf_reader.specs.declared.answerer.Answerer.{Answerer}
 use Rattle.wf_tape.specs.declared.tape.Tape.{Ghosts as Tape}
 use Rattle.wf_voter.proofs.Continuation.{keeps_going}
 use Rattle.wf_voter.proofs.Earlier.{its_own}
-use Rattle.wf_voter.specs.Continuation.{ContinuesIn, Continues, KeepsEarlier, StaysInRun}
+use Rattle.wf_voter.specs.Continuation.{ContinuesIn, KeepsEarlier, StaysInRun}
 use Rattle.wf_voter.specs.Folder.{Stand}
 use Rattle.wf_voter.specs.Lived.{HasLived}
 use Rattle.wf_voter.specs.Process.{Process}

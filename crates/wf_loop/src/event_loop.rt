@@ -3,7 +3,6 @@ ghost use Rattle.wf_peer_connections.specs.ReadersPort.{exchanges_of};
 ghost use Rattle.wf_voter.specs.Answer.{AreEarlier};
 
 use std::net::SocketAddr;
-use wf_operator::Behind;
 use wf_peer_connections::{LoopParts, Timers};
 use wf_sockets::{Network, SystemNetwork};
 use wf_tape::Tape;
@@ -19,7 +18,6 @@ pub struct EventLoop<T: Tape, N: Network = SystemNetwork> {
     pub(crate) clients: Clients<T, N>,
     pub(crate) voter: Voter<T>,
     pub(crate) timers: Timers,
-    pub(crate) behind: Behind,
     pub(crate) http: Option<SocketAddr>,
     pub(crate) time: u64,
     pub(crate) is_busy: bool,

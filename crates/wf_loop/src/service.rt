@@ -24,7 +24,6 @@ use std::net::{Net, SocketAddr};
 use std::rt::Files;
 use std::time::Clock;
 use wf_membership::Gate;
-use wf_operator::Behind;
 use wf_peer::PeerProgress;
 use wf_peer_connections::{
     LoopFault, LoopParts, LoopStart, NodeEvent, NodePlan, TICK_MILLIS, Timers, bind,
@@ -139,7 +138,6 @@ fn event_loop_with<T: Tape, N: Network>(
         clients,
         voter,
         timers,
-        behind: Behind::default(),
         http,
         time,
         is_busy: false,
@@ -148,8 +146,8 @@ fn event_loop_with<T: Tape, N: Network>(
 
 impl<T: Tape + Drop> EventLoop<T> {
     /// Binds the addresses of a node of the system. Err: `Poll` if the system gives no poll;
-    /// `Http`, `Listen`, `Admin` or `Readers` if that address is taken or not permitted, the first
-    /// one in this order; `Memory` if an allocation fails. The process is dropped then.
+    /// `Taken` if an address is taken or not permitted, the first one of peers, clients, operators
+    /// and readers; `Memory` if an allocation fails. The process is dropped then.
     pub fn new<R: Net + Clock + AllocGlobal>(
         rt: &R,
         plan: NodePlan,
@@ -231,9 +229,9 @@ impl<T: Tape + Drop> EventLoop<T> {
 }
 
 impl<T: Tape + Drop, N: Network + Drop> EventLoop<T, N> {
-    /// Binds the addresses of a node on a network, at this time in milliseconds. Err: `Http`,
-    /// `Listen`, `Admin` or `Readers` if that address is taken or not permitted, the first one in
-    /// this order; `Memory` if an allocation fails. The process is dropped then.
+    /// Binds the addresses of a node on a network, at this time in milliseconds. Err: `Taken` if an
+    /// address is taken or not permitted, the first one of peers, clients, operators and readers;
+    /// `Memory` if an allocation fails. The process is dropped then.
     pub fn on<R: Net + Clock + AllocGlobal>(
         rt: &R,
         network: N,
@@ -584,7 +582,6 @@ impl<T: Tape + Drop, N: Network + Drop> EventLoop<T, N> {
             clients,
             voter,
             timers,
-            behind,
             time,
             ..
         } = self;
@@ -603,7 +600,7 @@ impl<T: Tape + Drop, N: Network + Drop> EventLoop<T, N> {
         peers.begin_turn(could_wait, ready.len());
         serve_all(&context, voter, folder, peers, desk, clients, ready);
         turn_by_clock(&context, voter, folder, peers, timers, desk, clients);
-        answer_operators(&context, voter, peers, desk, clients, behind);
+        answer_operators(&context, voter, peers, desk, clients);
         has_more(voter, peers, clients)
     }
 }

@@ -8,9 +8,10 @@ ghost use Rattle.wf_voter.specs.Continuation.{Continues, ContinuesIn};
 use std::net::Net;
 use std::rt::Files;
 use std::time::Clock;
-use wf_operator::Behind;
-use wf_peer_connections::{Desk, NodeView, PeerConnections, Socket};
+use wf_peer_connections::{NodeView, PeerConnections, Socket};
 use wf_peering::{accept, call, read_inbound, send_all, state_of};
+use wf_ports::{Desk, PortSocket};
+use wf_readers_port::{Answerer, PortView};
 use wf_sockets::Network;
 use wf_tape::Tape;
 use wf_visitors::{Context, micros};
@@ -133,15 +134,34 @@ fn act_on<R: Net + Clock + Eprint + AllocGlobal, T: Tape + Drop, F: NodeFolder<T
         (exchanges_of desk.old.readers) (exchanges_of desk.new.readers) }
 {
     match socket {
-        Socket::Http => clients.accept(context),
-        Socket::Client(index) => clients.on_ready(context, index),
+        Socket::Port(port) => act_on_port(context, voter, peers, desk, clients, port),
         Socket::Listen => accept(context, voter, folder, peers),
         Socket::Dial(index) => call(context, voter, folder, peers, index),
         Socket::Inbound(index) => read_inbound(context, voter, folder, peers, index),
-        Socket::Admin => desk.operators.accept(context),
-        Socket::Operator(index) => desk.operators.on_ready(context, index),
-        Socket::Readers => desk.readers.accept(context),
-        Socket::Reader(index) => reply(context, voter, peers, desk, index),
+    }
+}
+
+/// Does what a ready socket of a port asks for, by which nothing of the node can change.
+#[tactic(auto, using(crate::proofs::Readers::replied_still))]
+fn act_on_port<R: Clock + Eprint + AllocGlobal, T: Tape + Drop, N: Network>(
+    context: &Context<'_, '_, R, N>,
+    voter: &Voter<T>,
+    peers: &mut PeerConnections<N>,
+    desk: &mut Desk<N>,
+    clients: &mut Clients<T, N>,
+    port: PortSocket,
+)
+    ensures befores { clients.new.before.items ≡ clients.old.before.items }
+    ensures readers { StayReplied T.Tape voter.now.process voter.now.process
+        (exchanges_of desk.old.readers) (exchanges_of desk.new.readers) }
+{
+    match port {
+        PortSocket::Http => clients.accept(context),
+        PortSocket::Client(index) => clients.on_ready(context, index),
+        PortSocket::Admin => desk.operators.accept(context),
+        PortSocket::Operator(index) => desk.operators.on_ready(context, index),
+        PortSocket::Readers => desk.readers.accept(context),
+        PortSocket::Reader(index) => reply(context, voter, peers, desk, index),
     }
 }
 
@@ -159,7 +179,17 @@ fn reply<R: Clock + Eprint + AllocGlobal, T: Tape + Drop, N: Network>(
     voter.process.always_lived();
     voter.process.always_received();
     let history = voter.process.node().history();
-    desk.answer_reader(context, history, &mut peers.table, index);
+    // what was published in this turn has its digests too
+    peers.table.extend(history);
+    let published = PortView {
+        own: &Answerer {
+            farm: peers.plan.own.farm,
+            distance: 0,
+        },
+        history,
+        digests: peers.table.digests(),
+    };
+    desk.readers.on_ready(context, &published, index);
 }
 
 /// Delivers messages of the node to itself, a bounded number of them.
@@ -252,12 +282,12 @@ pub(crate) fn answer_operators<R: Files + Clock + Eprint + AllocGlobal, T: Tape 
     peers: &mut PeerConnections<N>,
     desk: &mut Desk<N>,
     clients: &Clients<T, N>,
-    behind: &mut Behind,
 )
     ensures { exchanges_of desk.new.readers ≡ exchanges_of desk.old.readers }
 {
     let history = voter.process.node().history();
-    let is_behind = behind.judge(history.published().number() < peers.latest(), context.time);
+    let lacks = history.published().number() < peers.latest();
+    let is_behind = desk.behind.judge(lacks, context.time);
     if desk.operators.waits() {
         // what was published in this turn has its digests too
         peers.table.extend(history);

@@ -29,6 +29,7 @@ use wf_folder_log::FolderEvent;
 use wf_line::NodeLine;
 use wf_peer::{Own, PeerProgress, Progress};
 use wf_peer_connections::NodePlan;
+use wf_ports::PortAddresses;
 use wf_store::{FileName, Store, path_in};
 use wf_visitors::Log;
 use wf_voter::Process;
@@ -317,10 +318,12 @@ fn plan_with(
         folder,
         tape,
         peers,
-        http,
         listen: listen.unwrap_or(own),
-        admin,
-        readers,
+        ports: PortAddresses {
+            http,
+            admin,
+            readers,
+        },
         clients: line.clients as usize,
     })
 }

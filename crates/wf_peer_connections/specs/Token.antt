@@ -5,7 +5,5 @@ use Rattle.wf_peer_connections.specs.declared.socket.Socket.TheVariants as socke
 
 -- whether it is a listener for peers, or a connection to or from one
 abbrev pub is_of_peer : Socket → Bool
-is_of_peer sockets.Listen = true
-is_of_peer (sockets.Dial index) = true
-is_of_peer (sockets.Inbound index) = true
-is_of_peer socket = false
+is_of_peer (sockets.Port port) = false
+is_of_peer socket = true

@@ -5,7 +5,7 @@ ghost use Rattle.wf_peer_connections.specs.Dials.{AreOfferedIf, AreOfferedOn, Ar
 
 use crate::dial::{Dial, DialTurn};
 use crate::event::PeerEnd;
-use crate::socket::Socket;
+use crate::token::dial_token;
 use std::alloc::Global;
 use std::mem::replace;
 use std::net::{Net, SocketAddr};
@@ -325,10 +325,7 @@ fn begin_connection<R: Net + AllocGlobal, N: Network>(
 ) -> Option<ToPeer<N::Connection>> {
     let mut connection = context.network.connect(context.rt, address)?;
     connection.send_at_once();
-    if context
-        .network
-        .watch(&mut connection, Socket::Dial(index).token())
-    {
+    if context.network.watch(&mut connection, dial_token(index)) {
         ToPeer::new(context.alloc(), connection, greeting)
     } else {
         None

@@ -8,7 +8,7 @@ use crate::inbound::Inbound;
 use crate::intake::close;
 use crate::peer_connections::PeerConnections;
 use crate::peer_state::Greeted;
-use crate::socket::Socket;
+use crate::token::inbound_token;
 use std::alloc::Global;
 use std::mem::replace;
 use std::net::SocketAddr;
@@ -46,10 +46,7 @@ impl<N: Network> PeerConnections<N> {
             return None;
         };
         connection.send_at_once();
-        if context
-            .network
-            .watch(&mut connection, Socket::Inbound(index).token())
-        {
+        if context.network.watch(&mut connection, inbound_token(index)) {
             let inbound = Inbound::new(context.alloc(), connection, address, context.time);
             Some((index, inbound))
         } else {
@@ -74,7 +71,7 @@ impl<N: Network> PeerConnections<N> {
         mut inbound: Inbound<N::Connection>,
     ) {
         if self.is_busy {
-            let _ = inbound.watch(context.network, Socket::Inbound(index).token());
+            let _ = inbound.watch(context.network, inbound_token(index));
         }
         match self.inbounds.get_mut(index) {
             Some(slot) => drop(replace(slot, Some(inbound))),

@@ -10,9 +10,9 @@
 //! - [`NodePlan`] says which node it is, and where the others are. `wf_membership` says what the
 //!   node goes by of replacements, constant for a run; an [`Order`] is what is to be written about
 //!   them for the next one. [`Joiner`] is a folder that joins in the place of a lost one.
-//! - [`Desk`] has the readers and the operators, who are answered from a [`NodeView`]. [`Timers`]
-//!   says what is due by the clock. [`LoopParts`] has all of these, over any network
-//!   (`wf_sockets`), and [`bind`] binds their addresses.
+//! - Operators are answered from a [`NodeView`]. [`Timers`] says what is due by the clock.
+//!   [`LoopParts`] has the connections and the desk of `wf_ports`, over any network (`wf_sockets`),
+//!   and [`bind`] binds all addresses.
 //! - [`NodeEvent`] is a line of the log; [`Socket`] says whose a token is.
 //!
 //! **Promises.** A peer is let in only with the folder that is taken for its node by the membership
@@ -39,7 +39,6 @@
 
 mod agreement;
 mod call;
-mod desk;
 mod dial;
 mod dials;
 mod event;
@@ -62,7 +61,6 @@ mod timers;
 mod token;
 mod unlisted;
 
-pub use desk::Desk;
 pub use dial::{Dial, DialTurn};
 pub use event::{NodeEvent, PeerEnd};
 pub use inbound::{Came, Inbound};

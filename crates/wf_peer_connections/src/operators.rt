@@ -2,7 +2,6 @@
 ghost use Rattle.std.specs.Prelude.{◌≡◌};
 ghost use Rattle.wf_readers_port.specs.ReadersPort.{exchanges_of};
 
-use crate::desk::{Desk, serve_operators};
 use crate::facts::NodeFacts;
 use crate::order::Order;
 use crate::peer_connections::PeerConnections;
@@ -13,6 +12,7 @@ use wf_learner::History;
 use wf_membership::{Membership, Tally};
 use wf_operator::{Operator, PictureCounts};
 use wf_peer::NodeState;
+use wf_ports::Desk;
 use wf_proposer::ProposalState;
 use wf_sockets::Network;
 use wf_visitors::{Context, Counts};
@@ -80,15 +80,9 @@ impl<N: Network> PeerConnections<N> {
         ensures { exchanges_of desk.new.readers ≡ exchanges_of desk.old.readers }
     {
         let history = view.history;
-        let Desk {
-            operators,
-            readers,
-            started,
-            ..
-        } = desk;
         let facts = NodeFacts {
             rt: context.rt,
-            started: *started,
+            started: desk.started,
             history,
             table: &self.table,
             peers: self.states.as_slice(),
@@ -105,11 +99,11 @@ impl<N: Network> PeerConnections<N> {
             suspension: self.suspension,
             is_unwritten: self.unwritten.is_some(),
             hears_majority: self.hears_majority(context.time),
-            reader_differs: readers.differs(context.time),
+            reader_differs: desk.readers.differs(context.time),
             latest: self.latest().max(history.published().number()),
             is_behind,
             clients: view.clients,
-            readers: readers.reader_count(),
+            readers: desk.readers.reader_count(),
             node: self.plan.own.node,
             since: self.since,
             time: context.time,
@@ -117,7 +111,7 @@ impl<N: Network> PeerConnections<N> {
             order: None,
         };
         let mut operator = Operator::new(facts);
-        serve_operators(operators, context, &mut operator);
+        desk.answer_operators(context, &mut operator);
         operator.operated().order
     }
 }

@@ -1,47 +1,37 @@
 //! All of an event loop but its node: sockets, peers, and who only reads.
-ghost use Rattle.std.specs.Prelude.{◌≡◌, [], Some, IfErr, IfOk, IsSome, true};
+ghost use Rattle.std.specs.Prelude.{◌≡◌, [], IfErr, IfOk, IsSome, true};
 ghost use Rattle.wf_peer_connections.specs.Membership.{membership_by};
 ghost use Rattle.wf_peer_connections.specs.StartErrors.{IsStartError};
 ghost use Rattle.wf_readers_port.specs.ReadersPort.{exchanges_of};
 ghost use Rattle.wf_visitors.specs.Visitors.{responses_of};
 
-use crate::desk::Desk;
 use crate::peer_connections::{PeerConnections, Rooms};
 use crate::plan::{LoopFault, NodePlan};
-use crate::socket::Socket;
 use crate::timers::Timers;
-use crate::token::CLIENT;
+use crate::token::LISTEN;
 use std::alloc::{AllocError, Global};
-use std::net::{Net, SocketAddr};
+use std::net::Net;
 use std::time::Clock;
+use wf_address::AddressOption;
 use wf_membership::Membership;
 use wf_operator::StartTime;
 use wf_peer::PeerProgress;
-use wf_readers_port::Answerer;
+use wf_ports::{Desk, PortListeners, Ports, listen};
 use wf_sockets::Network;
 use wf_visitors::Visitors;
-
-/// The listeners for all but the peers.
-#[derive(Drop)]
-struct Ports<N: Network> {
-    http: N::Listener,
-    admin: Option<N::Listener>,
-    readers: Option<N::Listener>,
-}
 
 /// The network, and the listeners on it.
 #[derive(Drop)]
 struct Doors<N: Network> {
     network: N,
     listener: N::Listener,
-    ports: Ports<N>,
+    ports: PortListeners<N>,
 }
 
 /// What an event loop allocates before it begins.
 #[derive(Drop)]
 struct LoopRooms<N: Network> {
-    visitors: Visitors<N>,
-    desk: Desk<N>,
+    ports: Ports<N>,
     rooms: Rooms<N::Connection>,
 }
 
@@ -84,24 +74,6 @@ pub struct LoopStart<N: Network> {
     pub visitors: Visitors<N>,
 }
 
-/// A listener at an address, if there is an address. Err: that address is taken, or not permitted.
-fn listen_if<R: Net, N: Network>(
-    rt: &R,
-    network: &N,
-    address: Option<SocketAddr>,
-    socket: Socket,
-) -> Result<Option<N::Listener>, SocketAddr>
-    ensures { IfErr result (λ taken. address ≡ Some taken) }
-{
-    let Some(address) = address else {
-        return Ok(None);
-    };
-    match network.listen(rt, address, socket.token()) {
-        Some(listener) => Ok(Some(listener)),
-        None => Err(address),
-    }
-}
-
 /// Binds the addresses of a node on a network.
 fn doors_of<R: Net, N: Network + Drop>(
     rt: &R,
@@ -110,36 +82,17 @@ fn doors_of<R: Net, N: Network + Drop>(
 ) -> Result<Doors<N>, LoopFault>
     ensures { IfErr result (IsStartError plan.now) }
 {
-    let Some(http) = network.listen(rt, plan.http, Socket::Http.token()) else {
-        return Err(LoopFault::Http(plan.http));
+    let listener = match listen(rt, &network, AddressOption::Listen, plan.listen, LISTEN) {
+        Ok(listener) => listener,
+        Err(taken) => return Err(LoopFault::Taken(taken.option, taken.address)),
     };
-    let Some(listener) = network.listen(rt, plan.listen, Socket::Listen.token()) else {
-        return Err(LoopFault::Listen(plan.listen));
-    };
-    let admin = match listen_if(rt, &network, plan.admin, Socket::Admin) {
-        Ok(admin) => admin,
-        Err(taken) => return Err(LoopFault::Admin(taken)),
-    };
-    let readers = match listen_if(rt, &network, plan.readers, Socket::Readers) {
-        Ok(readers) => readers,
-        Err(taken) => return Err(LoopFault::Readers(taken)),
-    };
-    Ok(Doors {
-        network,
-        listener,
-        ports: Ports {
-            http,
-            admin,
-            readers,
-        },
-    })
-}
-
-/// Who answers readers: a voter of the farm.
-fn answerer_of(plan: &NodePlan) -> Answerer {
-    Answerer {
-        farm: plan.own.farm,
-        distance: 0,
+    match PortListeners::bind(rt, &network, &plan.ports) {
+        Ok(ports) => Ok(Doors {
+            network,
+            listener,
+            ports,
+        }),
+        Err(taken) => Err(LoopFault::Taken(taken.option, taken.address)),
     }
 }
 
@@ -147,26 +100,16 @@ fn answerer_of(plan: &NodePlan) -> Answerer {
 fn rooms_of<N: Network + Drop>(
     alloc: Global,
     plan: &NodePlan,
-    ports: Ports<N>,
+    listeners: PortListeners<N>,
     known: PeerProgress,
     started: StartTime,
 ) -> Result<LoopRooms<N>, AllocError>
-    ensures visitors { IfOk result (λ made. responses_of made.visitors ≡ []) }
-    ensures readers { IfOk result (λ made. exchanges_of made.desk.readers ≡ []) }
+    ensures clients { IfOk result (λ made. responses_of made.ports.clients ≡ []) }
+    ensures readers { IfOk result (λ made. exchanges_of made.ports.desk.readers ≡ []) }
 {
-    let Ports {
-        http,
-        admin,
-        readers,
-    } = ports;
     let rooms = Rooms::new(alloc, plan, known)?;
-    let desk = Desk::new(alloc, answerer_of(plan), admin, readers, started)?;
-    let visitors = Visitors::new(alloc, plan.clients, Some(http), CLIENT)?;
-    Ok(LoopRooms {
-        visitors,
-        desk,
-        rooms,
-    })
+    let ports = listeners.open(alloc, plan.clients, started)?;
+    Ok(LoopRooms { ports, rooms })
 }
 
 /// All of an event loop but its node, with these listeners. The only error is allocation failure.
@@ -192,8 +135,7 @@ fn begin_at<N: Network + Drop>(
     match rooms_of(alloc, &plan, ports, known, started) {
         Ok(
             LoopRooms {
-                visitors,
-                desk,
+                ports: Ports { clients, desk },
                 rooms,
             },
         ) => Ok(LoopStart {
@@ -202,7 +144,7 @@ fn begin_at<N: Network + Drop>(
                 peers: PeerConnections::new(alloc, plan, listener, rooms, time),
                 desk,
             },
-            visitors,
+            visitors: clients,
         }),
         Err(_) => {
             drop(plan);

@@ -3,8 +3,10 @@
 use crate::joiner::Joiner;
 use std::net::SocketAddr;
 use thiserror::Error;
+use wf_address::AddressOption;
 use wf_folder::Suspension;
 use wf_peer::{Own, Progress};
+use wf_ports::PortAddresses;
 use wf_rejoin::Replacements;
 
 /// Which node of a farm it is, and where the others are.
@@ -28,14 +30,10 @@ pub struct NodePlan {
     pub tape: String,
     /// The addresses of all nodes, that of node i at index i: as many as the farm has nodes.
     pub peers: Vec<SocketAddr>,
-    /// Where clients come.
-    pub http: SocketAddr,
     /// Where peers come.
     pub listen: SocketAddr,
-    /// Where the operator comes, if anywhere.
-    pub admin: Option<SocketAddr>,
-    /// Where readers come, if anywhere.
-    pub readers: Option<SocketAddr>,
+    /// Where others come.
+    pub ports: PortAddresses,
     /// The number of clients at once.
     pub clients: usize,
 }
@@ -46,18 +44,9 @@ pub enum LoopFault {
     /// The system gives no poll.
     #[error("no poll")]
     Poll,
-    /// The clients' address is taken, or not permitted.
-    #[error("the address of --http is taken or not permitted: {0}")]
-    Http(SocketAddr),
-    /// The peers' address is taken, or not permitted.
-    #[error("the address of --listen is taken or not permitted: {0}")]
-    Listen(SocketAddr),
-    /// The operator's address is taken, or not permitted.
-    #[error("the address of --admin is taken or not permitted: {0}")]
-    Admin(SocketAddr),
-    /// The readers' address is taken, or not permitted.
-    #[error("the address of --readers is taken or not permitted: {0}")]
-    Readers(SocketAddr),
+    /// The address of this option is taken, or not permitted.
+    #[error("the address of {0} is taken or not permitted: {1}")]
+    Taken(AddressOption, SocketAddr),
     /// An allocation failed.
     #[error("out of memory")]
     Memory,

@@ -3,6 +3,10 @@ ghost use Rattle.std.specs.Prelude.{◌≡◌};
 ghost use Rattle.wf_peer_connections.specs.Token.{is_of_peer};
 
 use crate::socket::Socket;
+use wf_ports::{FIRST_OWN, PortSocket};
+
+/// The token of the listener for peers.
+pub(crate) const LISTEN: usize = FIRST_OWN;
 
 /// The first token of the connections to peers: that of node i is this plus i.
 const DIAL: usize = 64;
@@ -10,54 +14,33 @@ const DIAL: usize = 64;
 /// The first token of the connections from peers.
 const INBOUND: usize = 128;
 
-/// The first token of the operator's connections.
-pub(crate) const OPERATOR: usize = 512;
+/// The token of the connection to a node.
+pub(crate) fn dial_token(index: usize) -> usize {
+    DIAL.saturating_add(index)
+}
 
-/// The first token of readers.
-pub(crate) const READER: usize = 768;
-
-/// The first token of clients.
-pub(crate) const CLIENT: usize = 1_024;
+/// The token of the connection in a slot, from a peer.
+pub(crate) fn inbound_token(index: usize) -> usize {
+    INBOUND.saturating_add(index)
+}
 
 impl Socket {
-    /// Its token.
-    pub(crate) fn token(self) -> usize {
-        match self {
-            Socket::Http => 0,
-            Socket::Listen => 1,
-            Socket::Admin => 2,
-            Socket::Readers => 3,
-            Socket::Dial(index) => DIAL.saturating_add(index),
-            Socket::Inbound(index) => INBOUND.saturating_add(index),
-            Socket::Operator(index) => OPERATOR.saturating_add(index),
-            Socket::Reader(index) => READER.saturating_add(index),
-            Socket::Client(index) => CLIENT.saturating_add(index),
-        }
-    }
-
     /// The socket of a token.
     pub fn of(token: usize) -> Socket {
-        match token {
-            0 => Socket::Http,
-            1 => Socket::Listen,
-            2 => Socket::Admin,
-            3 => Socket::Readers,
-            _ => Socket::of_connection(token),
+        match PortSocket::of(token) {
+            Some(port) => Socket::Port(port),
+            None => Socket::of_peer(token),
         }
     }
 
-    /// The connection of a token.
-    fn of_connection(token: usize) -> Socket {
-        if token < INBOUND {
-            Socket::Dial(token.saturating_sub(DIAL))
-        } else if token < OPERATOR {
+    /// The socket of a token that is of no port.
+    fn of_peer(token: usize) -> Socket {
+        if INBOUND <= token {
             Socket::Inbound(token - INBOUND)
-        } else if token < READER {
-            Socket::Operator(token - OPERATOR)
-        } else if token < CLIENT {
-            Socket::Reader(token - READER)
+        } else if DIAL <= token {
+            Socket::Dial(token - DIAL)
         } else {
-            Socket::Client(token - CLIENT)
+            Socket::Listen
         }
     }
 
@@ -67,12 +50,7 @@ impl Socket {
     {
         match self {
             Socket::Listen | Socket::Dial(_) | Socket::Inbound(_) => true,
-            Socket::Http
-            | Socket::Admin
-            | Socket::Readers
-            | Socket::Operator(_)
-            | Socket::Reader(_)
-            | Socket::Client(_) => false,
+            Socket::Port(_) => false,
         }
     }
 }

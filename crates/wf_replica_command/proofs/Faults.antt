@@ -15,10 +15,11 @@ use Rattle.wf_def.specs.Definition.{Definition}
 use Rattle.wf_line.specs.declared.replica_line.ReplicaLine.{ReplicaLine}
 use Rattle.wf_model.specs.Message.{Message}
 use Rattle.wf_reader.specs.declared.rejection.QuestionRejection.{QuestionRejection}
+use Rattle.wf_ports.specs.Address.{address_of}
 use Rattle.wf_replica.specs.Theorems.{AreReported, LearnedAreServed}
 use Rattle.wf_replica.specs.LearnedList.{learned}
 use Rattle.wf_replica_command.specs.Done.{HasServed, IsReplicaDone, IsReplicaEnd, IsServedUntil}
-use Rattle.wf_replica_command.specs.Fault.{IsReplicaSystemFault, IsReplicaPlanOf, IsReplicaFault, IsAddressTaken, IsReplicaWordsFault, plan_address, fault_of, value_of}
+use Rattle.wf_replica_command.specs.Fault.{IsReplicaSystemFault, IsReplicaPlanOf, IsReplicaFault, IsReplicaWordsFault, fault_of, value_of}
 use Rattle.wf_replica_command.specs.Heard.{Hears}
 use Rattle.wf_replica_command.specs.Start.{IsReplicaFolderCause}
 use Rattle.wf_replica_command.specs.ReplicaLoop.{HasAnsweredByList, HasBeenTold, HasHeardNothing, HasLearned, HasOnlyGrown, HasRepliedByList, IsOfFarm, IsListOnTape, IsRefused, state_of}
@@ -47,55 +48,8 @@ bad_admin line bad = record { word = bad.0; is = bad.1; bad = bad.2 }
 pub bad_readers : (line : ReplicaLine) → (text : List ℕ) × (option_map (λ w. w.now) line.readers ≡ Some text) × IsNoAddress text → IsReplicaWordsFault line (faults.BadAddress options.Readers)
 bad_readers line bad = record { word = bad.0; is = bad.1; bad = bad.2 }
 
--- ---- addresses that are taken
-
-pub http_taken : (plan : ReplicaPlan) (fault : ReplicaFault) → IsAddressTaken options.Http (Some plan.http) fault → IsReplicaSystemFault plan fault
-http_taken plan (faults.BadPeer index) is = absurd is
-http_taken plan (faults.PeerCount count) is = absurd is
-http_taken plan (faults.BadAddress option) is = absurd is
-http_taken plan faults.Name is = absurd is
-http_taken plan (faults.Folder why) is = absurd is
-http_taken plan faults.NotEmpty is = absurd is
-http_taken plan faults.Version is = absurd is
-http_taken plan faults.Kind is = absurd is
-http_taken plan faults.OtherFarm is = absurd is
-http_taken plan faults.Poll is = absurd is
-http_taken plan (faults.Taken option address) is = ap (plan_address plan) is.0 ∙ is.1
-http_taken plan faults.Memory is = absurd is
-http_taken plan (faults.Ended why) is = absurd is
-
-pub admin_taken : (plan : ReplicaPlan) (fault : ReplicaFault) → IsAddressTaken options.Admin plan.admin fault → IsReplicaSystemFault plan fault
-admin_taken plan (faults.BadPeer index) is = absurd is
-admin_taken plan (faults.PeerCount count) is = absurd is
-admin_taken plan (faults.BadAddress option) is = absurd is
-admin_taken plan faults.Name is = absurd is
-admin_taken plan (faults.Folder why) is = absurd is
-admin_taken plan faults.NotEmpty is = absurd is
-admin_taken plan faults.Version is = absurd is
-admin_taken plan faults.Kind is = absurd is
-admin_taken plan faults.OtherFarm is = absurd is
-admin_taken plan faults.Poll is = absurd is
-admin_taken plan (faults.Taken option address) is = ap (plan_address plan) is.0 ∙ is.1
-admin_taken plan faults.Memory is = absurd is
-admin_taken plan (faults.Ended why) is = absurd is
-
-pub readers_taken : (plan : ReplicaPlan) (fault : ReplicaFault) → IsAddressTaken options.Readers plan.readers fault → IsReplicaSystemFault plan fault
-readers_taken plan (faults.BadPeer index) is = absurd is
-readers_taken plan (faults.PeerCount count) is = absurd is
-readers_taken plan (faults.BadAddress option) is = absurd is
-readers_taken plan faults.Name is = absurd is
-readers_taken plan (faults.Folder why) is = absurd is
-readers_taken plan faults.NotEmpty is = absurd is
-readers_taken plan faults.Version is = absurd is
-readers_taken plan faults.Kind is = absurd is
-readers_taken plan faults.OtherFarm is = absurd is
-readers_taken plan faults.Poll is = absurd is
-readers_taken plan (faults.Taken option address) is = ap (plan_address plan) is.0 ∙ is.1
-readers_taken plan faults.Memory is = absurd is
-readers_taken plan (faults.Ended why) is = absurd is
-
 -- the address that an option of a plan has is the one that the line's word spells
-spelled : (line : ReplicaLine) (plan : ReplicaPlan) (option : AddressOption) (address : SocketAddr) → IsReplicaPlanOf line plan → plan_address plan option ≡ Some address →
+spelled : (line : ReplicaLine) (plan : ReplicaPlan) (option : AddressOption) (address : SocketAddr) → IsReplicaPlanOf line plan → address_of plan.ports option ≡ Some address →
     IsSpelledBy (value_of line option) (Some address)
 spelled line plan options.Http address planned has = subst (λ (a : Option SocketAddr). IsSpelledBy (value_of line options.Http) a) has planned.http
 spelled line plan options.Readers address planned has = subst (λ (a : Option SocketAddr). IsSpelledBy (value_of line options.Readers) a) has planned.readers

@@ -1,10 +1,11 @@
 -- What readers were replied, as the replica's list goes on and more is asked.
-use Rattle.std.proofs.Common.{◌≡◌, ◌∙◌, List, [], ◌∷◌, ◌++◌, ℕ, sym, subst, ap, append_assoc, append-nil}
+use Rattle.std.proofs.Common.{◌≡◌, ◌∙◌, List, [], ◌∷◌, ◌++◌, ℕ, sym, subst, ap, append-nil}
 use Rattle.std.proofs.Math.Logic.{∥∥₁_map}
 use Rattle.wf_def.specs.Definition.{Definition}
 use Rattle.wf_reader.specs.declared.answerer.Answerer.{Answerer}
 use Rattle.wf_readers_port.specs.Exchanges.{AreRepliedBy, Exchange, HasReplied}
 use Rattle.wf_replica.specs.Follower.{HasLearnedNothing, list_of}
+use Rattle.wf_replica.specs.Growth.{begins_on}
 use Rattle.wf_replica_command.specs.Heard.{Hears}
 use Rattle.wf_replica_command.specs.Readers.{AreRepliedByBeginnings, GoOnReplied}
 use Rattle.wf_replica_command.specs.declared.renderer.Renderer.{Renderer}
@@ -13,14 +14,11 @@ use Rattle.wf_safety.specs.Theorems.{IsBeginning}
 use Rattle.wf_sockets.specs.declared.connection.Connection.{Ghosts as Connection}
 use Rattle.wf_tape.specs.declared.tape.Tape.{Ghosts as Tape}
 
-begins_twice : (a b c : List Definition) → IsBeginning a b → IsBeginning b c → IsBeginning a c
-begins_twice a b c first second = (first.0 ++ second.0, sym (append_assoc a first.0 second.0) ∙ subst (λ (l : List Definition). l ++ second.0 ≡ c) (sym first.1) second.1)
-
 replied_on : (list list' : List Definition) → IsBeginning list list' → (exchanges : List Exchange) → AreRepliedByBeginnings list exchanges → AreRepliedByBeginnings list' exchanges
 unfolding AreRepliedByBeginnings
 replied_on list list' begins [] are = tt
 replied_on list list' begins (exchange ∷ exchanges) are =
-    (record { earlier = are.0.earlier; begins = begins_twice are.0.earlier list list' are.0.begins begins; replied = are.0.replied }, replied_on list list' begins exchanges are.1)
+    (record { earlier = are.0.earlier; begins = begins_on are.0.earlier list list' are.0.begins begins; replied = are.0.replied }, replied_on list list' begins exchanges are.1)
 
 replied_append : (list : List Definition) (first second : List Exchange) → AreRepliedByBeginnings list first → AreRepliedByBeginnings list second → AreRepliedByBeginnings list (first ++ second)
 unfolding AreRepliedByBeginnings

@@ -8,6 +8,7 @@ use Rattle.wf_address.specs.declared.list.ListFault.{ListFault}
 use Rattle.wf_address.specs.declared.list.ListFault.TheVariants as lists
 use Rattle.wf_folder.specs.Name.{IsNameText, pad}
 use Rattle.wf_line.specs.declared.replica_line.ReplicaLine.{ReplicaLine}
+use Rattle.wf_ports.specs.Address.{address_of}
 use Rattle.wf_replica_command.specs.declared.fault.ReplicaFault.{ReplicaFault}
 use Rattle.wf_replica_command.specs.declared.fault.ReplicaFault.TheVariants as faults
 use Rattle.wf_replica_command.specs.declared.plan.ReplicaPlan.{ReplicaPlan}
@@ -45,23 +46,11 @@ pub record IsBadReplicaOption (line : ReplicaLine) (option : AddressOption) : Ty
 pub record IsReplicaPlanOf (line : ReplicaLine) (plan : ReplicaPlan) : Type 0 where
   pub farm : plan.farm ≡ pad line.farm.now
   pub sources : AreAddresses (words_of line.peers.now) plan.sources.items
-  pub http : IsSpelledBy (value_of line options.Http) (Some plan.http)
-  pub admin : IsSpelledBy (value_of line options.Admin) plan.admin
-  pub readers : IsSpelledBy (value_of line options.Readers) plan.readers
-
--- the address of an option in a plan, if it has one
-abbrev pub plan_address : ReplicaPlan → AddressOption → Option SocketAddr
-plan_address plan options.Http = Some plan.http
-plan_address plan options.Listen = None
-plan_address plan options.Readers = plan.readers
-plan_address plan options.Admin = plan.admin
+  pub http : IsSpelledBy (value_of line options.Http) (Some plan.ports.http)
+  pub admin : IsSpelledBy (value_of line options.Admin) plan.ports.admin
+  pub readers : IsSpelledBy (value_of line options.Readers) plan.ports.readers
 
 -- ---- why a replica didn't begin
-
--- the address of an option is taken, or not permitted
-abbrev pub IsAddressTaken : AddressOption → Option SocketAddr → ReplicaFault → Type 0
-IsAddressTaken option address (faults.Taken taken at) = (taken ≡ option) × (address ≡ Some at)
-IsAddressTaken option address fault = ⊥
 
 -- the folder isn't this replica's, or a file of it or memory fails
 abbrev pub IsOfFolder : ReplicaFault → Type 0
@@ -77,7 +66,7 @@ IsOfFolder fault = ⊥
 -- is one of its own.
 abbrev pub IsReplicaSystemFault : ReplicaPlan → ReplicaFault → Type 0
 IsReplicaSystemFault plan faults.Poll = ⊤
-IsReplicaSystemFault plan (faults.Taken option address) = plan_address plan option ≡ Some address
+IsReplicaSystemFault plan (faults.Taken option address) = address_of plan.ports option ≡ Some address
 IsReplicaSystemFault plan faults.Memory = ⊤
 IsReplicaSystemFault plan fault = ⊥
 

@@ -47,7 +47,7 @@ state_of {connections = connections} event_loop = record {
   refusals = event_loop.upstream.refusals;
   asked = event_loop.clients.asked.items;
   responses = responses_of event_loop.clients.visitors;
-  exchanges = exchanges_of event_loop.readers;
+  exchanges = exchanges_of event_loop.desk.readers;
 }
 
 -- the replica

@@ -208,13 +208,13 @@ impl<N: Network> Upstream<N> {
         if self.asking.source < self.asking.count {
             self.asking.answer(brings, context.time);
         }
-        if self.asking.source != self.of {
-            // It has brought nothing for long. The log doesn't say so: where nothing is published
-            // the next one is asked each second.
-            self.source = None;
-        } else if published < answer.published() {
-            // What comes next is more than one answer, whose digest can't be compared yet. On a
-            // connection of its own its question has no other reply than its own.
+        // Another source is asked where this one has brought nothing for long. The log doesn't say
+        // so: where nothing is published the next one is asked each second.
+        let is_other = self.asking.source != self.of;
+        // What comes next is more than one answer, whose digest can't be compared yet. On a
+        // connection of its own its question has no other reply than its own.
+        let is_more = published < answer.published();
+        if is_other || is_more {
             self.source = None;
         }
     }

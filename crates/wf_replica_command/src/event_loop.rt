@@ -11,31 +11,33 @@ ghost use Rattle.wf_visitors.specs.Visitors.{responses_of};
 use crate::clients::ReplicaClients;
 use crate::facts::ReplicaFacts;
 use crate::fault::ReplicaFault;
-use crate::parts::{OPERATORS, ReplicaStart, bind};
 use crate::plan::ReplicaPlan;
 use crate::ready::ReadyReplica;
-use crate::replica_loop::{OperatorDesk, ReplicaLoop};
-use crate::token::ReplicaSocket;
+use crate::replica_loop::ReplicaLoop;
 use crate::upstream::Upstream;
 use std::alloc::AllocError;
 use std::net::{Net, SocketAddr};
 use std::rt::Files;
 use std::time::Clock;
 use wf_learner::History;
-use wf_operator::{Behind, Operator, StartTime};
+use wf_operator::{Operator, StartTime};
+use wf_ports::{Desk, PortListeners, PortSocket, Ports};
 use wf_reader::QuestionRejection;
 use wf_readers_port::{PortView, ReadersPort};
 use wf_replica::{Follower, what_is_learned_is_served};
 use wf_sockets::{Network, NetworkError, SystemNetwork};
 use wf_tape::Tape;
 use wf_timing::Ticker;
-use wf_visitors::{Context, Log, Visitors, now};
+use wf_visitors::{Context, Log, now};
 
 /// The most sockets of a turn.
 const MOST_READY: usize = 256;
 
 /// The time between two ticks, in milliseconds.
 const TICK_MILLIS: u64 = 100;
+
+/// The most clients at once.
+const CLIENTS: usize = 128;
 
 /// How a turn ended.
 #[derive(Clone, Copy, Debug, PartialEq, Eq)]
@@ -117,28 +119,25 @@ impl<T: Tape + Drop, N: Network + Drop> ReplicaLoop<T, N> {
             tape,
             first,
         } = ready;
-        let desk = OperatorDesk {
-            started: StartTime::now(rt),
-            tape,
-            behind: Behind::default(),
-        };
-        match bind(rt, &plan, network) {
-            Ok(begun) => {
+        match ports_of(rt, &plan, &network) {
+            Ok(ports) => {
                 let ReplicaPlan { farm, sources, .. } = plan;
                 let is_new = follower.history().published().number() == 0;
                 match Upstream::new(rt.alloc(), sources, farm, first, is_new, time) {
-                    Ok(upstream) => Ok(assemble(begun, upstream, follower, desk, time)),
+                    Ok(upstream) => Ok(assemble(network, ports, upstream, follower, tape, time)),
                     Err(AllocError) => {
-                        drop(begun);
-                        drop(desk);
+                        drop(network);
+                        drop(ports);
+                        drop(tape);
                         drop(follower);
                         Err(ReplicaFault::Memory)
                     }
                 }
             }
             Err(fault) => {
+                drop(network);
                 drop(plan);
-                drop(desk);
+                drop(tape);
                 drop(follower);
                 Err(fault)
             }
@@ -236,11 +235,10 @@ impl<T: Tape + Drop, N: Network + Drop> ReplicaLoop<T, N> {
     {
         let ReplicaLoop {
             network,
-            operators,
-            readers,
+            desk,
             upstream,
             clients,
-            desk,
+            tape,
             ticks,
             time,
             ..
@@ -252,10 +250,10 @@ impl<T: Tape + Drop, N: Network + Drop> ReplicaLoop<T, N> {
             time: *time,
         };
         clients.ask(&context, upstream);
-        act_on_each(&context, upstream, clients, operators, readers, ready);
+        act_on_each(&context, upstream, clients, desk, ready);
         let is_busy = clients.serve(&context);
-        tick(&context, ticks, clients, operators, readers);
-        answer_operators(&context, operators, readers, upstream, clients, desk);
+        tick(&context, ticks, clients, desk);
+        answer_operators(&context, desk, upstream, clients, tape);
         is_busy || clients.visitors.is_busy()
     }
 }
@@ -270,33 +268,48 @@ fn fault_of(error: NetworkError, _plan: &ReplicaPlan) -> ReplicaFault
     }
 }
 
+/// The ports of a replica on a network. Err: an address is taken or not permitted, or an allocation
+/// fails.
+fn ports_of<R: Net + Clock + AllocGlobal, N: Network>(
+    rt: &R,
+    plan: &ReplicaPlan,
+    network: &N,
+) -> Result<Ports<N>, ReplicaFault>
+    ensures clients { IfOk result (λ ports. responses_of ports.clients ≡ []) }
+    ensures readers { IfOk result (λ ports. exchanges_of ports.desk.readers ≡ []) }
+    ensures fault { IfErr result (IsReplicaSystemFault plan.now) }
+{
+    match PortListeners::bind(rt, network, &plan.ports) {
+        Ok(listeners) => match listeners.open(rt.alloc(), CLIENTS, StartTime::now(rt)) {
+            Ok(ports) => Ok(ports),
+            Err(AllocError) => Err(ReplicaFault::Memory),
+        },
+        Err(taken) => Err(ReplicaFault::Taken(taken.option, taken.address)),
+    }
+}
+
 /// An event loop of these parts.
 fn assemble<T: Tape + Drop, N: Network>(
-    begun: ReplicaStart<N>,
+    network: N,
+    ports: Ports<N>,
     upstream: Upstream<N>,
     follower: Follower<T>,
-    desk: OperatorDesk,
+    tape: String,
     time: u64,
 ) -> ReplicaLoop<T, N>
-    requires visitors { responses_of begun.visitors ≡ [] }
-    requires readers { exchanges_of begun.readers ≡ [] }
+    requires clients { responses_of ports.clients ≡ [] }
+    requires readers { exchanges_of ports.desk.readers ≡ [] }
     ensures upstream { result.upstream ≡ upstream }
     ensures follower { result.clients.renderer.follower ≡ follower }
 {
-    let ReplicaStart {
-        network,
-        visitors,
-        operators,
-        readers,
-    } = begun;
-    let clients = ReplicaClients::new(visitors, follower);
+    let Ports { clients, desk } = ports;
+    let clients = ReplicaClients::new(clients, follower);
     ReplicaLoop {
         network,
-        operators,
-        readers,
+        desk,
         upstream,
         clients,
-        desk,
+        tape,
         ticks: Ticker::new(time, TICK_MILLIS),
         time,
         is_busy: false,
@@ -308,17 +321,16 @@ fn act_on_each<R: Net + Clock + Eprint + AllocGlobal, T: Tape + Drop, N: Network
     context: &Context<'_, '_, R, N>,
     upstream: &Upstream<N>,
     clients: &mut ReplicaClients<T, N>,
-    operators: &mut Visitors<N>,
-    readers: &mut ReadersPort<N>,
+    desk: &mut Desk<N>,
     ready: &[usize],
 )
     ensures renderer { clients.new.renderer ≡ clients.old.renderer }
     ensures replied { GoOnReplied (list_of clients.old.renderer.follower)
         (list_of clients.old.renderer.follower)
-        (exchanges_of readers.old) (exchanges_of readers.new) }
+        (exchanges_of desk.old.readers) (exchanges_of desk.new.readers) }
 {
     for token in ready {
-        act_on(context, upstream, clients, operators, readers, *token);
+        act_on(context, upstream, clients, desk, *token);
     }
 }
 
@@ -328,31 +340,27 @@ fn act_on<R: Net + Clock + Eprint + AllocGlobal, T: Tape + Drop, N: Network>(
     context: &Context<'_, '_, R, N>,
     upstream: &Upstream<N>,
     clients: &mut ReplicaClients<T, N>,
-    operators: &mut Visitors<N>,
-    readers: &mut ReadersPort<N>,
+    desk: &mut Desk<N>,
     token: usize,
 )
     ensures renderer { clients.new.renderer ≡ clients.old.renderer }
     ensures replied { GoOnReplied (list_of clients.old.renderer.follower)
         (list_of clients.old.renderer.follower)
-        (exchanges_of readers.old) (exchanges_of readers.new) }
+        (exchanges_of desk.old.readers) (exchanges_of desk.new.readers) }
 {
-    match ReplicaSocket::of(token) {
-        ReplicaSocket::Http => clients.accept(context),
-        ReplicaSocket::Client(index) => clients.on_ready(context, index),
-        ReplicaSocket::Admin => operators.accept(context),
-        ReplicaSocket::Operator(index) => operators.on_ready(context, index),
-        ReplicaSocket::Readers => readers.accept(context),
-        ReplicaSocket::Reader(index) => {
-            answer_reader(
-                context,
-                upstream,
-                &clients.renderer.follower,
-                readers,
-                index,
-            );
+    let Some(socket) = PortSocket::of(token) else {
+        return;
+    };
+    match socket {
+        PortSocket::Http => clients.accept(context),
+        PortSocket::Client(index) => clients.on_ready(context, index),
+        PortSocket::Admin => desk.operators.accept(context),
+        PortSocket::Operator(index) => desk.operators.on_ready(context, index),
+        PortSocket::Readers => desk.readers.accept(context),
+        PortSocket::Reader(index) => {
+            let follower = &clients.renderer.follower;
+            answer_reader(context, upstream, follower, &mut desk.readers, index);
         }
-        ReplicaSocket::Source => {}
     }
 }
 
@@ -380,37 +388,31 @@ fn tick<R: Net + Clock + Eprint + AllocGlobal, T: Tape + Drop, N: Network>(
     context: &Context<'_, '_, R, N>,
     ticks: &mut Ticker,
     clients: &mut ReplicaClients<T, N>,
-    operators: &mut Visitors<N>,
-    readers: &mut ReadersPort<N>,
+    desk: &mut Desk<N>,
 )
     ensures renderer { clients.new.renderer ≡ clients.old.renderer }
-    ensures exchanges { exchanges_of readers.new ≡ exchanges_of readers.old }
+    ensures exchanges { exchanges_of desk.new.readers ≡ exchanges_of desk.old.readers }
 {
-    if !ticks.tick(context.time) {
-        return;
+    if ticks.tick(context.time) {
+        clients.accept(context);
+        clients.tick(context.time);
+        desk.tick(context);
     }
-    clients.accept(context);
-    clients.tick(context.time);
-    operators.accept(context);
-    operators.tick(context.time);
-    readers.accept(context);
-    readers.tick(context.time);
 }
 
 /// Answers requests of operators that are whole, a bounded number of them.
 fn answer_operators<R: Files + Clock + Eprint + AllocGlobal, T: Tape + Drop, N: Network>(
     context: &Context<'_, '_, R, N>,
-    operators: &mut Visitors<N>,
-    readers: &ReadersPort<N>,
+    desk: &mut Desk<N>,
     upstream: &Upstream<N>,
     clients: &ReplicaClients<T, N>,
-    desk: &mut OperatorDesk,
-) {
+    tape: &str,
+)
+    ensures { exchanges_of desk.new.readers ≡ exchanges_of desk.old.readers }
+{
     let follower = &clients.renderer.follower;
-    let published = follower.history().published().number();
-    let is_behind = desk
-        .behind
-        .judge(published < upstream.received, context.time);
+    let lacks = follower.history().published().number() < upstream.received;
+    let is_behind = desk.behind.judge(lacks, context.time);
     let mut operator = Operator::new(ReplicaFacts {
         rt: context.rt,
         started: desk.started,
@@ -423,17 +425,12 @@ fn answer_operators<R: Files + Clock + Eprint + AllocGlobal, T: Tape + Drop, N: 
         requests: clients.visitors.counts(),
         pictures: clients.renderer.pictures,
         unkept: follower.cache().unkept(),
-        tape: desk.tape.as_str(),
+        tape,
         has_tape: follower.has_tape(),
-        reader_differs: readers.differs(context.time),
+        reader_differs: desk.readers.differs(context.time),
         is_behind,
         clients: clients.visitors.taken_slots(),
-        readers: readers.reader_count(),
+        readers: desk.readers.reader_count(),
     });
-    for _ in 0..OPERATORS {
-        let Some(index) = operators.next() else {
-            break;
-        };
-        let _ = operators.serve(context, &mut operator, index);
-    }
+    desk.answer_operators(context, &mut operator);
 }

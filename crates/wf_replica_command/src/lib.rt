@@ -6,7 +6,7 @@
 //! replica that [`start_replica`] has started, stepped by its caller over any network and at times
 //! that it is handed; `run` steps one over the network of the system. What a replica knows is
 //! `wf_replica`'s `Follower`; its clients, its operator's port and its readers' port are those of a
-//! node (`wf_visitors`, `wf_operator`, `wf_readers_port`).
+//! node (`wf_ports`).
 //!
 //! **Promises** (`specs/Done.antt`), however many turns were taken, and however they ended.
 //! - The replica's list is what it heard, message after message. If it heard only answers of nodes
@@ -50,7 +50,6 @@ mod fault;
 mod folder;
 mod heard;
 mod open_question;
-mod parts;
 mod plan;
 mod ready;
 mod renderer;
@@ -59,7 +58,6 @@ mod running_replica;
 mod source;
 mod source_connection;
 mod start;
-mod token;
 mod upstream;
 
 pub use command::run;

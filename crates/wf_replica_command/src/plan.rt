@@ -8,15 +8,14 @@ use std::net::SocketAddr;
 use wf_address::{AddressOption, ListFault, address, address_if_any, addresses};
 use wf_folder::FarmName;
 use wf_line::ReplicaLine;
+use wf_ports::PortAddresses;
 
 /// The farm of a replica, whom it asks, and where others come.
 #[derive(Drop)]
 pub(crate) struct ReplicaPlan {
     pub(crate) farm: FarmName,
     pub(crate) sources: Vec<SocketAddr>,
-    pub(crate) http: SocketAddr,
-    pub(crate) admin: Option<SocketAddr>,
-    pub(crate) readers: Option<SocketAddr>,
+    pub(crate) ports: PortAddresses,
 }
 
 /// What a command line asks for. Err: a word of it is bad, or an allocation fails.
@@ -41,9 +40,11 @@ pub(crate) fn plan_of(alloc: Global, line: &ReplicaLine<'_>) -> Result<ReplicaPl
         Ok(sources) => Ok(ReplicaPlan {
             farm,
             sources,
-            http,
-            admin,
-            readers,
+            ports: PortAddresses {
+                http,
+                admin,
+                readers,
+            },
         }),
         Err(fault) => Err(fault_of(fault)),
     }

@@ -11,12 +11,15 @@ use crate::event::SourceEnd;
 use crate::heard::HeardLog;
 use crate::open_question::OpenQuestion;
 use crate::source_connection::SourceConnection;
-use crate::token::ReplicaSocket;
 use std::alloc::{AllocError, Global};
 use std::net::{Net, SocketAddr};
 use wf_past::Past;
+use wf_ports::FIRST_OWN;
 use wf_reader::{Question, Reply, ReplyFault, decode_reply, reply_length};
 use wf_sockets::{Connection, Moved, Network};
+
+/// The token of the connection to the source.
+const TOKEN: usize = FIRST_OWN;
 
 /// The most bytes of a piece.
 const PIECE_BYTES: usize = 16_384;
@@ -46,7 +49,7 @@ impl<C: Connection + Drop> SourceConnection<C> {
     ) -> Option<Self> {
         let mut connection = network.connect(rt, address)?;
         connection.send_at_once();
-        if network.watch(&mut connection, ReplicaSocket::Source.token()) {
+        if network.watch(&mut connection, TOKEN) {
             Some(SourceConnection {
                 connection,
                 question: None,
@@ -209,7 +212,7 @@ fn receive<N: Network>(
             Moved::Failed => return Err(SourceEnd::Failed),
         }
     }
-    let _ = network.watch(connection, ReplicaSocket::Source.token());
+    let _ = network.watch(connection, TOKEN);
     Ok(None)
 }
 

@@ -20,6 +20,7 @@ mod commands;
 mod folders;
 mod fused;
 mod lines;
+mod names;
 mod played;
 mod process;
 mod process_lines;

@@ -8,4 +8,4 @@ use Rattle.wf_replica_command.proofs.event_loop.act_on_each.Given as goal
 abbrev pub invariant-loop-token : goal.invariant-loop-token
 invariant-loop-token g l =
     (l.clients.renderer ≡ l.fn.clients.renderer)
-    × GoOnReplied (list_of l.fn.clients.renderer.follower) (list_of l.fn.clients.renderer.follower) (exchanges_of l.fn.readers) (exchanges_of l.readers)
+    × GoOnReplied (list_of l.fn.clients.renderer.follower) (list_of l.fn.clients.renderer.follower) (exchanges_of l.fn.desk.readers) (exchanges_of l.desk.readers)

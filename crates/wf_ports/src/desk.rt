@@ -1,15 +1,12 @@
-//! The operators and the readers of a node, who only read.
+//! The operators and the readers of a process, who only read.
 ghost use Rattle.std.specs.Prelude.{◌≡◌, [], IfOk};
-ghost use Rattle.wf_readers_port.specs.Exchanges.{HasReplied};
 ghost use Rattle.wf_readers_port.specs.ReadersPort.{exchanges_of};
 
-use crate::peer_table::PeerTable;
-use crate::token::{OPERATOR, READER};
+use crate::socket::{OPERATOR, READER};
 use std::alloc::{AllocError, Global};
 use std::time::Clock;
-use wf_learner::History;
-use wf_operator::StartTime;
-use wf_readers_port::{Answerer, PortView, ReadersPort};
+use wf_operator::{Behind, StartTime};
+use wf_readers_port::ReadersPort;
 use wf_sockets::Network;
 use wf_visitors::{Context, Server, Visitors};
 
@@ -19,20 +16,20 @@ const OPERATORS: usize = 8;
 /// The most readers at once.
 const READERS: usize = 64;
 
-/// The operators and the readers of a node, who only read, and since when they can come.
+/// The operators and the readers of a process, who only read, since when they can come, and since
+/// when the process is behind.
 #[derive(Drop)]
 pub struct Desk<N: Network> {
     pub operators: Visitors<N>,
     pub readers: ReadersPort<N>,
-    pub(crate) answerer: Answerer,
-    pub(crate) started: StartTime,
+    pub started: StartTime,
+    pub behind: Behind,
 }
 
 impl<N: Network> Desk<N> {
-    /// Nobody has come yet.
+    /// Nobody has come yet. The only error is allocation failure.
     pub(crate) fn new(
         alloc: Global,
-        answerer: Answerer,
         admin: Option<N::Listener>,
         readers: Option<N::Listener>,
         started: StartTime,
@@ -44,8 +41,8 @@ impl<N: Network> Desk<N> {
         Ok(Desk {
             operators,
             readers,
-            answerer,
             started,
+            behind: Behind::default(),
         })
     }
 
@@ -59,32 +56,20 @@ impl<N: Network> Desk<N> {
         self.readers.tick(context.time);
     }
 
-    /// Answers a reader, from what is published: each exchange that comes into the log has a reply
-    /// by this history.
-    pub fn answer_reader<R: Clock + Eprint + AllocGlobal>(
+    /// Answers requests of operators that are whole, a bounded number of them.
+    pub fn answer_operators<R: Clock + Eprint + AllocGlobal, S: Server>(
         &mut self,
         context: &Context<'_, '_, R, N>,
-        history: &History,
-        table: &mut PeerTable,
-        index: usize,
+        server: &mut S,
     )
-        ensures { HasReplied self.old.answerer history.now.definitions table.new.digests
-            (exchanges_of self.old.readers) (exchanges_of self.new.readers) }
+        ensures { self.new.readers ≡ self.old.readers }
     {
-        // what was published in this turn has its digests too
-        table.extend(history);
-        let own = self.answerer;
-        let published = PortView {
-            own: &own,
-            history,
-            digests: table.digests(),
-        };
-        self.readers.on_ready(context, &published, index);
+        serve_operators(&mut self.operators, context, server);
     }
 }
 
 /// Answers requests of operators that are whole, a bounded number of them.
-pub(crate) fn serve_operators<R: Clock + Eprint + AllocGlobal, S: Server, N: Network>(
+fn serve_operators<R: Clock + Eprint + AllocGlobal, S: Server, N: Network>(
     operators: &mut Visitors<N>,
     context: &Context<'_, '_, R, N>,
     server: &mut S,

@@ -1,10 +1,11 @@
-//! Names of the program's commands.
+//! Names of the commands' crate that users rely on, each named once: `wf_test_names` has those of
+//! the crates below.
 
 use wf_commands::{
     Host, Line, NodeServer, line, run_canon, run_caps, run_draw, run_script, run_serve, wire_script,
 };
-use wf_edge::{Bytes, Output};
 use wf_farm::Copies;
+use wf_stream::{Bytes, Output};
 
 /// The calls.
 pub fn calls() {
