@@ -1,5 +1,6 @@
 #!/usr/bin/env python3
-"""Looks at crates.txt: draws its groups, each above those that it uses, as docs/pictures/layers.svg.
+"""Looks at crates.txt: draws its groups, each above those that it uses, as docs/pictures/layers.svg (by
+Graphviz, whose graph is kept in the picture).
 
     python3 tools/crates.py              writes the picture
     python3 tools/crates.py --check      says whether it is what crates.txt says, which names of its lines are
@@ -12,30 +13,21 @@ uses, but for those that it reaches by others. A name in a crate's line is used 
 proof of the crate names it, and needed where the line of another one in it does.
 """
 
-import html
+import graphlib
 import re
+import subprocess
 import sys
 import textwrap
 from collections.abc import Iterator
-from typing import NamedTuple
 
-from farmkit.command import parser
+from farmkit.command import need, parser
 from farmkit.repository import TOP, dependencies
 
 PICTURE = TOP / "docs" / "pictures" / "layers.svg"
-WIDE, GAP, LINE, LETTERS = 340, 46, 17, 44
+LETTERS = 44
 MOST_COLUMNS = 100
-STYLE = """text { font: 13px sans-serif } .title { font-weight: bold } rect { fill: #f4f6fa; stroke: #456 }
-path { fill: none; stroke: #678; marker-end: url(#tip) }"""
-
-
-class Box(NamedTuple):
-    """A group where it stands: its left and upper edge, its height and its lines."""
-
-    left: int
-    top: int
-    high: int
-    lines: list[str]
+STYLE = """bgcolor=white; node [shape=box, style="rounded,filled", color="#445566", fillcolor="#f4f6fa",
+fontname="sans-serif", fontsize=12]; edge [color="#667788", arrowsize=0.7];"""
 
 
 def groups() -> dict[str, list[str]]:
@@ -58,16 +50,6 @@ def uses(of: dict[str, list[str]]) -> dict[str, set[str]]:
             for title, crates in of.items()}
 
 
-def rows(below: dict[str, set[str]]) -> list[list[str]]:
-    """The groups in rows, the lowest first, each above all it uses; such that use each other are an error."""
-    found: list[list[str]] = []
-    while left := [title for title in below if not any(title in row for row in found)]:
-        found.append([title for title in left if below[title].isdisjoint(left)])
-        if not found[-1]:
-            sys.exit(f"groups of crates.txt use each other: {', '.join(left)}")
-    return found
-
-
 def arrows(below: dict[str, set[str]]) -> list[tuple[str, str]]:
     """From each group to those that it uses and doesn't reach by another one."""
     def reach(title: str) -> set[str]:
@@ -77,42 +59,16 @@ def arrows(below: dict[str, set[str]]) -> list[tuple[str, str]]:
             if not any(low in reach(other) for other in below[title])]
 
 
-def boxes(of: dict[str, list[str]], every: list[list[str]]) -> dict[str, Box]:
-    """Where each group stands: the highest row above, its groups side by side."""
-    found: dict[str, Box] = {}
-    most = max(map(len, every))
-    top = GAP // 2
-    for row in reversed(every):
-        lines = {title: [title, *textwrap.wrap(" ".join(of[title]), LETTERS)] for title in row}
-        high = 10 + LINE * max(len(it) for it in lines.values())
-        left = GAP // 2 + (most - len(row)) * (WIDE + GAP) // 2
-        for place, title in enumerate(row):
-            found[title] = Box(left + place * (WIDE + GAP), top, high, lines[title])
-        top += high + GAP
-    return found
-
-
-def picture() -> str:
+def graph() -> str:
+    """The groups with their crates, and the arrows, as Graphviz reads them."""
     of = groups()
     below = uses(of)
-    every = boxes(of, rows(below))
-    wide = max(it.left for it in every.values()) + WIDE + GAP // 2
-    high = max(it.top + it.high for it in every.values()) + GAP // 2
-    parts = [f'<svg xmlns="http://www.w3.org/2000/svg" width="{wide}" height="{high}">',
-             f"<style>{STYLE}</style>",
-             '<marker id="tip" viewBox="0 0 8 8" refX="8" refY="4" markerWidth="8" markerHeight="8" '
-             'orient="auto"><path d="M0 0 8 4 0 8z" style="fill: #678; stroke: none; marker-end: none"/>'
-             "</marker>", f'<rect width="{wide}" height="{high}" style="fill: white; stroke: none"/>']
-    for upper, lower in arrows(below):
-        start, end = every[upper], every[lower]
-        parts.append(f'<path d="M{start.left + WIDE // 2} {start.top + start.high} '
-                     f'{end.left + WIDE // 2} {end.top}"/>')
-    for box in every.values():
-        parts.append(f'<rect x="{box.left}" y="{box.top}" width="{WIDE}" height="{box.high}" rx="6"/>')
-        parts += [f'<text x="{box.left + 10}" y="{box.top + LINE * (number + 1)}"'
-                  f'{"" if number else " class=" + chr(34) + "title" + chr(34)}>{html.escape(line)}</text>'
-                  for number, line in enumerate(box.lines)]
-    return "\n".join([*parts, "</svg>"]) + "\n"
+    graphlib.TopologicalSorter(below).prepare()  # an error where groups use each other
+    boxes = ['"{}" [label=<<b>{}</b>{}<br align="left"/>>];'.format(title, title, "".join(
+        f'<br align="left"/>{line}' for line in textwrap.wrap(" ".join(crates), LETTERS)))
+        for title, crates in of.items()]
+    lines = [f'"{upper}" -> "{lower}";' for upper, lower in arrows(below)]
+    return "\n".join(["digraph {", STYLE, *boxes, *lines, "}", ""])
 
 
 def words_of(crate: str) -> set[str]:
@@ -151,10 +107,12 @@ def main() -> int:
         for crate, low, others in lacking:
             print(f"{crate}: {low}, which {', '.join(others) or 'none'} of its line needs")
         return 0
-    text = picture()
+    drawn = f"<!--\n{graph()}-->\n"
     if not given.check:
-        PICTURE.write_text(text, encoding="utf-8")
-    is_same = PICTURE.read_text(encoding="utf-8") == text
+        need("dot")
+        made = subprocess.run(["dot", "-Tsvg"], input=graph(), text=True, stdout=subprocess.PIPE, check=True)
+        PICTURE.write_text(made.stdout + drawn, encoding="utf-8")
+    is_same = PICTURE.read_text(encoding="utf-8").endswith(drawn)
     print(f"docs/pictures/layers.svg is {'what crates.txt says' if is_same else 'out of date'}")
     useless = [f"crates.txt: {crate} doesn't need {low}" for crate, low, others in lacking if not others]
     print("\n".join([*useless, f"{len(useless)} names too many"]))
