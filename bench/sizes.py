@@ -26,7 +26,7 @@ import sys
 import tempfile
 from functools import partial
 
-from farmkit.command import GROWTH, add_cases, add_program, lacks, parser, tell_missing
+from farmkit.command import GROWTH, add_cases, add_program, need, parser
 from farmkit.measure import grows_well, instructions, most_held, ran, ratios, shortest, timed
 from farmkit.processes import Farm
 from farmkit.repository import TOP, built
@@ -114,8 +114,7 @@ def pixels(options, width, height):
 
 
 def memory(options, height):
-    if missing := lacks("valgrind"):
-        sys.exit(tell_missing(missing))
+    need("valgrind")
     names = [f'FEATURE TEXT "{k % 100}" POINTS {k % 50 * 2 + 0.5} {k // 50 * 2.5 + 0.5} END END\n'
              for k in range(2_000)]
     text = map_of("POINT", "LABEL SIZE TINY END", names)

@@ -64,7 +64,7 @@ from functools import partial
 
 from farmkit import ledger
 from farmkit.calls import Unfollowed, Watcher, follow, traced
-from farmkit.command import add_cases, lacks, program_parser, tell_missing
+from farmkit.command import add_cases, need, program_parser
 from farmkit.device import Machine, formatted, is_permitted
 from farmkit.folder import Folder, contents, drawn, everything, extremes, nothing, put
 from farmkit.mapfiles import PIXEL, map_of, picture_of
@@ -509,8 +509,8 @@ def main():
     add_cases(asked, PARTS, "PART")
     given = asked.parse_args()
     chosen = given.cases or list(PARTS)
-    if chosen != ["kills"] and lacks("strace"):
-        return tell_missing(["strace"])
+    if chosen != ["kills"]:
+        need("strace")
     draw, numbers, violations = random.Random(given.seed), iter(range(1, 1 << 24)), 0
     for name in chosen:
         try:
